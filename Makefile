@@ -6,6 +6,9 @@
 program = crates/dnssec_check/out/dnssec_check
 rows = crates/dnsv_rows/out/dnsv_rows
 PREFIX = /usr/local
+# What runs the tools, installed or not, and their tests: Debian's, which Debian's packages serve. Another one needs the
+# packages that pyproject.toml names.
+PYTHON ?= /usr/bin/python3
 
 # Proves and builds the program, and shows its help.
 all:
@@ -51,10 +54,9 @@ wrong-bodies:
 	tools/wrong-bodies $(CRATES)
 	tools/does-not-compile $(CRATES)
 
-# The tests of the tools around the program, and of the program where it is built; they need python3 with its package
-# cryptography, and nothing of the kit.
+# The tests of the tools around the program, and of the program where it is built; they need nothing of the kit.
 test-tools:
-	python3 -m unittest discover -s tools/tests
+	$(PYTHON) -m unittest discover -s tools/tests
 
 # The commands of the pages, against what the pages show, with the program and the tools as they are installed.
 # CAPTURING.md and BREAKS.md need root, and the packages that they name; `check` runs the others.
@@ -65,23 +67,24 @@ pages: | $(program)
 	tools/pages --installed examples/README.md
 	tools/pages --installed README.md dnssec_check "To install it" "The program by itself"
 
-# The program, the tools as dnssec_check-capture, -verify and -judge, their manual pages and bash's completions.
+# The program, the tools as dnssec_check-capture, -verify and -judge, their manual pages and bash's completions. A tool
+# starts the package that lies beside it; `pip install .` installs the tools alone, into Python's own place.
 tools = capture verify judge
-modules = capturing verifying asking explaining judging
+package = dnssec_check_tools
+modules = $(shell cd tools && find $(package) -type f ! -path '*/__pycache__/*')
 lib = $(DESTDIR)$(PREFIX)/lib/dnssec_check
 man = $(DESTDIR)$(PREFIX)/share/man/man1
 completions = $(DESTDIR)$(PREFIX)/share/bash-completion/completions
 install: | $(program)
-	install -d $(DESTDIR)$(PREFIX)/bin $(lib) $(modules:%=$(lib)/%) $(man) $(completions)
+	install -d $(DESTDIR)$(PREFIX)/bin $(lib) $(man) $(completions)
 	install -m 755 $(program) $(DESTDIR)$(PREFIX)/bin
-	install -m 755 $(tools:%=tools/%) $(lib)
-	install -m 644 tools/command.py $(lib)
-	for folder in $(modules); do install -m 644 tools/$$folder/*.py $(lib)/$$folder; done
-	install -m 644 tools/judging/numbers.tsv $(lib)/judging
-	install -m 644 tools/explaining/page.css $(lib)/explaining
+	rm -rf $(lib)/$(package)
+	for module in $(modules); do install -D -m 644 tools/$$module $(lib)/$$module; done
 	install -m 644 docs/dnssec_check.1 $(tools:%=docs/dnssec_check-%.1) $(man)
 	install -m 644 tools/completion/dnssec_check $(completions)
 	for tool in $(tools); do \
+		sed '1s|.*|#!$(PYTHON)|' tools/$$tool > $(lib)/$$tool; \
+		chmod 755 $(lib)/$$tool; \
 		ln -sf ../lib/dnssec_check/$$tool $(DESTDIR)$(PREFIX)/bin/dnssec_check-$$tool; \
 		ln -sf dnssec_check $(completions)/dnssec_check-$$tool; \
 	done

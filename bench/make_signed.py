@@ -9,42 +9,21 @@ The messages are signed at the moment. The key is written to the file KEYS and t
 """
 import base64
 import hashlib
-import hmac
-import struct
 import sys
 
-KEY = b"\x05bench\x00"
+from dnssec_check_tools.capturing.frames import framed, frames_of
+from dnssec_check_tools.wire import name_octets, with_tsig
+
+KEY = name_octets("bench.")
 SECRET = hashlib.sha256(b"key").digest()
-ALGORITHM = b"\x0bhmac-sha256\x00"
-FUDGE = 300
-
-
-def messages_of(octets):
-    while octets:
-        length = struct.unpack("!H", octets[:2])[0]
-        yield octets[2 : 2 + length]
-        octets = octets[2 + length :]
-
-
-def signed(message, moment, request, secret=SECRET, key=KEY):
-    """RFC 8945 4.2 and 4.3: what is signed is the request's MAC, the message, and the variables of the record."""
-    time = struct.pack("!HI", moment >> 32, moment & 0xFFFFFFFF) + struct.pack("!H", FUDGE)
-    variables = key + struct.pack("!HI", 255, 0) + ALGORITHM + time + struct.pack("!HH", 0, 0)
-    front = struct.pack("!H", len(request)) + request if request else b""
-    mac = hmac.new(secret, front + message + variables, hashlib.sha256).digest()
-    rdata = ALGORITHM + time + struct.pack("!H", len(mac)) + mac + message[:2] + struct.pack("!HH", 0, 0)
-    additional = struct.pack("!H", struct.unpack("!H", message[10:12])[0] + 1)
-    record = key + struct.pack("!HHIH", 250, 255, 0, len(rdata)) + rdata
-    return message[:10] + additional + message[12:] + record
 
 
 def main():
     moment = int(sys.argv[1])
     macs = []
-    for number, message in enumerate(messages_of(sys.stdin.buffer.read())):
+    for number, message in enumerate(frames_of(sys.stdin.buffer.read())[0]):
         macs.append(hashlib.sha256(b"request %d" % number).digest())
-        octets = signed(message, moment, macs[-1])
-        sys.stdout.buffer.write(struct.pack("!H", len(octets)) + octets)
+        sys.stdout.buffer.write(framed([with_tsig(message, KEY, SECRET, moment, macs[-1])]))
     with open(sys.argv[2], "w") as keys:
         keys.write("bench. %s\n" % base64.b64encode(SECRET).decode())
     with open(sys.argv[3], "w") as file:

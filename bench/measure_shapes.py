@@ -2,7 +2,7 @@
 """Measures the built program on requests that are made to cost much for what they weigh, each at a size and at four
 times as much, and prints the rows of the table in docs/PERFORMANCE.md.
 
-usage: measure_shapes.py [SHAPE [SIZE ..]]
+usage: PYTHONPATH=tools bench/measure_shapes.py [SHAPE [SIZE ..]]
 
 Without a shape all are measured; with sizes, the shape at these. Instructions are counted by valgrind's callgrind, a
 growth is their number by that of the row above, and peak memory and processor time are those that GNU time tells. It

@@ -4,6 +4,7 @@
 # valgrind and GNU time.
 set -euo pipefail
 cd "$(dirname "$0")"
+export PYTHONPATH=../tools
 program=../crates/dnssec_check/out/dnssec_check
 room=$(mktemp -d)
 trap 'rm -rf "$room"' EXIT

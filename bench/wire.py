@@ -1,17 +1,24 @@
-"""Octets of the bench's messages: names, records, keys and signatures (RFC 1035 3 and 4, RFC 4034)."""
+"""The bench's zone, and its keys, signatures and responses, of the octets that the tools' package writes. It has to be where
+Python looks for packages: PYTHONPATH=tools, where it isn't installed."""
 import base64
 import random
 import struct
 
-ROOT = b"\x00"
-ZONE = b"\x05bench\x07example\x00"
-HEADER_SIZE = 12
-A, CNAME, TXT, DS, RRSIG, NSEC, DNSKEY, NSEC3, ANY = 1, 5, 16, 43, 46, 47, 48, 50, 255
-ALGORITHM, HASH_SIZE = 13, 20
+from dns.rdatatype import ANY, CNAME, DNSKEY, DS, NSEC, NSEC3, RRSIG, TXT, A
 
+from dnssec_check_tools.capturing.frames import framed
+from dnssec_check_tools.capturing.messages import HEADER_SIZE, key_tag
+from dnssec_check_tools.wire import ECDSA_P256 as ALGORITHM
+from dnssec_check_tools.wire import dnskey, header, label, name_octets, nsec3, pointer, question, record
+from dnssec_check_tools.wire import rrsig as rrsig_of
 
-def label(octets):
-    return bytes([len(octets)]) + octets
+__all__ = ["A", "ALGORITHM", "ANY", "CNAME", "DNSKEY", "DS", "HEADER_SIZE", "NSEC", "NSEC3", "QUESTION", "ROOT", "RRSIG", "TXT",
+           "ZONE", "anchor", "hash_label", "key_tag", "label", "label_count", "nsec3_rdata", "pointer", "record", "response",
+           "rrsig", "twin_key", "zone_key"]
+
+ROOT, ZONE = name_octets("."), name_octets("bench.example.")
+QUESTION = pointer(HEADER_SIZE)  # the question's name
+HASH_SIZE = 20
 
 
 def label_count(name):
@@ -22,53 +29,32 @@ def label_count(name):
     return count
 
 
-def pointer(place):
-    """RFC 1035 4.1.4."""
-    return struct.pack("!H", 0xC000 + place)
-
-
-QUESTION = pointer(HEADER_SIZE)  # the question's name
-
-
-def record(owner, rtype, rdata):
-    return owner + struct.pack("!HHIH", rtype, 1, 3600, len(rdata)) + rdata
-
-
 def response(number, asked, *sections):
     """An authoritative response with its length in front, to a question for all types; of the answer, authority and
     additional sections those left out are empty."""
     counts = [len(records) for records in sections] + [0] * (3 - len(sections))
-    header = struct.pack("!HHHHHH", number, 0x8400, 1, *counts)
     records = b"".join(each for section in sections for each in section)
-    octets = header + asked + struct.pack("!HH", ANY, 1) + records
-    return struct.pack("!H", len(octets)) + octets
-
-
-def key_tag(rdata):
-    """RFC 4034 appendix B."""
-    total = sum(octet << 8 if place % 2 == 0 else octet for place, octet in enumerate(rdata))
-    return (total + (total >> 16)) & 0xFFFF
+    return framed([header(number, [1, *counts]) + question(asked) + records])
 
 
 def twin_key(number, total, front=b"", back=b""):
     """A key. Those of one total have one tag, since two of their numbers of 16 bits sum up to it."""
-    return struct.pack("!HBB", 257, 3, ALGORITHM) + front + struct.pack("!HH", number, total - number) + back
+    return dnskey(257, front + struct.pack("!HH", number, total - number) + back)
 
 
 def zone_key(number, flags):
     draw = random.Random(number * 1000 + flags)
-    return struct.pack("!HBB", flags, 3, ALGORITHM) + draw.randbytes(64)
+    return dnskey(flags, draw.randbytes(64))
 
 
 def rrsig(draw, rtype, labels, signer, tag):
     """The RDATA of a signature from 1000 to 2000, whose octets are drawn."""
-    front = struct.pack("!HBBIIIH", rtype, ALGORITHM, labels, 3600, 2000, 1000, tag)
-    return front + signer + draw.randbytes(64)
+    return rrsig_of(rtype, labels, signer, tag, draw.randbytes(64))
 
 
 def nsec3_rdata(iterations, salt, following):
-    """The RDATA of an NSEC3 record without types (RFC 5155 3.2). A hash is a number here."""
-    return struct.pack("!BBHB", 1, 0, iterations, len(salt)) + salt + b"\x14" + following.to_bytes(HASH_SIZE, "big")
+    """The RDATA of an NSEC3 record without types. A hash is a number here."""
+    return nsec3(iterations, salt, following.to_bytes(HASH_SIZE, "big"))
 
 
 def hash_label(hashed):

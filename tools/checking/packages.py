@@ -41,6 +41,7 @@ PACKAGES = (
     Package("python3-cryptography", module="cryptography"),
     Package("python3-distributed", module="distributed"),
     Package("python3-dnspython", module="dns"),
+    Package("python3-jinja2", module="jinja2"),
     Package("python3-jsonschema", module="jsonschema"),
     Package("python3-rich", module="rich"),
     Package("python3-zstandard", module="zstandard"),

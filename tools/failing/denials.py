@@ -7,7 +7,8 @@ from .evidence import ANCHOR, DNSKEY, KEY, MOMENT, Rrset, TYPES, ds, name
 from .runs import Answer, Bench
 from .tally import Tally
 
-from zones import Hashing, nsec  # behind .evidence, which says where it is
+from dnssec_check_tools.wire import nsec
+from zones import Hashing  # behind .evidence, which says where it is
 
 Worked = namedtuple("Worked", "title owner rtype wanted rrsets")
 

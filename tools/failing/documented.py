@@ -1,8 +1,8 @@
 """The ends of a run that the program's pages tell of."""
-import pathlib
 import re
 
-NUMBERS = pathlib.Path(__file__).resolve().parent.parent / "judging" / "numbers.tsv"
+from dnssec_check_tools.judging import numbers
+
 NAME, HEX = rb"[!-~]+", rb"(?:-|(?:[0-9a-f]{2})+)"
 ALIASES = rb"(?:alias " + NAME + rb" rrset [1-9]\d* signature [1-9]\d*\n){0,8}"
 PROOF = rb"(?:record " + NAME + rb" (?:47|50)\n){1,3}"
@@ -19,12 +19,8 @@ REFUSED = re.compile(rb"refused (\d+)(?: message [1-9]\d*)?(?: record [1-9]\d*)?
 FAULT = re.compile(rb"fault (?:90|(?:210|211|811) (?:capture|anchors|statements|keys|macs))\n")
 
 
-def numbers():
-    """Those of the refusals."""
-    return {line.split("\t")[0] for line in NUMBERS.read_text().splitlines()[1:]} - {"90", "210", "211", "811", "812"}
-
-
-REFUSALS = frozenset(number.encode() for number in numbers())
+FAULTS = {90, 210, 211, 811, 812}
+REFUSALS = frozenset(str(number).encode() for number in numbers.numbers().keys() - FAULTS)
 
 
 def kind_of(answer):

@@ -1,16 +1,15 @@
 """RRsets with a signature each by the key of `example.`, as messages, and the statements that the signatures are good."""
 import pathlib
-import struct
 import sys
 from collections import namedtuple
 
 sys.path.insert(0, str(pathlib.Path(__file__).resolve().parent.parent / "rows"))
 
+from dnssec_check_tools import wire
 from messages import DNSKEY, KEY_TAG, TYPES, counted, labels_of, message, name, rrsig, signed
 
 ANCHOR = b"KEY example. 256 3 13 AQID\n"
 MOMENT = 1500
-ORIGINAL_TTL = 3600
 
 
 class Rrset(namedtuple("Rrset", "owner rtype rdata signer labels", defaults=("example.", None))):
@@ -27,8 +26,7 @@ class Rrset(namedtuple("Rrset", "owner rtype rdata signer labels", defaults=("ex
     def statement(self):
         """The line of statements which says that the signature is good (RFC 4034 3.1.8.1, 6.2, 6.3)."""
         owner = name(self.signed_owner())
-        records = [owner + struct.pack("!HHIH", TYPES[self.rtype], 1, ORIGINAL_TTL, len(each)) + each
-                   for each in sorted(set(self.rdata))]
+        records = [wire.record(owner, TYPES[self.rtype], each) for each in sorted(set(self.rdata))]
         data = rrsig(self.rtype, self.count(), self.signer, "") + b"".join(records)
         return f"good 13 {DNSKEY[4:].hex()} {data.hex()} cc\n".encode()
 
@@ -41,7 +39,7 @@ class Rrset(namedtuple("Rrset", "owner rtype rdata signer labels", defaults=("ex
 
 def ds(digest_type, digest):
     """The RDATA of a DS record of that key (RFC 4034 5.1)."""
-    return struct.pack("!HBB", KEY_TAG, 13, digest_type) + digest
+    return wire.ds(KEY_TAG, digest_type, digest)
 
 
 KEY = Rrset("example.", "DNSKEY", (DNSKEY,))

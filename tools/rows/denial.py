@@ -1,10 +1,12 @@
 #!/usr/bin/env python3
 """Prints what the rows of dnsv_denial need besides those that are written by hand.
 
-usage: denial.py evidence    the rows that name messages of evidence
-       denial.py questions   rows that ask of every name of small zones to a depth of three labels
-       denial.py answers     what has to come for these, by looking the names up
-       denial.py limits      what has to come for the hand-written rows of the largest evidence
+usage: PYTHONPATH=tools tools/rows/denial.py PART
+
+parts: evidence    the rows that name messages of evidence
+       questions   rows that ask of every name of small zones to a depth of three labels
+       answers     what has to come for these, by looking the names up
+       limits      what has to come for the hand-written rows of the largest evidence
 """
 import sys
 

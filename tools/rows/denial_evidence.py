@@ -1,7 +1,8 @@
 """The messages of evidence of the rows of dnsv_denial, each of one RRset but where a whole chain is in one."""
 from denial_zones import DS, LOOSE, MIXED, NODES, NSECS, RFC5155, SMALL
+from dnssec_check_tools.wire import nsec
 from messages import DNSKEY, key_message, message, signed
-from zones import Hashing, nsec, nsec3_chain, nsec_chain
+from zones import Hashing, nsec3_chain, nsec_chain
 
 
 def let(name, *records):

@@ -1,8 +1,9 @@
 """Evidence at the limits of a capture and of names, and what has to come for the questions that are asked of it."""
-import struct
-
+from dnssec_check_tools.capturing.frames import framed
+from dnssec_check_tools.capturing.messages import HEADER_SIZE
+from dnssec_check_tools.wire import header, label, nsec, pointer
 from messages import key_message, message, name, record, rrsig, signed
-from zones import Hashing, child, hash_text, is_between, nsec, nsec3_chain, suffix, successors
+from zones import Hashing, child, hash_text, is_between, nsec3_chain, suffix, successors
 
 # A zone of 1,025 names, so that each record of its chain is one of more than 1,000.
 LARGE = [("example.", "NS SOA RRSIG")] + [(f"n{number:04}.example.", "A RRSIG") for number in range(1, 1025)]
@@ -41,14 +42,13 @@ def parts(chain):
 def packed(chain):
     """A message of records of `example.`, in which the owners after the first are written by pointers."""
     octets, zone = b"", None
-    for label, rdata in chain:
-        place = 12 + len(octets)
-        front = bytes([len(label)]) + label.encode()
-        owner = front + (struct.pack("!H", 0xC000 | zone) if zone else name("example."))
+    for each, rdata in chain:
+        place, front = HEADER_SIZE + len(octets), label(each.encode())
+        owner = front + (pointer(zone) if zone else name("example."))
         zone = zone or place + len(front)
         octets += record(owner, "NSEC3", rdata)
-        octets += record(struct.pack("!H", 0xC000 | place), "RRSIG", rrsig("NSEC3", 2, "example."))
-    return struct.pack("!HHHHHHH", 12 + len(octets), 1, 0x8400, 0, 2 * len(chain), 0, 0) + octets
+        octets += record(pointer(place), "RRSIG", rrsig("NSEC3", 2, "example."))
+    return framed([header(1, (0, 2 * len(chain), 0, 0)) + octets])
 
 
 def of_salt(hashing, is_circle):

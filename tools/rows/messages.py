@@ -1,11 +1,16 @@
-"""DNS messages for rows of evidence: names, records with a signature each, and messages behind their length."""
-import struct
+"""DNS messages for rows of evidence: names, records with a signature each, and messages behind their length, of the octets
+that the tools' package writes."""
+from dns.rdatatype import from_text
 
-TYPES = {"A": 1, "NS": 2, "CNAME": 5, "SOA": 6, "HINFO": 13, "MX": 15, "TXT": 16, "AAAA": 28, "DNAME": 39, "DS": 43,
-         "RRSIG": 46, "NSEC": 47, "DNSKEY": 48, "NSEC3": 50, "NSEC3PARAM": 51}
+from dnssec_check_tools import wire
+from dnssec_check_tools.capturing.frames import framed
+from dnssec_check_tools.capturing.messages import key_tag
 
-DNSKEY = bytes.fromhex("0100030d010203")
-KEY_TAG = 2063
+TYPES = {kind: int(from_text(kind)) for kind in (
+    "A", "NS", "CNAME", "SOA", "HINFO", "MX", "TXT", "AAAA", "DNAME", "DS", "RRSIG", "NSEC", "DNSKEY", "NSEC3", "NSEC3PARAM")}
+
+DNSKEY = wire.dnskey(256, bytes([1, 2, 3]))
+KEY_TAG = key_tag(DNSKEY)
 TTL = 5
 
 
@@ -15,22 +20,12 @@ def labels_of(text):
 
 
 def name(text):
-    """RFC 1035 3.1."""
-    return b"".join(bytes([len(label)]) + label for label in labels_of(text)) + b"\0"
-
-
-def bitmap(types):
-    """The types below 256, which are named with blanks between them (RFC 4034 4.1.2)."""
-    bits = bytearray(32)
-    for each in types.split():
-        bits[TYPES[each] // 8] |= 0x80 >> TYPES[each] % 8
-    octets = bytes(bits).rstrip(b"\0")
-    return bytes([0, len(octets)]) + octets if octets else b""
+    return wire.name_octets(text)
 
 
 def record(owner, rtype, rdata):
-    """A record of class IN (RFC 1035 4.1.3). The owner is octets, so that it may be a pointer."""
-    return owner + struct.pack("!HHIH", TYPES[rtype], 1, TTL, len(rdata)) + rdata
+    """A record of class IN. The owner is octets, so that it may be a pointer."""
+    return wire.record(owner, TYPES[rtype], rdata, TTL)
 
 
 def counted(owner):
@@ -40,9 +35,8 @@ def counted(owner):
 
 
 def rrsig(rtype, labels, signer, signature="cc"):
-    """The RDATA of a signature from 1000 to 2000 (RFC 4034 3.1). Its octets say to a row's verifier what it is."""
-    front = struct.pack("!HBBIIIH", TYPES[rtype], 13, labels, 3600, 2000, 1000, KEY_TAG)
-    return front + name(signer) + bytes.fromhex(signature)
+    """The RDATA of a signature from 1000 to 2000. Its octets say to a row's verifier what it is."""
+    return wire.rrsig(TYPES[rtype], labels, name(signer), KEY_TAG, bytes.fromhex(signature))
 
 
 def signed(owner, rtype, rdata, labels=None, signer="example.", signature="cc"):
@@ -53,10 +47,8 @@ def signed(owner, rtype, rdata, labels=None, signer="example.", signature="cc"):
 
 
 def message(*records):
-    """A response without a question whose answers are these records with a signature each (RFC 1035 4.1.1), behind its
-    length in two octets (RFC 1035 4.2.2)."""
-    octets = struct.pack("!HHHHHH", 1, 0x8400, 0, 2 * len(records), 0, 0) + b"".join(records)
-    return struct.pack("!H", len(octets)) + octets
+    """A response without a question whose answers are these records with a signature each, behind its length."""
+    return framed([wire.header(1, (0, 2 * len(records), 0, 0)) + b"".join(records)])
 
 
 def key_message(zone):

@@ -1,9 +1,9 @@
 """Zones: what looking a name up in one gives, and their chains of NSEC and NSEC3 records."""
 import base64
 import hashlib
-import struct
 
-from messages import bitmap, labels_of, name
+from dnssec_check_tools import wire
+from messages import labels_of, name
 
 
 def wire_in_lower_case(text):
@@ -114,15 +114,10 @@ def successors(keys):
     return {key: ordered[(place + 1) % len(ordered)] for place, key in enumerate(ordered)}
 
 
-def nsec(following, types):
-    """RFC 4034 4.1."""
-    return name(following) + bitmap(types)
-
-
 def nsec_chain(zone):
     """The owner and RDATA of each record of the zone's NSEC chain, in canonical order."""
     owners = sorted(zone.types, key=key_of)
-    return [(owner, nsec(owners[(place + 1) % len(owners)], " ".join(zone.types[owner] + ["RRSIG", "NSEC"])))
+    return [(owner, wire.nsec(owners[(place + 1) % len(owners)], " ".join(zone.types[owner] + ["RRSIG", "NSEC"])))
             for place, owner in enumerate(owners)]
 
 
@@ -139,8 +134,7 @@ class Hashing:
         return octets
 
     def nsec3(self, following, types, algorithm=1):
-        front = struct.pack("!BBHB", algorithm, self.flags, self.iterations, len(self.salt))
-        return front + self.salt + bytes([len(following)]) + following + bitmap(types)
+        return wire.nsec3(self.iterations, self.salt, following, types, self.flags, algorithm)
 
 
 def hash_text(octets):

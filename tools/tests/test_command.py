@@ -3,13 +3,14 @@ import os
 import pathlib
 import signal
 import subprocess
+import sys
 import tempfile
 import time
 import unittest
 from unittest import mock
 
 from tool import DATA, TOOLS, run_program
-from command import VERSION
+from dnssec_check_tools.command import VERSION
 
 VERIFY = TOOLS / "verify"
 
@@ -113,6 +114,15 @@ class Ends(unittest.TestCase):
                 wanted = f"{name} {VERSION}\n".encode()
                 self.assertEqual(run_program(TOOLS / name, "--version"), (0, wanted, ""))
         self.assertEqual(run_program(TOOLS / "capture", "--version", "no-such-file")[0], 0)
+
+    def test_a_package_that_python_lacks_is_told_with_how_to_get_it(self):
+        """Without site-packages, which `-S` leaves out, and behind them nothing goes on by another Python."""
+        words = (DATA / "signed.client", "www.example.com/A", "--anchors", DATA / "todo")
+        status, output, errors = run_program(sys.executable, "-S", TOOLS / "judge", *words)
+        self.assertEqual((status, output), (1, b""))
+        self.has_one_line(errors, "judge")
+        for text in ("the Python package dnspython", sys.executable, "install"):
+            self.assertIn(text, errors)
 
     def test_a_file_that_is_not_there_or_is_a_folder(self):
         for path in (DATA / "no-such-file", DATA, pathlib.Path("no-such-file")):

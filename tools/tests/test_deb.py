@@ -6,7 +6,7 @@ import subprocess
 import unittest
 
 from tool import DATA, PROGRAM, TOOLS, run_program
-from command import VERSION
+from dnssec_check_tools.command import VERSION
 
 TOP = TOOLS.parent
 EXAMPLES = TOP / "examples"

@@ -6,8 +6,8 @@ import subprocess
 import tempfile
 import unittest
 
-from tool import DATA, PROGRAM, TOOLS, run_program
-from command import VERSION
+from tool import DATA, PACKAGE, PROGRAM, TOOLS, run_program
+from dnssec_check_tools.command import VERSION
 
 DOCS = TOOLS.parent / "docs"
 MANUAL = DOCS / "dnssec_check.1"
@@ -76,7 +76,7 @@ class Manual(unittest.TestCase):
         self.assertEqual(numbers - told, set())
 
     def test_the_manual_page_says_of_each_number_what_the_table_says(self):
-        rows = (TOOLS / "judging" / "numbers.tsv").read_text().splitlines()[1:]
+        rows = (PACKAGE / "judging" / "numbers.tsv").read_text().splitlines()[1:]
         for number, _, what, remedy in (row.split("\t") for row in rows):
             with self.subTest(number):
                 entry = re.search(rf"^\.It {number}\n(.*?)^\.", MANUAL.read_text(), re.MULTILINE | re.DOTALL)[1]

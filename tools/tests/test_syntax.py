@@ -1,41 +1,56 @@
-"""The tools run with Python 3.9 and the standard library, and verify needs one package more."""
+"""The tools run with Python 3.9 and the standard library; what needs a package more, or another part, is told here."""
 import ast
 import sys
 import unittest
 
-from tool import TOOLS
+from tool import PACKAGE, TOOLS
 
-FOLDERS = ("capturing", "verifying", "asking", "explaining", "judging", "failing", "checking", "wrong_bodies")
-NAMES = ["verify", "capture", "judge", "pages", "faults", "check", "packages", "does-not-compile", "wrong-bodies",
-         "command.py"]
-NAMES += [str(path.relative_to(TOOLS)) for folder in FOLDERS for path in sorted((TOOLS / folder).glob("*.py"))]
-# What each imports besides; dnspython (`dns`), distributed and rich only where they're needed.
-PACKAGES = {
-    "verify": {"command", "verifying"},
-    "verifying/entries.py": {"verifying"},
-    "verifying/curves.py": {"cryptography"},
-    "capture": {"command", "capturing"},
-    "judge": {"command", "asking", "judging"},
-    "asking": {"command", "capturing", "dns"},
-    "explaining": {"asking"},
-    "judging": {"asking", "capturing", "explaining", "verifying", "dns"},
-    "judging/cluster.py": {"asking", "distributed"},
-    "judging/progress.py": {"rich"},
-    "pages": {"command"},
-    "faults": {"command", "failing"},
-    "check": {"command", "checking"},
-    "packages": {"command", "checking"},
-    "does-not-compile": {"command", "wrong_bodies"},
-    "wrong-bodies": {"command", "wrong_bodies"},
-    "failing": {"messages", "zones"},  # of rows
+SCRIPTS = ("pages", "faults", "check", "packages", "does-not-compile", "wrong-bodies")
+FOLDERS = (PACKAGE, TOOLS / "failing", TOOLS / "checking", TOOLS / "wrong_bodies")
+NAMES = [*SCRIPTS, *(str(path.relative_to(TOOLS)) for folder in FOLDERS for path in sorted(folder.rglob("*.py")))]
+# What each part imports besides itself; dnspython (`dns`), distributed and rich only where they're needed.
+PARTS = {
+    "pages": {"dnssec_check_tools"},
+    "faults": {"dnssec_check_tools", "failing"},
+    "check": {"dnssec_check_tools", "checking"},
+    "packages": {"dnssec_check_tools", "checking"},
+    "does-not-compile": {"dnssec_check_tools", "wrong_bodies"},
+    "wrong-bodies": {"wrong_bodies"},
+    "failing": {"dnssec_check_tools", "messages", "zones"},  # the last two of rows
+    "dnssec_check_tools/verify.py": {"command", "verifying"},
+    "dnssec_check_tools/capture.py": {"command", "capturing"},
+    "dnssec_check_tools/judge.py": {"command", "asking", "judging", "program"},
+    "dnssec_check_tools/program.py": {"asking"},
+    "dnssec_check_tools/verifying/curves.py": {"cryptography"},
+    "dnssec_check_tools/capturing": {"command"},
+    "dnssec_check_tools/asking": {"command", "capturing", "dns"},
+    "dnssec_check_tools/explaining": {"asking"},
+    "dnssec_check_tools/explaining/page.py": {"asking", "jinja2", "markupsafe"},
+    "dnssec_check_tools/wire.py": {"dns"},
+    "dnssec_check_tools/judging": {"asking", "capturing", "explaining", "program", "verifying", "dns"},
+    "dnssec_check_tools/judging/cluster.py": {"asking", "distributed", "program"},
+    "dnssec_check_tools/judging/progress.py": {"rich"},
 }
 
 
-def imported(tree):
-    """The packages that a module imports, but for its own."""
-    names = [alias.name for node in ast.walk(tree) if isinstance(node, ast.Import) for alias in node.names]
-    names += [node.module for node in ast.walk(tree) if isinstance(node, ast.ImportFrom) and not node.level]
-    return {name.split(".")[0] for name in names}
+def modules_of(node, depth):
+    """What an import names, from the top of the package on; nothing where it is of the folder of the module itself."""
+    if isinstance(node, ast.Import):
+        return [alias.name for alias in node.names]
+    if isinstance(node, ast.ImportFrom) and (not node.level or node.level == depth):
+        return [node.module] if node.module else [alias.name for alias in node.names]
+    return []
+
+
+def imported(name):
+    """The packages that a module imports, and the parts of the package besides its own."""
+    tree, depth = ast.parse((TOOLS / name).read_text()), name.count("/") if name.startswith(PACKAGE.name) else None
+    return {each.split(".")[0] for node in ast.walk(tree) for each in modules_of(node, depth)}
+
+
+def allowed(name):
+    """The words of the module itself, else those of the folder that it's in."""
+    return PARTS.get(name, PARTS.get(name.rpartition("/")[0], set()))
 
 
 class Syntax(unittest.TestCase):
@@ -48,9 +63,7 @@ class Syntax(unittest.TestCase):
     def test_each_tool_imports_nothing_else(self):
         for name in NAMES:
             with self.subTest(name):
-                others = imported(ast.parse((TOOLS / name).read_text())) - sys.stdlib_module_names
-                allowed = PACKAGES.get(name) or PACKAGES.get(name.split("/")[0], {"command"})
-                self.assertLessEqual(others, allowed)
+                self.assertLessEqual(imported(name) - sys.stdlib_module_names, allowed(name))
 
 
 if __name__ == "__main__":

@@ -3,7 +3,7 @@ import re
 import unittest
 
 from tool import TOOLS, run_program
-from command import VERSION
+from dnssec_check_tools.command import VERSION
 
 TOP = TOOLS.parent
 

@@ -1,5 +1,6 @@
 """How the tests run a tool as a user does, and load it as a module."""
 import functools
+import importlib
 import importlib.machinery
 import importlib.util
 import io
@@ -15,9 +16,15 @@ PROGRAM = TOOLS.parent / "crates" / "dnssec_check" / "out" / "dnssec_check"
 sys.path.insert(0, str(TOOLS))
 
 
+PACKAGE = TOOLS / "dnssec_check_tools"
+PACKAGED = ("capture", "judge", "verify")
+
+
 @functools.lru_cache(None)
 def load(name):
-    """The tool as a module."""
+    """The tool as a module: one of the package, or a script beside it."""
+    if name in PACKAGED:
+        return importlib.import_module(f"{PACKAGE.name}.{name}")
     loader = importlib.machinery.SourceFileLoader(f"tool_{name}", str(TOOLS / name))
     module = importlib.util.module_from_spec(importlib.util.spec_from_loader(loader.name, loader))
     sys.modules[loader.name] = module  # where dataclasses look their names up

@@ -3,8 +3,8 @@ import hashlib
 import unittest
 from collections import namedtuple
 
-from capturing.frames import frames_of
-from capturing.messages import (TYPE_DNSKEY, TYPE_DS, TYPE_RRSIG, end_of_name, is_message, lower, name_at, name_text,
+from dnssec_check_tools.capturing.frames import frames_of
+from dnssec_check_tools.capturing.messages import (TYPE_DNSKEY, TYPE_DS, TYPE_RRSIG, end_of_name, is_message, lower, name_at, name_text,
                                 records_of)
 from shapes import SHAPES, denials, files, keys, signatures
 from wire import key_tag

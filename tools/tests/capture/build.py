@@ -1,26 +1,27 @@
 """Messages, packets and packet captures for the tests, laid out as their standards say."""
 import struct
 
+from dns.rdataclass import ANY as CLASS_ANY
+from dns.rdatatype import A
 
-def name_octets(text):
-    return b"".join(bytes([len(label)]) + label.encode() for label in text.split(".") if label) + b"\x00"
+from dnssec_check_tools import wire
+from dnssec_check_tools.capturing import frames
+from dnssec_check_tools.wire import name_octets
 
 
 def message(identifier=1, name="www.example.", flags=0x8400, more=b"", additional=0):
     """A message of one question of type A, with `more` behind it."""
-    header = struct.pack("!6H", identifier, flags, 1, 0, 0, additional)
-    return header + name_octets(name) + b"\x00\x01\x00\x01" + more
+    return wire.header(identifier, (1, 0, 0, additional), flags) + wire.question(name_octets(name), A) + more
 
 
 def record(kind, data, owner=b"\x00"):
     """A record of class ANY with TTL 0."""
-    return owner + struct.pack("!2HIH", kind, 255, 0, len(data)) + data
+    return wire.record(owner, kind, data, 0, CLASS_ANY)
 
 
 def tsig(mac, identifier, algorithm="hmac-sha256."):
-    """A TSIG record (RFC 8945 4.2), signed at 1000 with a fudge of 300."""
-    front = name_octets(algorithm) + struct.pack("!HI2H", 0, 1000, 300, len(mac))
-    return record(250, front + mac + struct.pack("!3H", identifier, 0, 0), name_octets("key."))
+    """A TSIG record, signed at 1000 with a fudge of 300."""
+    return wire.tsig_record(name_octets("key."), wire.tsig_rdata(mac, identifier, 1000, algorithm))
 
 
 def signed(mac, identifier=1, name="www.example.", flags=0x8400, original=None):
@@ -29,7 +30,7 @@ def signed(mac, identifier=1, name="www.example.", flags=0x8400, original=None):
 
 
 def framed(*messages):
-    return b"".join(len(each).to_bytes(2, "big") + each for each in messages)
+    return frames.framed(messages)
 
 
 # IP

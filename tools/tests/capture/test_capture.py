@@ -5,7 +5,7 @@ import tempfile
 import unittest
 from unittest import mock
 
-from capturing.packed import zstd_library
+from dnssec_check_tools.capturing.packed import zstd_library
 from test_command import interrupted, with_closed_pipe
 from tool import DATA, TOOLS, run, run_program
 
@@ -232,7 +232,7 @@ class Packed(Case):
         self.refuses(packed[:10] + b"\x07" * 20, "-: it can't be unpacked", kind="--pcap")
 
     def test_more_than_the_program_reads_is_not_unpacked(self):
-        with mock.patch("capturing.packed.UNPACKED_MOST", 1000):
+        with mock.patch("dnssec_check_tools.capturing.packed.UNPACKED_MOST", 1000):
             self.refuses(gzip.compress(bytes(1001)), "-: unpacked it is longer than 1000 octets", kind="--pcap")
 
     def test_zstd_is_named_where_python_has_no_library_for_it(self):

@@ -3,11 +3,11 @@ import random
 import unittest
 from unittest import mock
 
-from capturing.entries import Refusal
-from capturing.messages import TYPE_DNSKEY, TYPE_DS, TYPE_RRSIG
-from capturing.notes import notes_of
-from capturing.sources import entries_of_pcap
-from capturing.splitting import Parts
+from dnssec_check_tools.capturing.entries import Refusal
+from dnssec_check_tools.capturing.messages import TYPE_DNSKEY, TYPE_DS, TYPE_RRSIG
+from dnssec_check_tools.capturing.notes import notes_of
+from dnssec_check_tools.capturing.sources import entries_of_pcap
+from dnssec_check_tools.capturing.splitting import Parts
 from tool import DATA, load
 
 from . import build

@@ -2,8 +2,8 @@
 import time
 import unittest
 
-from capturing.packets import segment_of
-from capturing.streams import Streams
+from dnssec_check_tools.capturing.packets import segment_of
+from dnssec_check_tools.capturing.streams import Streams
 
 from .build import CLIENT, SERVER, framed, message, record, tcp, udp
 from .cases import ONE, QUERY, THREE, TWO, PacketCase

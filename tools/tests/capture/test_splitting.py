@@ -4,8 +4,8 @@ import tempfile
 import time
 import unittest
 
-from capturing.notes import notes_of
-from capturing.splitting import Parts
+from dnssec_check_tools.capturing.notes import notes_of
+from dnssec_check_tools.capturing.splitting import Parts
 from tool import PROGRAM, DATA, run, run_program
 
 from .build import framed, message, name_octets, record

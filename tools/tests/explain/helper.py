@@ -2,7 +2,7 @@
 import itertools
 import json
 
-from explaining.explanation import Explanation
+from dnssec_check_tools.explaining.explanation import Explanation
 from tool import DATA
 
 NOON = 1795348800  # 2026-11-22T12:00:00Z

@@ -1,10 +1,13 @@
 """Tests of the picture of a chain, and of the page that it stands in."""
 import html.parser
 import shutil
+import sys
 import unittest
+from unittest import mock
 
-from explaining import chain, drawn, page, picture, sentences
-from judge.helper import needs_dns_here
+from dnssec_check_tools.asking.faults import Failure
+from dnssec_check_tools.explaining import chain, drawn, page, picture, sentences
+from judge.helper import needs, needs_dns
 from .helper import FORMS, lines_of, told_by, told_of
 
 needs_dot = unittest.skipUnless(shutil.which("dot"), "needs dot of Graphviz")
@@ -22,7 +25,7 @@ def states_of(told):
     return boxes, edges
 
 
-@needs_dns_here
+@needs_dns
 class Drawn(unittest.TestCase):
     def test_every_form_of_the_schema_is_drawn(self):
         for form in FORMS:
@@ -88,7 +91,8 @@ class Read(html.parser.HTMLParser):
         self.words.append(data)
 
 
-@needs_dns_here
+@needs_dns
+@needs("jinja2", "jinja2")
 @needs_dot
 class Pages(unittest.TestCase):
     def page(self, told, *records, capture="a.cap"):
@@ -125,6 +129,10 @@ class Pages(unittest.TestCase):
                 self.assertIn(f"{name}: no trust anchor is at or above it", words)
                 self.assertIn(f"record {name}", words)
                 self.assertIn(name, words.split("From the trust anchor down")[0].replace("\n", "").split(".cap, at")[1])
+
+    def test_without_jinja2_it_says_what_it_needs(self):
+        with mock.patch.dict(sys.modules, jinja2=None), self.assertRaisesRegex(Failure, "--html needs the Python package jinja2"):
+            self.page(told_by())
 
     def test_captures_whose_names_are_no_text(self):
         read = Read(self.page(told_by(), capture="octet\udcff\x1b.cap"))

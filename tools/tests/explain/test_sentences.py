@@ -2,9 +2,9 @@
 import json
 import unittest
 
-from explaining import drawn, holding, reasons, sentences
-from explaining.explanation import Explanation
-from judge.helper import EXAMPLES, needs_dns_here
+from dnssec_check_tools.explaining import drawn, holding, reasons, sentences
+from dnssec_check_tools.explaining.explanation import Explanation
+from judge.helper import EXAMPLES, needs_dns
 from .helper import FORMS, NOON, DAY, lines_of, told_by, told_of
 
 try:
@@ -17,7 +17,7 @@ def texts(told):
     return [str(each) for each in sentences.why(told)]
 
 
-@needs_dns_here
+@needs_dns
 class Words(unittest.TestCase):
     def test_every_word_of_the_schema_has_a_sentence(self):
         for form in FORMS:
@@ -51,7 +51,7 @@ class Words(unittest.TestCase):
                          r'FAIL a\"b<i>&%s{}\000.: no trust anchor is at or above it [EDE 5]')
 
 
-@needs_dns_here
+@needs_dns
 class Examples(unittest.TestCase):
     def test_each_has_its_sentences_and_a_picture(self):
         folders = sorted(EXAMPLES.glob("*-explain-json"))
@@ -68,7 +68,7 @@ class Examples(unittest.TestCase):
                 self.assertGreaterEqual(len(boxes), 2)
 
 
-@needs_dns_here
+@needs_dns
 class Verdicts(unittest.TestCase):
     def verdict(self, word, *lines, **others):
         return sentences.verdict(told_by(*lines, verdict=word, **others))
@@ -92,7 +92,7 @@ class Verdicts(unittest.TestCase):
         self.assertEqual(texts(told_by(line, verdict="SecureAnswer")), [])
 
 
-@needs_dns_here
+@needs_dns
 class Samples(unittest.TestCase):
     def test_a_rollover_without_the_parent(self):
         self.assertEqual(texts(told_of("roll-gone")), [

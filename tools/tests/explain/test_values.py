@@ -1,7 +1,7 @@
 """Tests of how values are said: distances, dates, names of algorithms and digests."""
 import unittest
 
-from explaining import values
+from dnssec_check_tools.explaining import values
 
 NOON = 1795348800
 

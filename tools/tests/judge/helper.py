@@ -1,18 +1,18 @@
-"""How the tests run tools/judge: by a Python that has dnspython, and by the program or one that stands in for it."""
+"""How the tests run tools/judge: by the Python that runs them, and by the program or one that stands in for it."""
 import functools
 import importlib.util
 import json
 import pathlib
-import subprocess
+import sys
 import tempfile
 import unittest
 
 from tool import PROGRAM, TOOLS, load, run_program
 
 EXAMPLES = TOOLS.parent / "examples"
+JUDGE = (sys.executable, TOOLS / "judge")
 NOON = "1795348800"
 ANCHORS = EXAMPLES / "bind-www-a-check" / "anchors"
-DEBIAN = "/usr/bin/python3"
 
 # Answers as the examples do. Whatever no example asks is Bogus, and bind.test. says nothing of it.
 BOGUS = {"command": "explain", "name": ".", "type": 0, "moment": 0, "verdict": "Bogus", "status": 5, "aliases": [], "why": []}
@@ -36,24 +36,11 @@ sys.exit(status)
 """
 
 
-@functools.lru_cache(None)
-def has_package(name):
-    """Whether the Python that the tool runs by has the package."""
-    if importlib.util.find_spec("dns"):
-        return importlib.util.find_spec(name) is not None
-    try:
-        return subprocess.run([DEBIAN, "-c", f"import dns, {name}"], capture_output=True, check=False).returncode == 0
-    except OSError:
-        return False
-
-
 def needs(name, package):
-    return unittest.skipUnless(has_package(name), f"needs the Python package {package}")
+    return unittest.skipUnless(importlib.util.find_spec(name), f"needs the Python package {package}")
 
 
 needs_dns = needs("dns", "dnspython")
-# What is tested in this process needs it in this Python.
-needs_dns_here = unittest.skipUnless(importlib.util.find_spec("dns"), "needs the Python package dnspython in this Python")
 
 
 class Example:
@@ -125,7 +112,7 @@ class Judging(unittest.TestCase):
 
     def judge(self, *words, given=b""):
         """The status, the lines and the errors."""
-        status, output, errors = run_program(TOOLS / "judge", "--program", self.program, *words, given=given)
+        status, output, errors = run_program(*JUDGE, "--program", self.program, *words, given=given)
         return status, output.decode().splitlines(), errors
 
     def noon(self, *words, **given):

@@ -4,9 +4,10 @@ import pathlib
 import tempfile
 import unittest
 
-from asking.questions import Question
-from judging.text import Lines, evidence_words
-from judging.work import Common, judged
+from dnssec_check_tools.asking.questions import Question
+from dnssec_check_tools.judging.text import Lines, evidence_words
+from dnssec_check_tools.judging.work import Common, judged
+from dnssec_check_tools.program import Program
 
 from tool import load
 from .helper import EXAMPLES, examples
@@ -42,7 +43,7 @@ class Aliases(unittest.TestCase):
         self.program.write_text(SAYS.replace("TOLD", repr((status, output, errors))))
         self.program.chmod(0o755)
         common = Common({NOON: ANCHORS.read_bytes()}, None, None, [NOON])
-        row, = judged(capture.read_bytes(), [question], common, str(self.program)).rows
+        row, = judged(capture.read_bytes(), [question], common, Program(str(self.program))).rows
         return row
 
     def said(self, row):

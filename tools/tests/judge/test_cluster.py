@@ -3,11 +3,12 @@ import os
 import shutil
 import socket
 import subprocess
+import sys
 import time
 
-from tool import TOOLS, run_program
+from tool import run_program
 
-from .helper import ANCHORS, DEBIAN, NOON, Judging, capture_of, has_package, needs, needs_dns
+from .helper import ANCHORS, JUDGE, NOON, Judging, capture_of, needs, needs_dns
 
 COUNT = 60
 START = "import sys; from distributed.cli.dask_{0} import main; sys.exit(main())"
@@ -24,7 +25,7 @@ def free_port():
 class Cluster(Judging):
     def start(self, name, *words):
         environment = {**os.environ, "PATH": f"{self.room}/path:{os.environ['PATH']}"}
-        process = subprocess.Popen([DEBIAN, "-c", START.format(name), *words], cwd=self.room, env=environment,
+        process = subprocess.Popen([sys.executable, "-c", START.format(name), *words], cwd=self.room, env=environment,
                                    stdout=subprocess.DEVNULL, stderr=subprocess.DEVNULL)
         self.addCleanup(process.wait)
         self.addCleanup(process.kill)
@@ -32,8 +33,6 @@ class Cluster(Judging):
 
     def setUp(self):
         super().setUp()
-        if not os.access(DEBIAN, os.X_OK):
-            self.skipTest(f"needs {DEBIAN}")
         (self.room / "path").mkdir()
         (self.room / "path" / "dnssec_check").symlink_to(self.program)
         self.address = f"tcp://127.0.0.1:{free_port()}"
@@ -51,7 +50,7 @@ class Cluster(Judging):
         words = ["--at", NOON, "--anchors", ANCHORS, "--tsv", self.room / "captures", "www.bind.test/A", "nosuch.bind.test/A"]
         wanted = self.judge(*words)
         lost, kept = self.worker(), self.worker()
-        judge = subprocess.Popen([str(word) for word in (TOOLS / "judge", "--scheduler", self.address, *words)],
+        judge = subprocess.Popen([str(word) for word in (*JUDGE, "--scheduler", self.address, *words)],
                                  stdout=subprocess.PIPE, stderr=subprocess.PIPE, bufsize=0)
         first = judge.stdout.readline() + judge.stdout.readline()
         lost.kill()
@@ -61,6 +60,6 @@ class Cluster(Judging):
 
     def test_no_scheduler(self):
         words = ("--scheduler", "tcp://127.0.0.1:1", "--at", NOON, "--anchors", ANCHORS, capture_of("bind-www-a"), "www.bind.test/A")
-        status, output, errors = run_program(TOOLS / "judge", *words)
+        status, output, errors = run_program(*JUDGE, *words)
         self.assertEqual((status, output), (1, b""))
         self.assertIn("no scheduler answers at tcp://127.0.0.1:1", errors)

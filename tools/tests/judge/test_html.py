@@ -2,15 +2,13 @@
 import re
 import shutil
 import subprocess
-import sys
 import unittest
 
-from tool import TOOLS
-
-from .helper import ANCHORS, EXAMPLES, NOON, Judging, capture_of, needs_dns, verdicts
+from .helper import ANCHORS, EXAMPLES, JUDGE, NOON, Judging, capture_of, needs, needs_dns, verdicts
 
 
 @needs_dns
+@needs("jinja2", "jinja2")
 @unittest.skipUnless(shutil.which("dot"), "needs dot of Graphviz")
 class Page(Judging):
     def test_a_page_of_two_captures(self):
@@ -31,7 +29,7 @@ class Page(Judging):
         self.assertIn("a.test. A: ", path.read_text())
 
     def test_without_graphviz(self):
-        words = [sys.executable, TOOLS / "judge", "--program", self.program, "--anchors", ANCHORS, "--at", NOON, "--html",
+        words = [*JUDGE, "--program", self.program, "--anchors", ANCHORS, "--at", NOON, "--html",
                  self.room / "page.html", capture_of("bind-www-a"), "www.bind.test/A"]
         done = subprocess.run([str(word) for word in words], env={"PATH": "/nowhere"}, capture_output=True, check=False)
         self.assertEqual((done.returncode, done.stdout, done.stderr),

@@ -4,9 +4,9 @@ import os
 import shutil
 import subprocess
 
-from tool import TOOLS, run_program
+from tool import run_program
 
-from .helper import ANCHORS, EXAMPLES, NOON, Judging, capture_of, needs_dns, verdicts
+from .helper import ANCHORS, EXAMPLES, JUDGE, NOON, Judging, capture_of, needs_dns, verdicts
 
 WWW, NOSUCH, CUT = map(capture_of, ("bind-www-a", "bind-nosuch", "bind-cut-www"))
 BAD_NAMES = ("a b", "it's", "*", "a;touch X", "$(touch X)", "`touch X`", "back\\slash", "two\nlines", "-x", "tab\tbed",
@@ -215,7 +215,7 @@ class Ends(Judging):
         words = ("--program", self.program, "--at", NOON, "--anchors", ANCHORS, "www.bind.test/A")
         for path in ("/proc/self/mem", "-"):
             with open("/proc/self/mem", "rb") as given:
-                done = subprocess.run([str(word) for word in (TOOLS / "judge", *words, path)], stdin=given, capture_output=True,
+                done = subprocess.run([str(word) for word in (*JUDGE, *words, path)], stdin=given, capture_output=True,
                                       check=False, text=True)
             self.assertEqual((done.returncode, done.stderr), (1, ""))
             self.assertIn(f"fault 210 the capture {path}: the file could be opened, and a read failed; ", done.stdout)
@@ -238,7 +238,7 @@ class Ends(Judging):
         words = ("--at", NOON, WWW, "www.bind.test/A")
         status, lines, errors = self.judge("--anchors", self.room / "none", *words)
         self.assertEqual((status, lines, errors.count("\n")), (1, [], 1))
-        status, output, errors = run_program(TOOLS / "judge", "--program", self.room / "none", "--anchors", ANCHORS, *words)
+        status, output, errors = run_program(*JUDGE, "--program", self.room / "none", "--anchors", ANCHORS, *words)
         self.assertEqual((status, output, errors), (1, b"", f"judge: {self.room / 'none'}: there is no such program\n"))
         (self.room / "empty").mkdir()
         self.assertIn("no capture is in this folder", self.judge(self.room / "empty", "a.test/A")[2])

@@ -2,7 +2,7 @@
 import re
 import unittest
 
-from judging.numbers import fault_text, numbers
+from dnssec_check_tools.judging.numbers import fault_text, numbers
 from tool import TOOLS
 
 DOCS = TOOLS.parent / "docs"

@@ -4,10 +4,10 @@ import tempfile
 import unittest
 from unittest import mock
 
-from asking import anchors, faults, kinds, moments, questions
-from judging import evidence
+from dnssec_check_tools.asking import anchors, faults, kinds, moments, questions
+from dnssec_check_tools.judging import evidence
 
-from .helper import EXAMPLES, examples, needs_dns_here
+from .helper import EXAMPLES, examples, needs_dns
 
 
 class Names(unittest.TestCase):
@@ -69,7 +69,7 @@ class Rrsets(unittest.TestCase):
                 evidence.Evidence(octets[:place] + bytes([value]) + octets[place + 1:])
 
 
-@needs_dns_here
+@needs_dns
 class Types(unittest.TestCase):
     def test_mnemonics_and_numbers(self):
         for text, number in (("A", 1), ("aaaa", 28), ("DS", 43), ("28", 28), ("TYPE65280", 65280), ("https", 65), ("NSAP-PTR", 23), ("ANY", 255), ("0", 0)):
@@ -79,7 +79,7 @@ class Types(unittest.TestCase):
         self.assertEqual([kinds.mnemonic_of(number) for number in (1, 65280, 23)], ["A", "TYPE65280", "NSAP-PTR"])
 
 
-@needs_dns_here
+@needs_dns
 class Anchors(unittest.TestCase):
     DS = "DS example. 10520 13 2 1ca1593db1dd5784d0fb6c3998b920daec3e4315dd30fce0313fb3a497b54c68\n"
 

@@ -1,5 +1,5 @@
 """Tests of `judge --records`: each record with its numbers, as dnspython writes it."""
-from capturing.frames import framed
+from dnssec_check_tools.capturing.frames import framed
 
 from .helper import Judging, capture_of, needs_dns
 

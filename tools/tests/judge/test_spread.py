@@ -5,7 +5,7 @@ import unittest
 from concurrent.futures import Future
 from unittest import mock
 
-from judging import spread
+from dnssec_check_tools.judging import spread
 
 
 class Pool:

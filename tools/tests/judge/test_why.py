@@ -4,12 +4,13 @@ import pathlib
 import tempfile
 import unittest
 
-from asking.questions import Question
-from judging.text import Lines, json_line, tsv_line
-from judging.work import Common, judged
+from dnssec_check_tools.asking.questions import Question
+from dnssec_check_tools.judging.text import Lines, json_line, tsv_line
+from dnssec_check_tools.judging.work import Common, judged
+from dnssec_check_tools.program import Program
 from tool import DATA
 
-from .helper import needs_dns_here
+from .helper import needs_dns
 
 SAYS = """#!/usr/bin/env python3
 import sys
@@ -20,7 +21,7 @@ if sys.argv[1] == "explain":
 """
 
 
-@needs_dns_here
+@needs_dns
 class Why(unittest.TestCase):
     def row(self, name):
         """The verdict that the tool makes of the explanation with this name."""
@@ -30,7 +31,7 @@ class Why(unittest.TestCase):
             program.write_text(SAYS.replace("TOLD", repr((json.dumps(value), value["status"]))))
             program.chmod(0o755)
             common = Common({value["moment"]: b""}, None, None, [value["moment"]])
-            row, = judged(b"", [Question(value["name"], value["type"])], common, str(program)).rows
+            row, = judged(b"", [Question(value["name"], value["type"])], common, Program(str(program))).rows
         return row
 
     def test_what_fails_stands_below_the_verdict(self):

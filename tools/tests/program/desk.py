@@ -1,11 +1,10 @@
 """How a test gives the program its files and questions, and the signed messages that it makes for them."""
-import hashlib
-import hmac
 import pathlib
-import struct
 import tempfile
 import unittest
 
+from dnssec_check_tools.capturing.frames import framed
+from dnssec_check_tools.wire import record, with_tsig
 from messages import DNSKEY, TYPES, counted, key_message, message, name, rrsig, signed
 from tool import PROGRAM, run_program
 
@@ -19,7 +18,7 @@ HOST = message(signed("host.example.", "A", ADDRESS))
 def said(word, owner, rtype, rdata, signer="example."):
     """A line of statements on the signature that `signed` makes: what it signs, and how (RFC 4034 3.1.8.1)."""
     front = rrsig(rtype, counted(owner), signer, "")
-    data = front + name(owner) + struct.pack("!HHIH", TYPES[rtype], 1, 3600, len(rdata)) + rdata
+    data = front + record(name(owner), TYPES[rtype], rdata)
     return f"{word} 13 {DNSKEY[4:].hex()} {data.hex()} cc\n".encode()
 
 
@@ -33,15 +32,8 @@ def other_statements(count, size=100):
 
 
 def keyed(octets, key, key_name, moment=MOMENT):
-    """The message with its length in front, signed by the shared key for no request (RFC 8945 4.2, 4.3)."""
-    algorithm, times = name("hmac-sha256."), moment.to_bytes(6, "big") + struct.pack("!H", 300)
-    variables = name(key_name) + struct.pack("!HI", 255, 0) + algorithm + times + struct.pack("!HH", 0, 0)
-    mac = hmac.new(key, octets + variables, hashlib.sha256).digest()
-    rdata = algorithm + times + struct.pack("!H", len(mac)) + mac + octets[:2] + struct.pack("!HH", 0, 0)
-    additional = struct.unpack("!H", octets[10:12])[0] + 1
-    record = name(key_name) + struct.pack("!HHIH", 250, 255, 0, len(rdata)) + rdata
-    whole = octets[:10] + struct.pack("!H", additional) + octets[12:] + record
-    return struct.pack("!H", len(whole)) + whole
+    """The message with its length in front, signed by the shared key for no request."""
+    return framed([with_tsig(octets, name(key_name), key, moment)])
 
 
 @unittest.skipUnless(PROGRAM.exists(), "needs the built program")

@@ -4,9 +4,10 @@ import copy
 import hashlib
 import itertools
 import random
-import struct
 
-from judging.evidence import tag_of
+from dnssec_check_tools import wire
+from dnssec_check_tools.capturing.frames import framed
+from dnssec_check_tools.capturing.messages import key_tag
 from messages import TYPES, counted, name, record
 from zones import Hashing, Zone, hash_text, nsec3_chain, nsec_chain
 
@@ -22,10 +23,10 @@ class Key:
         self.flags, self.octets = flags, random.Random(number).randbytes(64)
 
     def rdata(self):
-        return struct.pack("!HBB", self.flags, 3, 13) + self.octets
+        return wire.dnskey(self.flags, self.octets)
 
     def tag(self):
-        return tag_of(self.rdata())
+        return key_tag(self.rdata())
 
 
 class Entry:
@@ -40,8 +41,8 @@ class Entry:
         return (self.key.tag() + self.off) % 65536, self.algorithm, 2, digest
 
     def rdata(self):
-        *numbers, octets = self.fields()
-        return struct.pack("!HBB", *numbers) + octets
+        tag, algorithm, digest_type, digest = self.fields()
+        return wire.ds(tag, digest_type, digest, algorithm)
 
     def line(self):
         *numbers, octets = self.fields()
@@ -56,10 +57,8 @@ class Signature:
         self.times, self.algorithm, self.off, self.word = SOUND, 13, 0, "good"
 
     def rdata(self, rtype, octets):
-        begins, ends = self.times
         tag = (self.key.tag() + self.off) % 65536
-        front = struct.pack("!HBBIIIH", TYPES[rtype], self.algorithm, self.labels, 3600, ends, begins, tag)
-        return front + name(self.signer) + octets
+        return wire.rrsig(TYPES[rtype], self.labels, name(self.signer), tag, octets, self.times, self.algorithm)
 
 
 class Rrset:
@@ -114,8 +113,7 @@ class Chain:
 
 
 def response(answers, authority):
-    octets = struct.pack("!HHHHHH", 1, 0x8400, 0, len(answers), len(authority), 0) + b"".join(answers + authority)
-    return struct.pack("!H", len(octets)) + octets
+    return framed([wire.header(1, (0, len(answers), len(authority), 0)) + b"".join(answers + authority)])
 
 
 # The six shapes, of one zone.

@@ -2,6 +2,8 @@
 import struct
 import unittest
 
+from dnssec_check_tools.capturing.frames import framed
+from dnssec_check_tools.wire import header
 from messages import DNSKEY, message, name, record, signed
 from zones import Hashing, hash_text
 
@@ -17,15 +19,14 @@ SIGNED = [signed("example.", "DNSKEY", DNSKEY), signed("host.example.", "A", ADD
 def filled(size):
     """A response of so many octets, its length in front: the key and the address with their signatures, and a TXT record
     of the root with the rest, all zeros."""
-    front = struct.pack("!HHHHHH", 1, 0x8400, 0, 5, 0, 0) + b"".join(SIGNED)
+    front = header(1, (0, 5, 0, 0)) + b"".join(SIGNED)
     return struct.pack("!H", size) + front + record(name("."), "TXT", bytes(size - len(front) - 11))
 
 
 def hosts(first, count):
     """A message of so many addresses, each of a name of its own."""
     octets = b"".join(record(name(f"n{number}.example."), "A", ADDRESS) for number in range(first, first + count))
-    front = struct.pack("!HHHHHH", 1, 0x8400, 0, count, 0, 0)
-    return struct.pack("!H", len(front + octets)) + front + octets
+    return framed([header(1, (0, count, 0, 0)) + octets])
 
 
 class Octets(Desk):
@@ -84,8 +85,7 @@ class Numbers(Desk):
         self.assert_refused("401 message 64", capture=KEYS + hosts(0, 1) * 62 + self.query())
 
     def query(self):
-        octets = struct.pack("!HHHHHH", 1, 0, 0, 0, 0, 0)
-        return struct.pack("!H", len(octets)) + octets
+        return framed([header(1, (0, 0, 0, 0), 0)])
 
 
 class Signatures(Desk):

@@ -5,7 +5,7 @@ import unittest
 from cryptography.hazmat.primitives import hashes
 from cryptography.hazmat.primitives.asymmetric import padding, rsa
 
-from verifying import entries, rsa as keys
+from dnssec_check_tools.verifying import entries, rsa as keys
 
 HASHES = {5: "sha1", 7: "sha1", 8: "sha256", 10: "sha512"}
 SIZES = [(5, 511, False), (5, 512, True), (7, 511, False), (7, 512, True), (8, 504, False), (8, 511, False),

@@ -8,7 +8,7 @@ from unittest import mock
 from cryptography.exceptions import UnsupportedAlgorithm
 
 from tool import DATA, TOOLS, run, run_program
-from verifying import entries
+from dnssec_check_tools.verifying import entries
 
 P256_ORDER = 0xFFFFFFFF00000000FFFFFFFFFFFFFFFFBCE6FAADA7179E84F3B9CAC2FC632551
 

@@ -1,0 +1,88 @@
+"""Questions as people write them, and the files of them."""
+import os
+import re
+from typing import Dict, List, NamedTuple, Optional, Tuple
+
+from ..command import read, shown
+
+from .faults import Refusal, WrongLine
+from .kinds import type_of
+
+LINE = re.compile(r"(.*)(?:/|[ \t])[ \t]*(\S+)", re.DOTALL)
+
+
+class Question(NamedTuple):
+    name: str
+    kind: int
+
+
+def name_of(text: str) -> str:
+    """The name with a dot at its end; octets that no argument or no text can have are written `\\DDD`."""
+    name = "".join(f"\\{ord(each) & 0xFF:03}" if each == "\0" or "\udc80" <= each <= "\udcff" else each for each in text)
+    return name if ends_with_dot(name) else name + "."
+
+
+def ends_with_dot(name: str) -> bool:
+    """Whether the last dot is one, and no octet of a label behind a backslash."""
+    front = name[:-1]
+    return name.endswith(".") and (len(front) - len(front.rstrip("\\"))) % 2 == 0
+
+
+def question_of_word(word: str) -> Optional[Question]:
+    """The question that a word of the command line is, None where it's no question."""
+    name, slash, kind = word.rpartition("/")
+    if not slash or not name or word.startswith("/") or os.path.lexists(word):
+        return None
+    number = type_of(kind)
+    return None if number is None else Question(name_of(name), number)
+
+
+def question_of_line(line: str) -> Optional[Question]:
+    """The question of a line `NAME/TYPE` or `NAME TYPE`, None where it's none."""
+    match = LINE.fullmatch(line)
+    number = type_of(match[2]) if match else None
+    if match is None or number is None or not match[1].strip():
+        return None
+    return Question(name_of(match[1].rstrip(" \t")), number)
+
+
+def lines_of(path: str) -> List[Tuple[int, str]]:
+    """Each line that isn't empty or a comment, with its number."""
+    lines = read(path).decode("utf-8", "surrogateescape").split("\n")
+    stripped = ((number, line.strip(" \t\r")) for number, line in enumerate(lines, 1))
+    return [(number, line) for number, line in stripped if line and not line.startswith("#")]
+
+
+def questions_of_file(path: str) -> List[Question]:
+    questions = []
+    for number, line in lines_of(path):
+        question = question_of_line(re.sub(r"[ \t]#.*", "", line).rstrip(" \t"))
+        if question is None:
+            raise Refusal(f"line {number} of {shown(path)} is no question: write NAME/TYPE or NAME TYPE")
+        questions.append(question)
+    return questions
+
+
+def questions_of_split(folder: str) -> Dict[str, List[Question]]:
+    """By the name of a capture its own questions, as `capture --split` lists them; none where there is no list."""
+    path = os.path.join(folder, "questions")
+    questions: Dict[str, List[Question]] = {}
+    if not os.path.isfile(path):
+        return questions
+    for number, line in lines_of(path):
+        name, _, rest = line.partition(" ")
+        question = question_of_line(rest)
+        if question is None:
+            raise Refusal(f"line {number} of {shown(path)} isn't one of `capture --split`: CAPTURE NAME TYPE")
+        questions.setdefault(name + ".cap", []).append(question)
+    return questions
+
+
+def wrong_word(word: str) -> WrongLine:
+    """Why a word is neither a question nor a capture."""
+    name, slash, kind = word.rpartition("/")
+    if word.startswith("/"):
+        return WrongLine(f"{shown(word)}: there is no such file")
+    if slash and name:
+        return WrongLine(f"{shown(word)}: there is no such file, and it's no question, since {kind!r} is no type")
+    return WrongLine(f"{shown(word)}: there is no such file; a question is written NAME/TYPE, as www.example.com/AAAA")

@@ -1,0 +1,1 @@
+"""Captures made of packets, streams, text and the answers of others."""

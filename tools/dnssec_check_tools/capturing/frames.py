@@ -1,0 +1,27 @@
+"""Messages each behind its length in two octets, as TCP carries them and capture files have them (RFC 1035 4.2.2)."""
+from typing import Iterable, List, Optional, Tuple
+from .messages import is_message
+from .octets import Octets, number_at
+
+
+def frames_of(octets: Octets) -> Tuple[List[bytes], int]:
+    """The messages of a stream, and the place behind the last: the end, a torn message, or one of length 0."""
+    messages, place = [], 0
+    while place + 2 <= len(octets):
+        end = place + 2 + number_at(octets, place, 2)
+        if end == place + 2 or end > len(octets):
+            break
+        messages.append(bytes(octets[place + 2:end]))
+        place = end
+    return messages, place
+
+
+def framed(messages: Iterable[bytes]) -> bytes:
+    return b"".join(len(octets).to_bytes(2, "big") + octets for octets in messages)
+
+
+def frame_at(octets: Octets, place: int) -> Optional[bytes]:
+    """The message there where it is one as a whole, else None."""
+    front, size = place + 2, int.from_bytes(octets[place:place + 2], "big")
+    message = bytes(octets[front:front + size])
+    return message if len(message) == size and is_message(message) else None

@@ -1,0 +1,49 @@
+"""What the answers lack that whoever asks for a verdict will stumble over."""
+from typing import List, Sequence, Set
+from .messages import (TYPE_DNSKEY, TYPE_DS, TYPE_RRSIG, Labels, lower, name_at, name_text, names_above, question_of,
+                       records_of)
+from .octets import Incomplete
+
+SIGNER = 18  # where the signer's name stands in the RDATA of an RRSIG record (RFC 4034 3.1)
+
+
+class Zones:
+    """The zones that the answers tell of."""
+
+    def __init__(self) -> None:
+        self.signers: List[Labels] = []
+        self.delegated: List[Labels] = []
+        self.with_keys: Set[Labels] = set()
+        self.asked: Set[Labels] = set()
+
+    def take(self, octets: bytes) -> None:
+        question = question_of(octets)
+        if question and question.kind != TYPE_DS:
+            self.asked.add(question.name)
+        for record in records_of(octets):
+            if record.kind == TYPE_RRSIG:
+                self.signers.append(lower(name_at(octets, record.front + SIGNER)))
+            elif record.kind == TYPE_DS:
+                self.delegated.append(lower(name_at(octets, record.name)))
+            elif record.kind == TYPE_DNSKEY:
+                self.with_keys.add(lower(name_at(octets, record.name)))
+
+    def without_keys(self) -> List[Labels]:
+        """Those that signed something, or that a delegation leads to on the way to a name that was asked for."""
+        above = names_above(self.asked)
+        on_the_way = [zone for zone in self.delegated if zone in above]
+        return [zone for zone in dict.fromkeys(self.signers + on_the_way) if zone not in self.with_keys]
+
+
+def notes_of(messages: Sequence[bytes]) -> List[str]:
+    zones = Zones()
+    for octets in messages:
+        try:
+            zones.take(octets)
+        except Incomplete:
+            pass
+    missing = [name_text(zone) for zone in zones.without_keys()]
+    notes = [f"no answer has the DNSKEY records of {zone}, a zone on the way" for zone in missing]
+    if not zones.signers:
+        notes.append("no answer has a signature (RRSIG): were they asked without the flag DO?")
+    return notes

@@ -1,0 +1,107 @@
+"""What the files that are named have in them: their kind, and the messages of each kind."""
+from typing import Callable, Counter, Dict, List, Optional, Sequence, Set
+
+from ..command import read, shown
+
+from .dnsviz import entries_of_dnsviz
+from .entries import Entry, Found, InPacket, Message, Omission, PassedOver, Refusal
+from .frames import frames_of
+from .octets import Incomplete
+from .packed import unpacked
+from .packets import BadPacket, Datagram, Other, Segment, payload_of
+from .pcap import Packet, TornFile, is_packet_capture, packets_of
+from .streams import Streams
+from .tshark import entries_of_tshark
+
+# Streams of one file, and lists in hex
+
+
+def entries_of_stream(octets: bytes, path: str) -> List[Entry]:
+    messages, end = frames_of(octets)
+    if octets[end:end + 2] == b"\x00\x00":
+        raise Refusal(f"{path}: a message of length 0 at octet {end}")
+    if end < len(octets):
+        raise Refusal(f"{path}: it ends within the message at octet {end}")
+    return [Message(message, f"message {number} of {path}") for number, message in enumerate(messages, 1)]
+
+
+def octets_of_line(line: str, place: str) -> bytes:
+    try:
+        return bytes.fromhex(line.replace(":", " "))
+    except ValueError as fault:
+        raise Refusal(f"{place}: no message in hex") from fault
+
+
+def entries_of_hex(octets: bytes, path: str) -> List[Entry]:
+    lines = enumerate(octets.decode("ascii", "replace").split("\n"), 1)
+    places = [(f"line {number} of {path}", line.strip()) for number, line in lines]
+    return [Message(octets_of_line(line, place), place) for place, line in places if line and line[0] not in "#;"]
+
+
+# Packets
+
+
+def entries_of_packet(packet: Packet, place: InPacket, ports: Set[int], streams: Streams, others: Counter[str]) -> List[Entry]:
+    """What a packet brings; one that carries something else is counted in `others`."""
+    try:
+        payload = payload_of(packet, ports)
+    except (BadPacket, Incomplete) as fault:
+        return [Omission(place, str(fault))]
+    except Other as other:
+        others[str(other)] += 1
+        return []
+    if isinstance(payload, Segment):
+        return streams.take(payload, place)
+    return [Message(payload.octets, place, (Datagram, frozenset(payload[:2])))]
+
+
+def in_order(entries: List[Entry], last: InPacket) -> List[Entry]:
+    """Each entry where its packet stands; what is told of a file or a stream as a whole comes behind the last one."""
+    return sorted(entries, key=lambda entry: entry.place if isinstance(entry.place, InPacket) else last)
+
+
+def entries_of_pcap(octets: bytes, path: str, ports: Set[int]) -> List[Found]:
+    if not is_packet_capture(octets):
+        raise Refusal(f"{path}: it is neither a pcap nor a pcapng")
+    streams, place = Streams(path), InPacket(0, path)
+    entries: List[Entry] = []
+    others: Counter[str] = Counter()
+    try:
+        for packet in packets_of(octets):
+            place = InPacket(packet.number, path)
+            entries += entries_of_packet(packet, place, ports, streams, others)
+    except TornFile as fault:
+        entries.append(Omission(f"what is behind {place}", str(fault)))
+    ordered = in_order(entries + streams.rest(), place)
+    return [*ordered, PassedOver(f"packets of {path}", others)] if others else [*ordered]
+
+
+# All kinds
+
+
+def kind_of(octets: bytes) -> str:
+    """The kind of a file that is named alone. Text has no octet 0, and each message has some."""
+    if is_packet_capture(octets):
+        return "pcap"
+    if b"\x00" in octets:
+        return "stream"
+    return "dnsviz" if octets.lstrip()[:1] == b"{" else "hex"
+
+
+READERS: Dict[str, Callable[[bytes, str], Sequence[Found]]] = {
+    "stream": entries_of_stream, "hex": entries_of_hex, "dnsviz": entries_of_dnsviz}
+
+
+def entries_of(kind: Optional[str], path: str, ports: Set[int]) -> Sequence[Found]:
+    """The entries of a file of this kind, None where that has to be found out."""
+    name = shown(path)
+    if kind == "tshark":
+        return entries_of_tshark(path, name, ports)
+    octets = read(path)
+    if kind == "stream":
+        return entries_of_stream(octets, name)
+    octets, torn = unpacked(octets, name)
+    kind = kind or kind_of(octets)
+    if kind == "pcap":
+        return [*entries_of_pcap(octets, name, ports), *torn]
+    return [*READERS[kind](octets, name), *torn]

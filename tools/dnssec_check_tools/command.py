@@ -1,0 +1,80 @@
+"""The command line of a tool, the files that it names, and how it ends; `-` is the standard input or output."""
+import argparse
+import os
+import sys
+from typing import Any, Callable, List, NoReturn
+
+VERSION = "0.10.0"  # of the tools and of the Debian package, and the one that the program tells
+INTERRUPTED = 130
+
+
+def run(main: Callable[[List[str]], int]) -> NoReturn:
+    """Ends with the status of `main`; an interrupt, or a fault of a file that `main` lets through, has one line."""
+    try:
+        try:
+            status = main(sys.argv[1:])
+        finally:
+            if sys.stdout:
+                sys.stdout.flush()
+    except KeyboardInterrupt:
+        status = INTERRUPTED
+        tell("interrupted")
+    except OSError as fault:
+        status = 1
+        close_output()
+        tell(fault)
+    sys.exit(status)
+
+
+def close_output() -> None:
+    """Lets nobody try again to write what couldn't be written."""
+    setattr(sys, "stdout", None)
+
+
+def tell(text: Any) -> None:
+    """A line on the standard error, behind the tool's name; where that is closed, nobody is left to be told."""
+    if sys.stderr is None:
+        return
+    try:
+        print(f"{os.path.basename(sys.argv[0])}: {text}", file=sys.stderr)
+    except OSError:
+        setattr(sys, "stderr", None)
+
+
+def shown(text: Any) -> str:
+    """A path, or what else a stranger wrote, as a line may have it."""
+    return text if text.isprintable() else ascii(text)
+
+
+def parser_of(text: Any) -> argparse.ArgumentParser:
+    """A parser whose help is the tool's own description: its first line, the options, and the rest."""
+    front, details = text.split("\n", 1)
+    parser = argparse.ArgumentParser(
+        description=front, epilog=details, formatter_class=argparse.RawDescriptionHelpFormatter, allow_abbrev=False)
+    parser.add_argument("--version", action="version", version=f"%(prog)s {VERSION}")
+    return parser
+
+
+def read(path: str) -> bytes:
+    if path != "-":
+        with open(path, "rb") as file:
+            return file.read()
+    if sys.stdin is None:
+        raise OSError("the standard input is closed")
+    return sys.stdin.buffer.read()
+
+
+def write(path: str, octets: bytes) -> None:
+    """Writes it now, so that a fault is met here; what couldn't be written isn't tried again at the end."""
+    if path != "-":
+        with open(path, "wb") as file:
+            file.write(octets)
+        return
+    if sys.stdout is None:
+        raise OSError("the standard output is closed")
+    try:
+        sys.stdout.buffer.write(octets)
+        sys.stdout.buffer.flush()
+    except OSError:
+        close_output()
+        raise

@@ -1,0 +1,245 @@
+"""The boxes and edges that each line of an explanation puts into the picture of the chain."""
+from typing import Callable, Dict, List, Set, Tuple
+from .explanation import Explanation, Line
+from .chain import (FAILS, FOLLOWS, HOLDS, MISSING, PLAIN, UNDER, Chain, Key, anchor_box, ds_box, key_box, keys_box,
+                    rrset_box)
+from .holding import UNUSABLE
+from .missing import DNAME, DNSKEY, DS, ROLES
+from .values import date, flag_names, owned
+from .vouchers import is_voucher
+
+QUESTION = ("question",)
+# The types that only lead on to a zone; all others are what is asked for, or deny it.
+OF_ZONES = (DS, DNSKEY)
+
+
+def chain_of(told: Explanation) -> Chain:
+    """The chain of an explanation."""
+    chain, signers = Chain(), {line["rrset"]: line["signer"] for line in told.of("signed")}
+    scene = Scene(told, chain, signers)
+    for line in told.lines:
+        DRAWN[line["line"]](scene, line)
+    value = told.value
+    state = FAILS if value["verdict"] in ("Bogus", "Indeterminate") else PLAIN
+    chain.add(QUESTION, None, (owned(value["name"], value["type"]), value["verdict"]), state)
+    scene.join_question()
+    return chain
+
+
+class Scene:
+    """A chain as it is drawn: who signs which RRset by lines that hold, and what leads to the question."""
+
+    def __init__(self, told: Explanation, chain: Chain, signers: Dict[int, str]) -> None:
+        self.told, self.chain, self.signers = told, chain, signers
+        self.leading: List[Tuple[Key, str, str, Key]] = []
+
+    def lead(self, box: Key, state: str, text: str = "", head: Key = QUESTION) -> None:
+        """An edge to the question, or to what leads to it."""
+        self.leading.append((box, state, text, head))
+
+    def join_question(self) -> None:
+        self.lead_over_aliases()
+        for box, state, text, head in self.leading:
+            if box in self.chain.boxes and head in self.chain.boxes:
+                self.chain.join(box, head, state, text)
+        self.lay_under()
+
+    def lead_over_aliases(self) -> None:
+        """From each link of the way to the next, and from the last, or the answer, to the question."""
+        value = self.told.value
+        way = [("rrset", link["rrset"]) for link in value["aliases"]]
+        way += [("rrset", value["rrset"])] if "rrset" in value else []
+        for place, box in enumerate(way):
+            self.lead(box, HOLDS, "alias" if place < len(value["aliases"]) else "", (way + [QUESTION])[place + 1])
+
+    def lay_under(self) -> None:
+        """What no edge leads to stands under the last link of the chain, and the question under all."""
+        links = [line["rrset"] for line in self.told.of("trusted")]
+        heads = {each.head for each in self.chain.edges.values()}
+        last = ("rrset", links[-1]) if links else None
+        for key, box in list(self.chain.boxes.items()):
+            if last and key not in heads and key != last and box.state in (FAILS, MISSING):
+                self.chain.join(last, key, UNDER)
+        if last:
+            self.chain.join(last, QUESTION, UNDER)
+
+    def voucher(self, line: Line, zone: str, state: str) -> Key:
+        """The box of the anchor or DS record that a line names by `anchor`, or by `ds_rrset` and `ds_record`."""
+        if "anchor" in line:
+            return anchor_box(self.chain, line["anchor"], zone, state, line.get("digest_type"))
+        place, told = (line["ds_rrset"], line["ds_record"]), line if "digest_type" in line else None
+        return ds_box(self.chain, self.signers, place, zone, state, told)
+
+    def of_signature(self, line: Line, state: str, text: str = "") -> None:
+        """The edge from the key that signs to the RRset, whichever zone that is in."""
+        tail = key_box(self.chain, line["signer"], line, FOLLOWS if state == FOLLOWS else PLAIN)
+        head = rrset_box(self.chain, line["signer"], line["rrset"], line["owner"], line["type"], state)
+        if line["type"] not in OF_ZONES:
+            self.lead(head, state)
+        self.chain.join(tail, head, state, text)
+
+
+def trusted(scene: Scene, line: Line) -> None:
+    zone = line["zone"]
+    key = key_box(scene.chain, zone, line, HOLDS)
+    scene.chain.join(scene.voucher(line, zone, HOLDS), key, HOLDS)
+    scene.chain.join(key, keys_box(scene.chain, zone, line["rrset"], HOLDS), HOLDS)
+
+
+def signed(scene: Scene, line: Line) -> None:
+    zone = line["signer"]
+    key, keys = key_box(scene.chain, zone, line, HOLDS), ("rrset", line["keys"])
+    if (key, keys, "") not in scene.chain.edges:
+        scene.chain.join(keys_box(scene.chain, zone, line["keys"], HOLDS), key, HOLDS)
+    for head in signed_boxes(scene, line):
+        scene.chain.join(key, head, HOLDS)
+
+
+def signed_boxes(scene: Scene, line: Line) -> List[Key]:
+    """The RRset, or of a DS RRset the records that lines name."""
+    zone, number = line["signer"], line["rrset"]
+    records = sorted(records_of(scene.told, number)) if line["type"] == DS else []
+    if not records:
+        return [rrset_box(scene.chain, zone, number, line["owner"], line["type"], HOLDS)]
+    return [ds_box(scene.chain, scene.signers, (number, record), line["owner"], HOLDS) for record in records]
+
+
+def records_of(told: Explanation, number: int) -> Set[int]:
+    """The numbers of the records of the DS RRset that are in the picture."""
+    by_ds = {line["ds_record"] for line in told.lines if line.get("ds_rrset") == number}
+    return by_ds | {line["record"] for line in told.lines if line.get("rrset") == number and names_ds(line)}
+
+
+def names_ds(line: Line) -> bool:
+    return line["line"] == "unusable" or (line["line"] == "reason" and "record" in line and is_voucher(line))
+
+
+def proof(_scene: Scene, _line: Line) -> None:
+    """Its parts have the boxes."""
+
+
+def part(scene: Scene, line: Line) -> None:
+    if "owner" in line:
+        cuts = [("cut", each["cut"]) for each in scene.told.of("case")]
+        text = f"{ROLES[line['role']]}\n{line['relation']}"
+        scene.lead(("rrset", line["rrset"]), HOLDS, text, cuts[0] if cuts else QUESTION)
+
+
+def cut_box(scene: Scene, name: str) -> Key:
+    """The name from which on nothing has to be signed."""
+    return scene.chain.add(("cut", name), None, (name, "may be unsigned"), PLAIN)
+
+
+def case(scene: Scene, line: Line) -> None:
+    scene.lead(cut_box(scene, line["cut"]), PLAIN)
+
+
+def unusable(scene: Scene, line: Line) -> None:
+    box = ds_box(scene.chain, scene.signers, (line["rrset"], line["record"]), line["owner"], PLAIN, line)
+    scene.chain.join(box, cut_box(scene, line["owner"]), PLAIN, UNUSABLE[line["why"]])
+
+
+def unseen(_scene: Scene, _line: Line) -> None:
+    """Nothing of the picture."""
+
+
+def key(scene: Scene, line: Line) -> None:
+    zone = line["zone"]
+    box = key_box(scene.chain, zone, line, PLAIN, (flag_names(line["flags"]),))
+    keys = keys_box(scene.chain, zone, line["rrset"], PLAIN)
+    if "signature" in line:
+        scene.chain.join(box, keys, HOLDS)
+    if "anchor" in line:
+        scene.chain.join(anchor_box(scene.chain, line["anchor"], zone, HOLDS), box, HOLDS)
+    if "ds_record" in line:
+        place = line["ds_rrset"], line["ds_record"]
+        scene.chain.join(ds_box(scene.chain, scene.signers, place, zone, HOLDS), box, HOLDS)
+
+
+def reason(scene: Scene, line: Line) -> None:
+    if "signer" in line:
+        scene.of_signature(line, FAILS, signature_text(scene.told, line))
+    elif is_voucher(line):
+        of_voucher(scene, line)
+    else:
+        REASONS[line["word"]](scene, line)
+
+
+def signature_text(told: Explanation, line: Line) -> str:
+    """The word, and the window where it is what fails."""
+    if line["word"] == "expired":
+        return f"expired {date(told.now - line['by'], told.now)}"
+    if line["word"] == "not-yet":
+        return f"from {date(told.now + line['by'], told.now)}"
+    return f"{line['word']} {line['name']}" if line["word"] == "no-closer" else line["word"]
+
+
+def of_voucher(scene: Scene, line: Line) -> None:
+    """What names a key that isn't there, or isn't the one that it names."""
+    zone = line["zone"]
+    if "anchor" in line:
+        tail = anchor_box(scene.chain, line["anchor"], zone, FAILS, line.get("digest_type"))
+    else:
+        tail = ds_box(scene.chain, scene.signers, (line["rrset"], line["record"]), zone, FAILS, line)
+    known = {(each["tag"], each["algorithm"]) for each in scene.told.keys(zone)}
+    is_there = (line["tag"], line["algorithm"]) in known
+    head = key_box(scene.chain, zone, line, PLAIN if is_there else MISSING)
+    scene.chain.join(tail, head, MISSING, line["word"])
+
+
+def not_self_signed(scene: Scene, line: Line) -> None:
+    box = key_box(scene.chain, line["zone"], line, PLAIN)
+    scene.chain.join(box, keys_box(scene.chain, line["zone"], line["rrset"], PLAIN), MISSING, line["word"])
+
+
+def unsigned(scene: Scene, line: Line) -> None:
+    zone = line["owner"] if line["type"] == DNSKEY else None
+    box = rrset_box(scene.chain, zone, line["rrset"], line["owner"], line["type"], FAILS, ("unsigned",))
+    if line["type"] not in OF_ZONES:
+        scene.lead(box, FAILS)
+
+
+def at_zone(scene: Scene, line: Line) -> None:
+    """What a zone lacks, as an empty box."""
+    scene.chain.add((line["word"], line["zone"]), line["zone"], (ABSENT[line["word"]],), MISSING)
+
+
+def at_name(scene: Scene, line: Line) -> None:
+    """What a proof lacks, as an empty box with the name."""
+    role = (ROLES[line["role"]],) if "role" in line else ()
+    box = scene.chain.add((line["word"], line["zone"], line["name"]), line["zone"],
+                          (f"no {line['kind'].upper()}", line["name"], *role), MISSING)
+    scene.lead(box, MISSING)
+
+
+def record(scene: Scene, line: Line) -> None:
+    """A record that says something else, or that can't be used."""
+    zone, name = line.get("zone"), line["name"] if line.get("name") else line["owner"]
+    kind = line["kind"].upper() if "kind" in line else owned("", line["type"]).strip()
+    box = scene.chain.add(("record", line["rrset"], line["record"]), zone, (f"{kind}, record {line['record']}", name), FAILS)
+    scene.lead(box, FAILS, line["word"])
+
+
+def dname(scene: Scene, line: Line) -> None:
+    box = rrset_box(scene.chain, None, line["rrset"], line["name"], DNAME, FAILS)
+    scene.lead(box, FAILS, line["word"])
+
+
+def question(scene: Scene, line: Line) -> None:
+    box = scene.chain.add((line["word"],), line.get("zone"), (ABSENT[line["word"]],), MISSING)
+    scene.lead(box, MISSING)
+
+
+def follows(scene: Scene, line: Line) -> None:
+    scene.of_signature(line, FOLLOWS)
+
+
+ABSENT = {"no-anchor": "no trust anchor", "dnskey-missing": "no DNSKEY", "ds-missing": "no DS", "answer-missing": "no answer",
+          "denial-unproved": "no proof"}
+REASONS = {
+    "no-anchor": at_zone, "dnskey-missing": at_zone, "ds-missing": at_zone, "not-self-signed": not_self_signed,
+    "unsigned": unsigned, "dname": dname, "nsec3-iterations": record, "nsec3-unusable": record, "delegation": record,
+    "type-held": record, "match-missing": at_name, "encloser-missing": at_name, "cover-missing": at_name,
+    "answer-missing": question, "denial-unproved": question}
+DRAWN = {"trusted": trusted, "signed": signed, "proof": proof, "part": part, "case": case, "unusable": unusable,
+         "hope": unseen, "holds": unseen, "rrset": unseen, "key": key, "reason": reason, "follows": follows}

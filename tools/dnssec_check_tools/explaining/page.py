@@ -1,0 +1,89 @@
+"""One page of HTML for verdicts: the sentences, a picture of each chain, and the records. It loads nothing, and what
+strangers wrote is text in it."""
+from dataclasses import dataclass
+from importlib import resources
+from typing import Any, List, Optional, Sequence, Tuple
+
+from ..asking.faults import escaped, lacking
+from ..asking.moments import moment_text
+from .drawn import chain_of
+from .explanation import Explanation
+from .picture import svg_of
+from .said import Said
+from .sentences import sentence, why
+
+PAGE, TEMPLATES = "page.html", "templates"
+SVG = "<svg "  # what a picture begins with, behind which the template names it
+
+
+@dataclass
+class Entry:
+    """A verdict: what is asked, the verdict in words, the capture's name and the moment, and what explains it, None where there
+    is no verdict."""
+
+    question: str
+    said: str
+    capture: str
+    moment: int
+    told: Optional[Explanation]
+
+
+@dataclass
+class Chain:
+    """What explains a verdict, as the page has it: why it isn't secure, the picture, and what each line says."""
+
+    why: List[Said]
+    picture_markup: Any
+    lines: List[Said]
+
+
+@dataclass
+class Verdict:
+    question: str
+    said: str
+    capture: str
+    moment: str
+    chain: Optional[Chain]
+
+
+def library() -> Any:
+    """Imported where a page is asked for, so that verdicts do without it."""
+    try:
+        import jinja2
+    except ImportError as fault:
+        raise lacking("jinja2", "--html", fault) from fault
+    return jinja2
+
+
+def markup(text: str) -> Any:
+    """HTML that is taken as it is."""
+    from markupsafe import Markup
+    return Markup(text)
+
+
+def template_text(name: str) -> str:
+    return resources.files(__package__).joinpath(TEMPLATES).joinpath(name).read_text("utf-8")
+
+
+def shown(value: Any) -> Any:
+    """What anybody wrote with what can't be shown as `\\xNN`; that is escaped for HTML behind this, and markup isn't."""
+    return escaped(value) if isinstance(value, str) and not hasattr(value, "__html__") else value
+
+
+def page_of(entries: Sequence[Entry], captures: Sequence[Tuple[str, List[str]]]) -> str:
+    """The page: its entries, and the records of each capture, a line each, by the capture's name."""
+    jinja = library()
+    environment = jinja.Environment(loader=jinja.FunctionLoader(template_text), autoescape=True, finalize=shown,
+                                    undefined=jinja.StrictUndefined, trim_blocks=True, lstrip_blocks=True,
+                                    keep_trailing_newline=True)
+    listed = [(name, markup("\n").join(map(shown, lines))) for name, lines in captures]
+    verdicts = [verdict_of(each) for each in entries]
+    return environment.get_template(PAGE).render(verdicts=verdicts, captures=listed)
+
+
+def verdict_of(entry: Entry) -> Verdict:
+    chain = None
+    if entry.told:
+        picture = markup(svg_of(chain_of(entry.told))[len(SVG):])
+        chain = Chain(why(entry.told), picture, [sentence(entry.told, line) for line in entry.told.lines])
+    return Verdict(entry.question, entry.said, entry.capture, moment_text(entry.moment), chain)

@@ -1,0 +1,240 @@
+"""Judges questions by captured DNS messages, in one command: what dnssec_check lists is verified, and each is asked.
+
+Each WORD is a question, a capture or a folder. A question is NAME/TYPE, as www.example.com/AAAA: what is behind its last
+`/` is a type, by mnemonic or by number, it doesn't begin with `/`, and there is no file of that name. Every other word
+is a capture file, `-` for the standard input, or a folder: its files that are called `capture` or end with `.cap`, and
+those of all folders in it. A missing last dot of a name is added; no other search is made. Behind `--` a word may begin
+with `-`.
+
+Each question is put to each capture, at each moment; signatures are verified once for a capture. Where no question is
+given, each capture of a folder that `dnssec_check-capture --split` wrote is asked its own.
+
+Without options a line is printed for each question, with the verdict, until when the signatures that carry it are valid,
+and what the aliases on the way lead to, or what is refused and what to do. Below it, where it isn't secure, stands why:
+what fails first (FAIL) with its extended DNS error [EDE N], what the zone has beside what is wanted (HAS), what follows
+(THEN), and how far the chain holds (HOLDS); where something may be unsigned, why (WHY). --tsv has a first line with the
+names of its columns: capture, moment (in seconds since 1970), name, type, status, verdict, evidence, until, reason, ede;
+--jsonl has the same values by these names. The verdict is the program's word, or `refused` or `fault`. What can't be shown
+in a line is written as `\\xNN`. --html writes a page besides, which loads nothing.
+
+With --scheduler, captures go as octets to the workers of a Dask scheduler. A worker needs Python with the packages
+distributed and cryptography, and `dnssec_check` on its own path; the tools' modules are sent to it. Captures of a worker
+that is lost are judged by others.
+
+Types by mnemonic, zone files of anchors and --records need the package dnspython (Debian: python3-dnspython),
+signatures on curves cryptography (python3-cryptography), --scheduler distributed (python3-distributed), and the bar of
+progress, which only a terminal gets, rich (python3-rich). --html needs jinja2 (python3-jinja2), and for its pictures
+Graphviz (graphviz).
+
+exit status: that of the worst verdict, as `dnssec_check check` has it. From the best to the worst: 0, secure; 3,
+Insecure; 4, Pending; 5, Bogus; 6, Indeterminate; 7, an input is refused; 1, the machine failed. 2, the command line is
+wrong, and nothing was judged; 130, it was interrupted.
+"""
+import argparse
+import os
+import sys
+from typing import Any, Dict, Iterable, Iterator, List, Optional, Tuple
+
+from .asking.anchors import ROOT, anchors_of
+from .asking.captures import all_of, captures_of, octets_of, told_apart
+from .asking.faults import Failure, Refusal, WrongLine, escaped
+from .asking.questions import Question
+from .asking.kinds import table
+from .asking.moments import seconds_of
+from .command import parser_of, read, run, tell, write
+from .judging.cluster import by_workers
+from .judging.page import Page
+from .judging.progress import progress
+from .judging.records import lines_of
+from .judging.spread import Task, in_processes, of_unread, one_by_one
+from .judging.text import Lines, json_line, tsv_head, tsv_line
+from .judging.work import Common, Judged, Row
+from .program import FAILED, FROM_BEST, NAME, REFUSED, program_of
+
+INPUTS = ("anchors", "keys", "macs", "questions")  # the options that name a file to read
+
+
+Asked = List[Tuple[str, List[Question]]]  # captures with their questions
+
+
+def processors() -> int:
+    return len(os.sched_getaffinity(0)) if hasattr(os, "sched_getaffinity") else os.cpu_count() or 1
+
+
+def number_of_jobs(text: str) -> int:
+    if text.isascii() and text.isdigit() and 0 < int(text) < 10000:
+        return int(text)
+    raise ValueError
+
+
+def command_line() -> argparse.ArgumentParser:
+    parser = parser_of(__doc__)
+    parser.usage = "%(prog)s [OPTION ..] WORD ..\n       %(prog)s --records CAPTURE .."
+    parser.add_argument("words", nargs="*", metavar="WORD", help="a question NAME/TYPE, a capture, or a folder of them")
+    parser.add_argument("--at", action="append", metavar="MOMENT",
+                        help="`now`, seconds since 1970, or 2026-11-22T12:00:00Z; once for each moment; now by default")
+    parser.add_argument("--anchors", action="append", metavar="FILE",
+                        help=f"lines DS and KEY, DS and DNSKEY records of a zone file, or IANA's XML; else {ROOT}")
+    parser.add_argument("--keys", action="append", metavar="FILE", help="TSIG keys, as the program reads them")
+    parser.add_argument("--macs", action="append", metavar="FILE", help="the MACs of the requests of one capture")
+    parser.add_argument("--questions", action="append", default=[], metavar="FILE",
+                        help="a question a line, NAME/TYPE or NAME TYPE; what is behind # is passed over")
+    parser.add_argument("--tsv", action="store_true", help="a table, its fields parted by tabs")
+    parser.add_argument("--jsonl", action="store_true", help="an object of JSON for each question")
+    parser.add_argument("--html", action="append", metavar="FILE",
+                        help="write a page with the sentences, a picture of each chain, and the records; needs Graphviz")
+    parser.add_argument("--records", action="store_true", help="print the records of the captures, with their numbers")
+    parser.add_argument("--jobs", type=number_of_jobs, metavar="N", help="captures at once; else as many as processors")
+    parser.add_argument("--scheduler", action="append", metavar="ADDRESS", help="the address of a Dask scheduler")
+    parser.add_argument("--program", action="append", metavar="FILE", help=f"where {NAME} is, if not on the path")
+    return parser
+
+
+def fault_of(options: argparse.Namespace) -> Optional[str]:
+    """What is wrong with the words and options together, None where nothing is."""
+    inputs = [path for name in INPUTS for path in getattr(options, name) or ()]
+    if (options.words + inputs).count("-") > 1:
+        return "the standard input is named twice"
+    for name in ("anchors", "keys", "macs", "scheduler", "program", "html"):
+        if len(getattr(options, name) or ()) > 1:
+            return f"--{name} is given twice"
+    if options.tsv and options.jsonl:
+        return "--tsv and --jsonl exclude each other"
+    if options.macs and not options.keys:
+        return "--macs needs --keys: without keys no MAC is checked"
+    if options.scheduler and (options.program or options.jobs):
+        return "--scheduler goes without --program and --jobs: its workers have their own"
+    return None
+
+
+def once(values: Optional[List[Any]]) -> Any:
+    return values[0] if values else None
+
+
+def tasks_of(asked: Asked, page: Optional[Page]) -> Iterator[Task]:
+    """A task for each capture, read when it's its turn."""
+    for number, (path, questions) in enumerate(asked):
+        try:
+            task = Task(number, octets_of(path), None, questions)
+        except OSError as fault:
+            yield Task(number, b"", fault, questions)
+            continue
+        if page:
+            page.read(number, path, task.octets)
+        yield task
+
+
+def readable(tasks: Iterable[Task], report: "Report", common: Common) -> Iterator[Task]:
+    """The tasks that can be judged; of the others the fault is reported."""
+    for task in tasks:
+        if task.fault is None:
+            yield task
+        else:
+            report.take(task.number, of_unread(task, task.fault, common))
+
+
+class Report:
+    """Writes the verdicts in the order of the captures, and keeps the worst status; a page gets them too."""
+
+    def __init__(self, options: argparse.Namespace, asked: Asked, common: Common, page: Optional[Page]) -> None:
+        self.asked, self.worst, self.next, self.page = asked, 0, 0, page
+        self.waiting: Dict[int, Judged] = {}
+        lines = Lines(len(asked) > 1, len(common.moments) > 1, paths_of(options))
+        self.line = json_line if options.jsonl else tsv_line if options.tsv else lines.line
+
+    def take(self, number: int, judged: Judged) -> None:
+        self.waiting[number] = judged
+        while self.next in self.waiting:
+            path, found = self.asked[self.next][0], self.waiting.pop(self.next)
+            for note in found.notes:
+                tell(f"{escaped(path)}: {note}")
+            self.worst = max([self.worst, *(row.status for row in found.rows)], key=FROM_BEST.index)
+            write("-", "".join(self.line(path, row) + "\n" for row in found.rows).encode())
+            for row in found.rows:
+                self.add(path, row)
+            self.next += 1
+
+    def add(self, path: str, row: Row) -> None:
+        if self.page:
+            self.page.add(path, row)
+
+
+def paths_of(options: argparse.Namespace) -> Dict[str, str]:
+    """The files that are the same for all captures, by the names of their options."""
+    paths = {"anchors": once(options.anchors) or ROOT, "keys": once(options.keys), "macs": once(options.macs)}
+    return {name: path for name, path in paths.items() if path}
+
+
+def results_of(tasks: Iterable[Task], common: Common, options: argparse.Namespace, count: int) -> Iterator[Tuple[int, Judged]]:
+    if options.scheduler:
+        return by_workers(tasks, common, once(options.scheduler))
+    program, jobs = program_of(once(options.program), sys.argv[0]), min(options.jobs or processors(), count)
+    return in_processes(tasks, common, program, jobs) if jobs > 1 else one_by_one(tasks, common, program)
+
+
+def judge(options: argparse.Namespace) -> int:
+    """Judges all, and answers the worst status."""
+    table()  # each line has a type: without dnspython, that's told before anything is judged
+    asked = all_of(options.words, options.questions)
+    if options.macs and len(asked) > 1:
+        raise WrongLine("--macs is of one capture, and there are more")
+    moments = list(dict.fromkeys(map(seconds_of, options.at or ["now"])))
+    keys, macs = (read(path[0]) if path else None for path in (options.keys, options.macs))
+    common = Common(anchors_of(once(options.anchors), moments), keys, macs, moments)
+    page = Page(paths_of(options)) if options.html else None
+    report = Report(options, asked, common, page)
+    if options.tsv:
+        write("-", (tsv_head() + "\n").encode())
+    with progress(len(asked)) as advance:
+        for number, found in results_of(readable(tasks_of(asked, page), report, common), common, options, len(asked)):
+            report.take(number, found)
+            advance()
+    if page:
+        write(once(options.html), page.octets())
+    return report.worst
+
+
+def print_records(options: argparse.Namespace) -> int:
+    paths, questions = told_apart(options.words)
+    if not paths or questions:
+        raise WrongLine("--records is followed by captures, and by no question")
+    captures = captures_of(paths)
+    for capture in captures:
+        front = f"{escaped(capture.path)}: " if len(captures) > 1 else ""
+        write("-", "".join(front + line + "\n" for line in lines_of(octets_of(capture.path))).encode())
+    return 0
+
+
+def options_of(parser: argparse.ArgumentParser, words: List[str]) -> argparse.Namespace:
+    """The options, and among them the words, which behind `--` are all that stands there."""
+    place = words.index("--") if "--" in words else len(words)
+    options = parser.parse_intermixed_args(words[:place])
+    options.words += words[place + 1:]
+    return options
+
+
+def main(words: List[str]) -> int:
+    parser = command_line()
+    options = options_of(parser, words)
+    fault = fault_of(options)
+    if fault:
+        parser.error(fault)
+    try:
+        return print_records(options) if options.records else judge(options)
+    except WrongLine as fault:
+        parser.error(str(fault))
+    except Refusal as fault:
+        tell(f"refused: {fault}")
+        return REFUSED
+    except Failure as fault:
+        tell(fault)
+        return FAILED
+
+
+def start() -> None:
+    """Runs the tool by the words of the command line."""
+    run(main)
+
+
+if __name__ == "__main__":
+    start()

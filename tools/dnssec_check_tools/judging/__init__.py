@@ -1,0 +1,1 @@
+"""Captures judged by the program, here or by workers, and the verdicts told."""

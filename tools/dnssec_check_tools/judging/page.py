@@ -1,0 +1,34 @@
+"""The page of HTML that --html writes."""
+from typing import Dict, List, Tuple
+from ..asking.kinds import mnemonic_of
+from ..explaining.explanation import Explanation
+from ..explaining.page import Entry, library, page_of
+from ..explaining.picture import program
+
+from .records import lines_of
+from .text import Lines
+from .work import Row
+
+
+class Page:
+    """What is judged, in its order, and the records of the captures."""
+
+    def __init__(self, paths: Dict[str, str]) -> None:
+        library(), program()  # what is missing is told before anything is judged
+        self.lines = Lines(False, False, paths)
+        self.entries: List[Entry] = []
+        self.records: Dict[int, Tuple[str, List[str]]] = {}
+
+    def read(self, number: int, path: str, octets: bytes) -> None:
+        """The capture with this number."""
+        self.records[number] = path, list(lines_of(octets))
+
+    def add(self, path: str, row: Row) -> None:
+        """A verdict."""
+        question = f"{row.question.name} {mnemonic_of(row.question.kind)}"
+        told = Explanation(row.explained) if row.explained else None
+        self.entries.append(Entry(question, self.lines.said(path, row), path, row.moment, told))
+
+    def octets(self) -> bytes:
+        captures = [self.records[number] for number in sorted(self.records)]
+        return page_of(self.entries, captures).encode()

@@ -1,0 +1,132 @@
+"""A capture judged: verified once, and asked each question at each moment. All that it reads is octets."""
+import os
+import tempfile
+from typing import Dict, Iterable, List, NamedTuple, Optional, Tuple
+
+from ..asking.questions import Question
+from ..program import EXPLAIN, Json, Program, Told
+from ..verifying.entries import Lacking, Refusal, entry_of, statement_of
+
+from .evidence import Evidence
+
+DENYING = {47: "NSEC", 50: "NSEC3"}
+
+
+class Common(NamedTuple):
+    """What is the same for all captures; `anchors` has octets by moment."""
+
+    anchors: Dict[int, bytes]
+    keys: Optional[bytes]
+    macs: Optional[bytes]
+    moments: List[int]
+
+
+class Row(NamedTuple):
+    """A verdict: its word, what carries it by name, and the object that says why, None where there is none."""
+
+    moment: int
+    question: Question
+    status: int
+    word: str
+    evidence: Json
+    explained: Optional[Json]
+
+
+class Judged(NamedTuple):
+    """The verdicts of a capture, and why signatures could not be verified."""
+
+    rows: List[Row]
+    notes: List[str]
+
+
+def write_files(folder: str, files: Dict[str, bytes]) -> None:
+    for name, octets in files.items():
+        with open(os.path.join(folder, name), "wb") as file:
+            file.write(octets)
+
+
+def statements_of(lines: Iterable[str]) -> Tuple[List[str], List[str]]:
+    """The statements that answer the lines, and why the others can't be answered here."""
+    statements: List[str] = []
+    notes: Dict[str, int] = {}
+    for line in lines:
+        try:
+            statements.append(statement_of(entry_of(line, "a signature")))
+        except (Lacking, Refusal) as why:
+            notes[str(why)] = notes.get(str(why), 0) + 1
+    return statements, [f"{count} signatures aren't verified: {why}" for why, count in notes.items()]
+
+
+def judged(octets: bytes, questions: List[Question], common: Common, program: Program) -> Judged:
+    """The verdicts on the questions, by moment."""
+    with tempfile.TemporaryDirectory(prefix="dnssec_check-") as folder:
+        given = {"capture": octets, "keys": common.keys, "macs": common.macs}
+        files = {name: content for name, content in given.items() if content is not None}
+        write_files(folder, files)
+        todo = dict.fromkeys(line for moment in common.moments for line in program.todo(folder, moment))
+        statements, notes = statements_of(todo)
+        files["statements"], view = "".join(statements).encode(), View(octets)
+        rows: List[Row] = []
+        write_files(folder, {"statements": files["statements"]})
+        for moment in common.moments:
+            files["anchors"] = common.anchors[moment]
+            write_files(folder, {"anchors": files["anchors"]})
+            rows += [view.row(moment, question, program.told(EXPLAIN, folder, files, moment, question))
+                     for question in questions]
+    return Judged(rows, notes)
+
+
+class View:
+    """What the records of a capture say of verdicts."""
+
+    def __init__(self, octets: bytes) -> None:
+        self.octets = octets
+        self.kept: Optional[Evidence] = None
+
+    @property
+    def evidence(self) -> Evidence:
+        """Read where a verdict needs it."""
+        if self.kept is None:
+            self.kept = Evidence(self.octets)
+        return self.kept
+
+    def row(self, moment: int, question: Question, told: Told) -> Row:
+        if told.value is None:
+            return Row(moment, question, told.status, told.word, of_fault(told.said), None)
+        aliases = told.value["aliases"]
+        evidence = {"aliases": [self.of_alias(each) for each in aliases]} if aliases else {}
+        evidence.update(self.evidence_of(told.value))
+        return Row(moment, question, told.status, told.word, evidence, told.value)
+
+    def evidence_of(self, value: Json) -> Json:
+        """What carries the verdict, besides the aliases."""
+        if "rrset" in value:
+            return self.of_signature(value["rrset"], value["signature"])
+        if "records" in value:
+            return {"records": [[each["owner"], DENYING.get(each["type"], each["type"])] for each in value["records"]]}
+        if "cut" in value:
+            return {"cut": value["cut"]}
+        return {"todo": len(value["todo"])} if "todo" in value else {}
+
+    def of_signature(self, rrset: int, signature: int) -> Json:
+        """The numbers, and who signed."""
+        found: Json = {"rrset": rrset, "signature": signature}
+        signed = self.evidence.signature(rrset, signature)
+        return {**found, "signer": signed[0], "key": signed[1]} if signed else found
+
+    def of_alias(self, alias: Json) -> Json:
+        """The same, between the name and its target."""
+        target = self.evidence.target(alias["rrset"])
+        found = {"name": alias["name"], **self.of_signature(alias["rrset"], alias["signature"])}
+        return {**found, "target": target} if target else found
+
+
+def of_fault(line: str) -> Json:
+    """The number of what is refused or failed, and where: `message`, `record`, `line` or `file`."""
+    number, *words = line.split(" ")
+    if not number.isdigit():
+        return {"said": line.lstrip("- ")}
+    found: Json = {"number": int(number)}
+    if len(words) == 1:
+        return {**found, "file": words[0]}
+    return {**found, **{name: int(value) if value.isdigit() else value for name, value in zip(words[::2], words[1::2])}}

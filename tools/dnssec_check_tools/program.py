@@ -1,0 +1,100 @@
+"""The program `dnssec_check`, and the one way in which the tools ask it: where it is, the words that it's called with, its
+statuses, and the JSON that it prints."""
+import json
+import os
+import pathlib
+import shutil
+import subprocess
+from dataclasses import dataclass
+from typing import Any, Dict, Iterable, List, NamedTuple, Optional
+
+from .asking.faults import Failure
+from .asking.questions import Question
+
+NAME = "dnssec_check"
+PACKAGE = pathlib.Path(__file__).resolve().parent
+BUILT = os.path.join("crates", NAME, "out", NAME)
+# Characters of a name that the program gets. No name has more, its 255 octets at four each: by these a longer one is refused as by
+# all of it, which may be more than a system takes for an argument.
+NAME_MOST = 4096
+SECURE, INSECURE, PENDING, BOGUS, INDETERMINATE, REFUSED, FAILED, WRONG = 0, 3, 4, 5, 6, 7, 1, 2
+VERDICTS = (SECURE, INSECURE, PENDING, BOGUS, INDETERMINATE)
+FROM_BEST = (*VERDICTS, REFUSED, FAILED)
+LIST, CHECK, EXPLAIN = "list", "check", "explain"
+
+Json = Dict[str, Any]
+
+
+class Run(NamedTuple):
+    """The exit status, and the output and errors as text."""
+
+    status: int
+    output: str
+    errors: str
+
+
+class Told(NamedTuple):
+    """What the program says of a question: its status, the verdict's word with the object of it, or `refused` or `fault` with
+    the words behind it."""
+
+    status: int
+    word: str
+    value: Optional[Json]
+    said: str
+
+
+@dataclass(frozen=True)
+class Program:
+    """The program by its path. It's run in a folder, whose files have the names of the options that name them."""
+
+    path: str
+
+    def run(self, words: List[str], folder: str) -> Run:
+        try:
+            done = subprocess.run([self.path, *words], cwd=folder, stdin=subprocess.DEVNULL, capture_output=True,
+                                  check=False)
+        except OSError as fault:
+            raise Failure(f"{self.path}: {fault.strerror}") from fault
+        return Run(done.returncode, done.stdout.decode(), done.stderr.decode("utf-8", "replace"))
+
+    def todo(self, folder: str, moment: int) -> List[str]:
+        """The lines that a verifier has to answer at the moment; none where the capture is refused."""
+        done = self.run([LIST, *named(["capture"]), f"--moment={moment}"], folder)
+        return done.output.splitlines() if done.status == 0 else []
+
+    def told(self, subcommand: str, folder: str, files: Iterable[str], moment: int, question: Question) -> Told:
+        """What CHECK or EXPLAIN says of the question; the folder has these files."""
+        name, kind = f"--name={question.name[:NAME_MOST]}", f"--type={question.kind}"
+        return told_by(self.run([subcommand, *named(files), f"--moment={moment}", name, kind, "--json"], folder))
+
+
+def named(files: Iterable[str]) -> List[str]:
+    return [f"--{name}={name}" for name in files]
+
+
+def told_by(done: Run) -> Told:
+    """What a run with `--json` says."""
+    if done.status in VERDICTS and done.output:
+        value = json.loads(done.output)
+        return Told(done.status, value["verdict"], value, "")
+    first = (done.errors.splitlines() or [f"status {done.status}"])[0]
+    word, _, rest = first.partition(" ")
+    if word in ("refused", "fault") and done.status in (REFUSED, FAILED):
+        return Told(done.status, word, None, rest)
+    return Told(FAILED, "fault", None, f"- {first}")
+
+
+def program_of(given: Optional[str], tool: str) -> Program:
+    """The one that is named, else on the path, beside the tool, beside the package as installed, or as built."""
+    if given is not None:
+        path = shutil.which(given)
+        if path is None:
+            raise Failure(f"{given}: there is no such program")
+        return Program(os.path.abspath(path))
+    above = os.path.join(PACKAGE, "..")
+    beside = (os.path.join(os.path.dirname(os.path.realpath(tool)), NAME), os.path.join(above, "..", "..", "bin", NAME),
+              os.path.join(above, "..", BUILT))
+    path = shutil.which(NAME) or next((path for path in beside if os.access(path, os.X_OK)), None)
+    if path is None:
+        raise Failure(f"{NAME} isn't on the path, and not where the tool was installed; name it by --program")
+    return Program(os.path.abspath(path))

@@ -1,0 +1,71 @@
+"""What has to be verified, line by line, and the statements that answer it."""
+import re
+from typing import Any, NamedTuple, Tuple
+
+from .rsa import Malformed, is_signed_by_rsa
+
+HEX = r"(?:-|(?:[0-9A-Fa-f]{2})+)"
+TODO = re.compile(rf"todo (0|[1-9][0-9]{{0,2}}) ({HEX}) ({HEX}) ({HEX})")
+
+
+class Entry(NamedTuple):
+    place: str
+    algorithm: int
+    fields: Tuple[str, ...]
+
+
+class Refusal(Exception):
+    """A line isn't one to verify."""
+
+
+class Lacking(Exception):
+    """An algorithm can't be verified here."""
+
+
+def curves() -> Any:
+    """Imported where a line needs it: RSA does without the package, and an interrupt of the import has its line too."""
+    from . import curves as module
+    return module
+
+
+VERIFIERS = {
+    5: lambda *parts: is_signed_by_rsa("sha1", 512, *parts),
+    7: lambda *parts: is_signed_by_rsa("sha1", 512, *parts),
+    8: lambda *parts: is_signed_by_rsa("sha256", 512, *parts),
+    10: lambda *parts: is_signed_by_rsa("sha512", 1024, *parts),
+    13: lambda *parts: curves().is_signed_by_ecdsa("P-256", *parts),
+    14: lambda *parts: curves().is_signed_by_ecdsa("P-384", *parts),
+    15: lambda *parts: curves().is_signed_by_eddsa("Ed25519", *parts),
+    16: lambda *parts: curves().is_signed_by_eddsa("Ed448", *parts),
+}
+
+
+def is_good(algorithm: int, key: bytes, data: bytes, signature: bytes) -> bool:
+    """Whether the signature is one of the data by the key."""
+    try:
+        return VERIFIERS[algorithm](key, data, signature)
+    except (Malformed, ValueError):
+        return False
+
+
+def octets_of(field: str) -> bytes:
+    return b"" if field == "-" else bytes.fromhex(field)
+
+
+def entry_of(line: str, place: str) -> Entry:
+    """The algorithm and the three hex fields of a line to verify."""
+    match = TODO.fullmatch(line)
+    if not match:
+        raise Refusal(f"{place}: no line `todo ALG KEY DATA SIG`")
+    if int(match[1]) not in VERIFIERS:
+        raise Refusal(f"{place}: algorithm {match[1]} is none of " + ", ".join(map(str, VERIFIERS)))
+    return Entry(place, int(match[1]), match.groups()[1:])
+
+
+def statement_of(entry: Entry) -> str:
+    """The line that answers the entry."""
+    try:
+        word = "good" if is_good(entry.algorithm, *map(octets_of, entry.fields)) else "bad"
+    except (ImportError, NotImplementedError) as fault:
+        raise Lacking(f"the package cryptography lacks algorithm {entry.algorithm}: {fault}") from fault
+    return " ".join((word, str(entry.algorithm), *entry.fields)) + "\n"
