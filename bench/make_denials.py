@@ -3,8 +3,8 @@
 
 usage: make_denials.py KIND RECORDS > FILE
 
-The zone is the root. The capture has RECORDS records: its DNSKEY record, and RRsets of one record, each with a signature.
-They are of one of these kinds:
+The zone is the root. The capture has RECORDS records: its DNSKEY record, and RRsets of one record, each with a
+signature. They are of one of these kinds:
   near   NSEC records with owners of 120 labels, of which a question of 127 has 119
   far    NSEC records with owners of two labels, of which it has none
   hashed NSEC3 records of 500 iterations, with 8 salts, that say nothing of any name
@@ -17,8 +17,21 @@ import random
 import struct
 import sys
 
-from wire import (DNSKEY, NSEC, NSEC3, ROOT, RRSIG, anchor, hash_label, key_tag, label, nsec3_rdata, record, response,
-                  rrsig)
+from wire import (
+    DNSKEY,
+    NSEC,
+    NSEC3,
+    ROOT,
+    RRSIG,
+    anchor,
+    hash_label,
+    key_tag,
+    label,
+    nsec3_rdata,
+    record,
+    response,
+    rrsig,
+)
 
 ABOVE = b"\x01a" * 119 + ROOT
 KEY = struct.pack("!HBB", 257, 3, 13) + bytes(range(64))
@@ -62,7 +75,7 @@ def main():
         records += [record(owner, rtype, rdata), record(owner, RRSIG, signature(draw, rtype, labels))]
     # Messages of 64 records, whose question is the same.
     for number, first in enumerate(range(0, len(records), 64)):
-        sys.stdout.buffer.write(response(number, ROOT, records[first:first + 64]))
+        sys.stdout.buffer.write(response(number, ROOT, records[first : first + 64]))
 
 
 main()

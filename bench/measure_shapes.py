@@ -33,7 +33,7 @@ def write_files(shape, room):
     if shape.answered_from is not None:
         words = [PROGRAM, "list", "--capture", room / "capture", "--moment", "1500"]
         todo = subprocess.run(words, check=True, stdout=subprocess.PIPE).stdout.splitlines(keepends=True)
-        good = [line.replace(b"todo", b"good", 1) for line in todo[shape.answered_from:]]
+        good = [line.replace(b"todo", b"good", 1) for line in todo[shape.answered_from :]]
         (room / "statements").write_bytes(b"".join(good))
 
 
@@ -67,8 +67,10 @@ def costs_of(shape):
 def row(name, size, costs, before):
     pairs = f"{costs.pairs:,}" if costs.pairs else ""
     growth = f"{costs.instructions / before.instructions:.1f}" if before else ""
-    return (f"| `{name}` | {size:,} | {costs.octets:,} | {pairs} | {costs.instructions:,} | {growth} "
-            f"| {costs.peak:,} KiB | {costs.seconds:.2f} |")
+    return (
+        f"| `{name}` | {size:,} | {costs.octets:,} | {pairs} | {costs.instructions:,} | {growth} "
+        f"| {costs.peak:,} KiB | {costs.seconds:.2f} |"
+    )
 
 
 def measure(name, sizes):

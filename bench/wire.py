@@ -1,5 +1,5 @@
-"""The bench's zone, and its keys, signatures and responses, of the octets that the tools' package writes. It has to be where
-Python looks for packages: PYTHONPATH=tools, where it isn't installed."""
+"""The bench's zone, and its keys, signatures and responses, of the octets that the tools' package writes. It has to be
+where Python looks for packages: PYTHONPATH=tools, where it isn't installed."""
 import base64
 import random
 import struct
@@ -12,9 +12,34 @@ from dnssec_check_tools.wire import ECDSA_P256 as ALGORITHM
 from dnssec_check_tools.wire import dnskey, header, label, name_octets, nsec3, pointer, question, record
 from dnssec_check_tools.wire import rrsig as rrsig_of
 
-__all__ = ["A", "ALGORITHM", "ANY", "CNAME", "DNSKEY", "DS", "HEADER_SIZE", "NSEC", "NSEC3", "QUESTION", "ROOT", "RRSIG", "TXT",
-           "ZONE", "anchor", "hash_label", "key_tag", "label", "label_count", "nsec3_rdata", "pointer", "record", "response",
-           "rrsig", "twin_key", "zone_key"]
+__all__ = [
+    "A",
+    "ALGORITHM",
+    "ANY",
+    "CNAME",
+    "DNSKEY",
+    "DS",
+    "HEADER_SIZE",
+    "NSEC",
+    "NSEC3",
+    "QUESTION",
+    "ROOT",
+    "RRSIG",
+    "TXT",
+    "ZONE",
+    "anchor",
+    "hash_label",
+    "key_tag",
+    "label",
+    "label_count",
+    "nsec3_rdata",
+    "pointer",
+    "record",
+    "response",
+    "rrsig",
+    "twin_key",
+    "zone_key",
+]
 
 ROOT, ZONE = name_octets("."), name_octets("bench.example.")
 QUESTION = pointer(HEADER_SIZE)  # the question's name

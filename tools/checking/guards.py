@@ -15,8 +15,23 @@ ROWS = "crates/dnsv_rows/out/dnsv_rows"
 BUILT_BY = {PROGRAM: "make", ROWS: "cd crates/dnsv_rows && rt run < /dev/null"}
 
 OF_TOOLS = ("python3-cryptography", "python3-dnspython")
-OF_TESTS = (*OF_TOOLS, "debhelper", "dh-python", "dns-root-data", "dpkg-dev", "gcc", "graphviz", "libc6-dev", "mandoc",
-            "python3-distributed", "python3-jinja2", "python3-jsonschema", "python3-rich", "python3-zstandard", "tshark")
+OF_TESTS = (
+    *OF_TOOLS,
+    "debhelper",
+    "dh-python",
+    "dns-root-data",
+    "dpkg-dev",
+    "gcc",
+    "graphviz",
+    "libc6-dev",
+    "mandoc",
+    "python3-distributed",
+    "python3-jinja2",
+    "python3-jsonschema",
+    "python3-rich",
+    "python3-zstandard",
+    "tshark",
+)
 # The tests that take longest.
 LONG = ("tests/judge", "tests/program")
 # The share of the faults that is tried: whole they take longer than all other guards together.

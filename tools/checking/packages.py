@@ -15,7 +15,8 @@ PATH = os.pathsep.join(["/usr/bin", os.environ.get("PATH", os.defpath)])
 
 @dataclass(frozen=True)
 class Package:
-    """A package by its name, and something by which one sees that it is there: a command, a module of Python or a file."""
+    """A package by its name, and something by which one sees that it is there: a command, a module of Python or a
+    file."""
 
     name: str
     command: str = ""

@@ -31,8 +31,16 @@ def by_nsec():
 
 def by_ds():
     """DS records of `sub.example.`, those of one RRset in one message; and of other names and signers."""
-    sets = ["sha256", "sha1", "gost", "of-gost", "gost+of-gost", "gost+of-gost+sha256", "gost+of-gost+sha256+sha1",
-            "of-gost+sha1"]
+    sets = [
+        "sha256",
+        "sha1",
+        "gost",
+        "of-gost",
+        "gost+of-gost",
+        "gost+of-gost+sha256",
+        "gost+of-gost+sha256+sha1",
+        "of-gost+sha1",
+    ]
     for each in sets:
         yield let(f"ds:{each}", *(signed("sub.example.", "DS", DS[kind]) for kind in each.split("+")))
     gost = DS["gost"]

@@ -36,7 +36,7 @@ def deep_answer():
 
 def parts(chain):
     """The records in parts whose messages a pointer reaches all of (RFC 1035 4.1.4)."""
-    return [chain[first:first + 140] for first in range(0, len(chain), 140)]
+    return [chain[first : first + 140] for first in range(0, len(chain), 140)]
 
 
 def packed(chain):

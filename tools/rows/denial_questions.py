@@ -65,15 +65,20 @@ def lacked(zone, owner):
 
 
 def absence_by_nsec(zone):
-    """Whether a record of the chain shows that a name isn't there: it lies in the gap, has no name below it at the gap's
-    end, and isn't below the gap's owner where that is a delegation or has a DNAME record."""
+    """Whether a record of the chain shows that a name isn't there: it lies in the gap, has no name below it at the
+    gap's end, and isn't below the gap's owner where that is a delegation or has a DNAME record."""
     following = successors([key_of(owner) for owner in zone.types])
     ends = [key_of(owner) for owner in zone.types if zone.is_delegation(owner) or zone.has(owner, "DNAME")]
 
     def is_absent(name):
         key = key_of(name)
-        return any(is_between(owner, end, key) and end[:len(key)] != key
-                   and not (owner in ends and key[:len(owner)] == owner) for owner, end in following.items())
+        return any(
+            is_between(owner, end, key)
+            and end[: len(key)] != key
+            and not (owner in ends and key[: len(owner)] == owner)
+            for owner, end in following.items()
+        )
+
     return is_absent
 
 

@@ -1,13 +1,31 @@
-"""DNS messages for rows of evidence: names, records with a signature each, and messages behind their length, of the octets
-that the tools' package writes."""
+"""DNS messages for rows of evidence: names, records with a signature each, and messages behind their length, of the
+octets that the tools' package writes."""
 from dns.rdatatype import from_text
 
 from dnssec_check_tools import wire
 from dnssec_check_tools.capturing.frames import framed
 from dnssec_check_tools.capturing.messages import key_tag
 
-TYPES = {kind: int(from_text(kind)) for kind in (
-    "A", "NS", "CNAME", "SOA", "HINFO", "MX", "TXT", "AAAA", "DNAME", "DS", "RRSIG", "NSEC", "DNSKEY", "NSEC3", "NSEC3PARAM")}
+TYPES = {
+    kind: int(from_text(kind))
+    for kind in (
+        "A",
+        "NS",
+        "CNAME",
+        "SOA",
+        "HINFO",
+        "MX",
+        "TXT",
+        "AAAA",
+        "DNAME",
+        "DS",
+        "RRSIG",
+        "NSEC",
+        "DNSKEY",
+        "NSEC3",
+        "NSEC3PARAM",
+    )
+}
 
 DNSKEY = wire.dnskey(256, bytes([1, 2, 3]))
 KEY_TAG = key_tag(DNSKEY)

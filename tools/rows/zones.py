@@ -18,7 +18,7 @@ def key_of(text):
 def suffix(text, labels):
     """The name's so many rightmost labels."""
     parts = text.split(".")[:-1] if text != "." else []
-    return ".".join(parts[len(parts) - labels:]) + "."
+    return ".".join(parts[len(parts) - labels :]) + "."
 
 
 def child(label, above):
@@ -26,7 +26,7 @@ def child(label, above):
 
 
 def is_at_or_below(text, above):
-    return key_of(text)[:len(key_of(above))] == key_of(above)
+    return key_of(text)[: len(key_of(above))] == key_of(above)
 
 
 class Zone:
@@ -72,8 +72,9 @@ class Zone:
 
     def unsigned_cut(self, owner):
         """The highest delegation without DS at or above the name."""
-        cuts = [each for each in self.ancestors(owner) + [owner]
-                if self.is_delegation(each) and not self.has(each, "DS")]
+        cuts = [
+            each for each in self.ancestors(owner) + [owner] if self.is_delegation(each) and not self.has(each, "DS")
+        ]
         return cuts[0] if cuts else None
 
     def nodes(self):
@@ -86,8 +87,9 @@ class Zone:
         return self.nodes_of(each for each in self.types if not self.is_delegation(each) or self.has(each, "DS"))
 
     def nodes_of(self, owners):
-        found = {each for owner in owners for each in self.ancestors(owner) + [owner]
-                 if is_at_or_below(each, self.apex)}
+        found = {
+            each for owner in owners for each in self.ancestors(owner) + [owner] if is_at_or_below(each, self.apex)
+        }
         return sorted(found, key=key_of)
 
     def open_closer(self, owner):
@@ -117,8 +119,10 @@ def successors(keys):
 def nsec_chain(zone):
     """The owner and RDATA of each record of the zone's NSEC chain, in canonical order."""
     owners = sorted(zone.types, key=key_of)
-    return [(owner, wire.nsec(owners[(place + 1) % len(owners)], " ".join(zone.types[owner] + ["RRSIG", "NSEC"])))
-            for place, owner in enumerate(owners)]
+    return [
+        (owner, wire.nsec(owners[(place + 1) % len(owners)], " ".join(zone.types[owner] + ["RRSIG", "NSEC"])))
+        for place, owner in enumerate(owners)
+    ]
 
 
 class Hashing:
@@ -145,5 +149,4 @@ def nsec3_chain(nodes, hashing):
     """The label and RDATA of the NSEC3 record of each node, in the order that they come in."""
     hashes = [hashing.hash_of(owner) for owner, _ in nodes]
     following = successors(hashes)
-    return [(hash_text(octets), hashing.nsec3(following[octets], types))
-            for octets, (_, types) in zip(hashes, nodes)]
+    return [(hash_text(octets), hashing.nsec3(following[octets], types)) for octets, (_, types) in zip(hashes, nodes)]

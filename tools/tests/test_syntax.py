@@ -15,7 +15,7 @@ PARTS = {
     "check": {"dnssec_check_tools", "checking"},
     "packages": {"dnssec_check_tools", "checking"},
     "does-not-compile": {"dnssec_check_tools", "wrong_bodies"},
-    "wrong-bodies": {"wrong_bodies"},
+    "wrong-bodies": {"dnssec_check_tools", "wrong_bodies"},
     "failing": {"dnssec_check_tools", "messages", "zones"},  # the last two of rows
     "dnssec_check_tools/verify.py": {"command", "verifying"},
     "dnssec_check_tools/capture.py": {"command", "capturing"},
