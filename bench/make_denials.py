@@ -13,9 +13,13 @@ usage: make_denials.py anchors > FILE
 
 Writes the trust anchor: the zone's key.
 """
+
+from __future__ import annotations
+
 import random
 import struct
 import sys
+from typing import Iterator, Tuple
 
 from wire import (
     DNSKEY,
@@ -33,15 +37,17 @@ from wire import (
     rrsig,
 )
 
+# An owner, the type, the RDATA and how many labels a signature counts.
+Denial = Tuple[bytes, int, bytes, int]
 ABOVE = b"\x01a" * 119 + ROOT
 KEY = struct.pack("!HBB", 257, 3, 13) + bytes(range(64))
 
 
-def signature(draw, rtype, labels):
+def signature(draw: random.Random, rtype: int, labels: int) -> bytes:
     return rrsig(draw, rtype, labels, ROOT, key_tag(KEY))
 
 
-def nsec(draw, count, above):
+def nsec(count: int, above: bytes) -> Iterator[Denial]:
     """NSEC records from one owner to the next; the last goes back to the first."""
     names = [label(b"h%04d" % number) + above for number in range(count)]
     for place, owner in enumerate(names):
@@ -49,7 +55,7 @@ def nsec(draw, count, above):
         yield owner, NSEC, following + bytes([0, 6, 0x40, 0, 0, 0, 0, 3]), 1 + len(above) // 2
 
 
-def nsec3(draw, count):
+def nsec3(draw: random.Random, count: int) -> Iterator[Denial]:
     """NSEC3 records whose gaps are empty, so that none covers a hash."""
     for number in range(count):
         salt = bytes([number % 8] * 8)
@@ -58,7 +64,7 @@ def nsec3(draw, count):
         yield hash_label(hashed) + ROOT, NSEC3, rdata, 1
 
 
-def main():
+def main() -> None:
     if sys.argv[1] == "anchors":
         sys.stdout.write(anchor(".", KEY))
         return
@@ -66,8 +72,8 @@ def main():
     draw = random.Random(20261123)
     sets = (count - 2) // 2
     rrsets = {
-        "near": lambda: nsec(draw, sets, ABOVE),
-        "far": lambda: nsec(draw, sets, b"\x01b" + ROOT),
+        "near": lambda: nsec(sets, ABOVE),
+        "far": lambda: nsec(sets, b"\x01b" + ROOT),
         "hashed": lambda: nsec3(draw, sets),
     }[kind]()
     records = [record(ROOT, DNSKEY, KEY), record(ROOT, RRSIG, signature(draw, DNSKEY, 0))]

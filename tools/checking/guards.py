@@ -32,6 +32,8 @@ OF_TESTS = (
     "python3-zstandard",
     "tshark",
 )
+# What the linters read of other packages is there when they look.
+OF_LINT = ("black", "mypy", "pylint", *OF_TOOLS, "python3-jinja2", "python3-rich")
 # The tests that take longest.
 LONG = ("tests/judge", "tests/program")
 # The share of the faults that is tried: whole they take longer than all other guards together.
@@ -81,6 +83,7 @@ def guards() -> list[Guard]:
         *sorted(map(of_tests, folders), key=lambda guard: guard.name not in LONG),
         Guard("faults", ("tools/faults", "--share", FAULTS), packages=("gcc", "libc6-dev"), built=(PROGRAM, ROWS)),
         *map(of_loans, crates),
+        Guard("lint", ("tools/lint",), packages=OF_LINT),
         Guard("examples", ("tools/examples",), built=(PROGRAM,)),
         of_page("README.md", "dnssec_check", "To install it", "The program by itself"),
         of_page("docs/AUDITING.md", packages=(*OF_TOOLS, "parallel")),

@@ -30,6 +30,7 @@ class Package:
 
 
 PACKAGES = (
+    Package("black", module="black"),
     Package("debhelper", command="dh"),
     Package("dh-python", command="dh_python3"),
     Package("dns-root-data", file="/usr/share/dns/root.ds"),
@@ -38,7 +39,9 @@ PACKAGES = (
     Package("graphviz", command="dot"),
     Package("libc6-dev", file="/usr/include/stdio.h"),
     Package("mandoc", command="mandoc"),
+    Package("mypy", module="mypy"),
     Package("parallel", command="parallel"),
+    Package("pylint", module="pylint"),
     Package("python3-cryptography", module="cryptography"),
     Package("python3-distributed", module="distributed"),
     Package("python3-dnspython", module="dns"),

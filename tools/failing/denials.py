@@ -10,6 +10,7 @@ from .evidence import ANCHOR, DNSKEY, KEY, MOMENT, Rrset, TYPES, ds, name
 from .runs import Answer, Bench, Case, Tried
 from .tally import Tally
 
+# pylint: disable=wrong-import-order
 from dnssec_check_tools.wire import nsec
 from zones import Hashing  # behind .evidence, which says where it is
 

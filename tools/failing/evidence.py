@@ -9,6 +9,7 @@ from typing import NamedTuple
 
 sys.path.insert(0, str(pathlib.Path(__file__).resolve().parent.parent / "rows"))
 
+# pylint: disable=wrong-import-position
 from dnssec_check_tools import wire
 from messages import DNSKEY, KEY_TAG, TYPES, counted, labels_of, message, name, rrsig, signed
 

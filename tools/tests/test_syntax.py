@@ -5,7 +5,7 @@ import unittest
 
 from tool import PACKAGE, TOOLS
 
-SCRIPTS = ("pages", "faults", "check", "packages", "does-not-compile", "wrong-bodies")
+SCRIPTS = ("pages", "faults", "check", "packages", "lint", "does-not-compile", "wrong-bodies")
 FOLDERS = (PACKAGE, TOOLS / "failing", TOOLS / "checking", TOOLS / "wrong_bodies")
 NAMES = [*SCRIPTS, *(str(path.relative_to(TOOLS)) for folder in FOLDERS for path in sorted(folder.rglob("*.py")))]
 # What each part imports besides itself; dnspython (`dns`), distributed and rich only where they're needed.
@@ -14,6 +14,7 @@ PARTS = {
     "faults": {"dnssec_check_tools", "failing"},
     "check": {"dnssec_check_tools", "checking"},
     "packages": {"dnssec_check_tools", "checking"},
+    "lint": {"dnssec_check_tools"},
     "does-not-compile": {"dnssec_check_tools", "wrong_bodies"},
     "wrong-bodies": {"dnssec_check_tools", "wrong_bodies"},
     "failing": {"dnssec_check_tools", "messages", "zones"},  # the last two of rows

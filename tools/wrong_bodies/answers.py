@@ -73,8 +73,8 @@ def without(text: str, names: Collection[str]) -> str:
 
 
 def still_cited(line: str, parts: list[Part]) -> list[str]:
-    """The line, if anything is left of it, without those branches of a goal that no declaration mentions any more: where the goal has no answer,
-    its branches have no names either."""
+    """The line, if anything is left of it, without those branches of a goal that no declaration mentions any more:
+    where the goal has no answer, its branches have no names either."""
     found = BRANCHES.match(line)
     if not found:
         return [line]

@@ -202,9 +202,8 @@ def of_open_goals(trial: Trial, opened: list[tuple[str, str]]) -> Verdict:
     if failed:
         name, why = failed[0]
         return Verdict(Kind.REFUSED, f"`search` did not prove `{name}`, and its answer fails: {why.reason}")
-    name, why = reasons[0]
-    why = why or next(iter(trial.taken.values()), None)
-    cause = (
-        f"an answer doesn't fit: {why.reason}" if why else "nothing answers it, as the right body may not have its step"
-    )
+    name, own = reasons[0]
+    taken = own or next(iter(trial.taken.values()), None)
+    missing = "nothing answers it, as the right body may not have its step"
+    cause = f"an answer doesn't fit: {taken.reason}" if taken else missing
     return Verdict(Kind.UNSETTLED, f"`{name}` is open, and {cause}")
