@@ -97,11 +97,15 @@ def refuse_excess(message: Message, mac: bytes, count: int) -> None:
     """Refuses what a capture file, or a file of MACs, can't have."""
     question = question_text(message.octets)
     if count == MESSAGES_MOST:
-        raise Refusal(f"{message.place} is message {MESSAGES_MOST + 1}, and a capture has at most {MESSAGES_MOST} "
-                      f"(see --split): identifier {message.octets[:2].hex()}, {question}")
+        raise Refusal(
+            f"{message.place} is message {MESSAGES_MOST + 1}, and a capture has at most {MESSAGES_MOST} "
+            f"(see --split): identifier {message.octets[:2].hex()}, {question}"
+        )
     if mac and len(mac) != MAC_SIZE:
-        raise Refusal(f"{message.place}: the MAC of its request has {len(mac)} octets, and that of hmac-sha256 has "
-                      f"{MAC_SIZE}: {question}")
+        raise Refusal(
+            f"{message.place}: the MAC of its request has {len(mac)} octets, and that of hmac-sha256 has "
+            f"{MAC_SIZE}: {question}"
+        )
 
 
 def answers_of(entries: List[Entry], macs: Iterable[Optional[bytes]], is_limited: bool) -> List[Tuple[bytes, bytes]]:
@@ -136,7 +140,9 @@ def port(text: str) -> int:
 class Source(argparse.Action):
     """Keeps the files of all kinds in the order of the command line."""
 
-    def __call__(self, parser: argparse.ArgumentParser, namespace: argparse.Namespace, value: Any, option: Optional[str] = None) -> None:
+    def __call__(
+        self, parser: argparse.ArgumentParser, namespace: argparse.Namespace, value: Any, option: Optional[str] = None
+    ) -> None:
         namespace.sources = [*namespace.sources, (None if self.dest == "file" else self.dest, value)]
 
 

@@ -50,7 +50,8 @@ def parser_of(text: Any) -> argparse.ArgumentParser:
     """A parser whose help is the tool's own description: its first line, the options, and the rest."""
     front, details = text.split("\n", 1)
     parser = argparse.ArgumentParser(
-        description=front, epilog=details, formatter_class=argparse.RawDescriptionHelpFormatter, allow_abbrev=False)
+        description=front, epilog=details, formatter_class=argparse.RawDescriptionHelpFormatter, allow_abbrev=False
+    )
     parser.add_argument("--version", action="version", version=f"%(prog)s {VERSION}")
     return parser
 

@@ -1,25 +1,25 @@
 """Judges questions by captured DNS messages, in one command: what dnssec_check lists is verified, and each is asked.
 
-Each WORD is a question, a capture or a folder. A question is NAME/TYPE, as www.example.com/AAAA: what is behind its last
-`/` is a type, by mnemonic or by number, it doesn't begin with `/`, and there is no file of that name. Every other word
-is a capture file, `-` for the standard input, or a folder: its files that are called `capture` or end with `.cap`, and
-those of all folders in it. A missing last dot of a name is added; no other search is made. Behind `--` a word may begin
-with `-`.
+Each WORD is a question, a capture or a folder. A question is NAME/TYPE, as www.example.com/AAAA: what is behind its
+last `/` is a type, by mnemonic or by number, it doesn't begin with `/`, and there is no file of that name. Every other
+word is a capture file, `-` for the standard input, or a folder: its files that are called `capture` or end with `.cap`,
+and those of all folders in it. A missing last dot of a name is added; no other search is made. Behind `--` a word may
+begin with `-`.
 
 Each question is put to each capture, at each moment; signatures are verified once for a capture. Where no question is
 given, each capture of a folder that `dnssec_check-capture --split` wrote is asked its own.
 
-Without options a line is printed for each question, with the verdict, until when the signatures that carry it are valid,
-and what the aliases on the way lead to, or what is refused and what to do. Below it, where it isn't secure, stands why:
-what fails first (FAIL) with its extended DNS error [EDE N], what the zone has beside what is wanted (HAS), what follows
-(THEN), and how far the chain holds (HOLDS); where something may be unsigned, why (WHY). --tsv has a first line with the
-names of its columns: capture, moment (in seconds since 1970), name, type, status, verdict, evidence, until, reason, ede;
---jsonl has the same values by these names. The verdict is the program's word, or `refused` or `fault`. What can't be shown
-in a line is written as `\\xNN`. --html writes a page besides, which loads nothing.
+Without options a line is printed for each question, with the verdict, until when the signatures that carry it are
+valid, and what the aliases on the way lead to, or what is refused and what to do. Below it, where it isn't secure,
+stands why: what fails first (FAIL) with its extended DNS error [EDE N], what the zone has beside what is wanted (HAS),
+what follows (THEN), and how far the chain holds (HOLDS); where something may be unsigned, why (WHY). --tsv has a first
+line with the names of its columns: capture, moment (in seconds since 1970), name, type, status, verdict, evidence,
+until, reason, ede; --jsonl has the same values by these names. The verdict is the program's word, or `refused` or
+`fault`. What can't be shown in a line is written as `\\xNN`. --html writes a page besides, which loads nothing.
 
 With --scheduler, captures go as octets to the workers of a Dask scheduler. A worker needs Python with the packages
-distributed and cryptography, and `dnssec_check` on its own path; the tools' modules are sent to it. Captures of a worker
-that is lost are judged by others.
+distributed and cryptography, and `dnssec_check` on its own path; the tools' modules are sent to it. Captures of a
+worker that is lost are judged by others.
 
 Types by mnemonic, zone files of anchors and --records need the package dnspython (Debian: python3-dnspython),
 signatures on curves cryptography (python3-cryptography), --scheduler distributed (python3-distributed), and the bar of
@@ -49,7 +49,7 @@ from .judging.records import lines_of
 from .judging.spread import Task, in_processes, of_unread, one_by_one
 from .judging.text import Lines, json_line, tsv_head, tsv_line
 from .judging.work import Common, Judged, Row
-from .program import FAILED, FROM_BEST, NAME, REFUSED, program_of
+from .program import FAILED, FROM_BEST, NAME, REFUSED, WRONG, program_of
 
 INPUTS = ("anchors", "keys", "macs", "questions")  # the options that name a file to read
 
@@ -71,18 +71,35 @@ def command_line() -> argparse.ArgumentParser:
     parser = parser_of(__doc__)
     parser.usage = "%(prog)s [OPTION ..] WORD ..\n       %(prog)s --records CAPTURE .."
     parser.add_argument("words", nargs="*", metavar="WORD", help="a question NAME/TYPE, a capture, or a folder of them")
-    parser.add_argument("--at", action="append", metavar="MOMENT",
-                        help="`now`, seconds since 1970, or 2026-11-22T12:00:00Z; once for each moment; now by default")
-    parser.add_argument("--anchors", action="append", metavar="FILE",
-                        help=f"lines DS and KEY, DS and DNSKEY records of a zone file, or IANA's XML; else {ROOT}")
+    parser.add_argument(
+        "--at",
+        action="append",
+        metavar="MOMENT",
+        help="`now`, seconds since 1970, or 2026-11-22T12:00:00Z; once for each moment; now by default",
+    )
+    parser.add_argument(
+        "--anchors",
+        action="append",
+        metavar="FILE",
+        help=f"lines DS and KEY, DS and DNSKEY records of a zone file, or IANA's XML; else {ROOT}",
+    )
     parser.add_argument("--keys", action="append", metavar="FILE", help="TSIG keys, as the program reads them")
     parser.add_argument("--macs", action="append", metavar="FILE", help="the MACs of the requests of one capture")
-    parser.add_argument("--questions", action="append", default=[], metavar="FILE",
-                        help="a question a line, NAME/TYPE or NAME TYPE; what is behind # is passed over")
+    parser.add_argument(
+        "--questions",
+        action="append",
+        default=[],
+        metavar="FILE",
+        help="a question a line, NAME/TYPE or NAME TYPE; what is behind # is passed over",
+    )
     parser.add_argument("--tsv", action="store_true", help="a table, its fields parted by tabs")
     parser.add_argument("--jsonl", action="store_true", help="an object of JSON for each question")
-    parser.add_argument("--html", action="append", metavar="FILE",
-                        help="write a page with the sentences, a picture of each chain, and the records; needs Graphviz")
+    parser.add_argument(
+        "--html",
+        action="append",
+        metavar="FILE",
+        help="write a page with the sentences, a picture of each chain, and the records; needs Graphviz",
+    )
     parser.add_argument("--records", action="store_true", help="print the records of the captures, with their numbers")
     parser.add_argument("--jobs", type=number_of_jobs, metavar="N", help="captures at once; else as many as processors")
     parser.add_argument("--scheduler", action="append", metavar="ADDRESS", help="the address of a Dask scheduler")
@@ -165,7 +182,9 @@ def paths_of(options: argparse.Namespace) -> Dict[str, str]:
     return {name: path for name, path in paths.items() if path}
 
 
-def results_of(tasks: Iterable[Task], common: Common, options: argparse.Namespace, count: int) -> Iterator[Tuple[int, Judged]]:
+def results_of(
+    tasks: Iterable[Task], common: Common, options: argparse.Namespace, count: int
+) -> Iterator[Tuple[int, Judged]]:
     if options.scheduler:
         return by_workers(tasks, common, once(options.scheduler))
     program, jobs = program_of(once(options.program), sys.argv[0]), min(options.jobs or processors(), count)
@@ -209,7 +228,7 @@ def options_of(parser: argparse.ArgumentParser, words: List[str]) -> argparse.Na
     """The options, and among them the words, which behind `--` are all that stands there."""
     place = words.index("--") if "--" in words else len(words)
     options = parser.parse_intermixed_args(words[:place])
-    options.words += words[place + 1:]
+    options.words += words[place + 1 :]
     return options
 
 
@@ -223,6 +242,7 @@ def main(words: List[str]) -> int:
         return print_records(options) if options.records else judge(options)
     except WrongLine as fault:
         parser.error(str(fault))
+        return WRONG  # which `error` ends with
     except Refusal as fault:
         tell(f"refused: {fault}")
         return REFUSED

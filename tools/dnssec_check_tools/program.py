@@ -1,5 +1,5 @@
-"""The program `dnssec_check`, and the one way in which the tools ask it: where it is, the words that it's called with, its
-statuses, and the JSON that it prints."""
+"""The program `dnssec_check`, and the one way in which the tools ask it: where it is, the words that it's called with,
+its statuses, and the JSON that it prints."""
 import json
 import os
 import pathlib
@@ -14,8 +14,8 @@ from .asking.questions import Question
 NAME = "dnssec_check"
 PACKAGE = pathlib.Path(__file__).resolve().parent
 BUILT = os.path.join("crates", NAME, "out", NAME)
-# Characters of a name that the program gets. No name has more, its 255 octets at four each: by these a longer one is refused as by
-# all of it, which may be more than a system takes for an argument.
+# Characters of a name that the program gets. No name has more, its 255 octets at four each: by these a longer one is
+# refused as by all of it, which may be more than a system takes for an argument.
 NAME_MOST = 4096
 SECURE, INSECURE, PENDING, BOGUS, INDETERMINATE, REFUSED, FAILED, WRONG = 0, 3, 4, 5, 6, 7, 1, 2
 VERDICTS = (SECURE, INSECURE, PENDING, BOGUS, INDETERMINATE)
@@ -34,8 +34,8 @@ class Run(NamedTuple):
 
 
 class Told(NamedTuple):
-    """What the program says of a question: its status, the verdict's word with the object of it, or `refused` or `fault` with
-    the words behind it."""
+    """What the program says of a question: its status, the verdict's word with the object of it, or `refused` or
+    `fault` with the words behind it."""
 
     status: int
     word: str
@@ -51,8 +51,9 @@ class Program:
 
     def run(self, words: List[str], folder: str) -> Run:
         try:
-            done = subprocess.run([self.path, *words], cwd=folder, stdin=subprocess.DEVNULL, capture_output=True,
-                                  check=False)
+            done = subprocess.run(
+                [self.path, *words], cwd=folder, stdin=subprocess.DEVNULL, capture_output=True, check=False
+            )
         except OSError as fault:
             raise Failure(f"{self.path}: {fault.strerror}") from fault
         return Run(done.returncode, done.stdout.decode(), done.stderr.decode("utf-8", "replace"))
@@ -92,8 +93,11 @@ def program_of(given: Optional[str], tool: str) -> Program:
             raise Failure(f"{given}: there is no such program")
         return Program(os.path.abspath(path))
     above = os.path.join(PACKAGE, "..")
-    beside = (os.path.join(os.path.dirname(os.path.realpath(tool)), NAME), os.path.join(above, "..", "..", "bin", NAME),
-              os.path.join(above, "..", BUILT))
+    beside = (
+        os.path.join(os.path.dirname(os.path.realpath(tool)), NAME),
+        os.path.join(above, "..", "..", "bin", NAME),
+        os.path.join(above, "..", BUILT),
+    )
     path = shutil.which(NAME) or next((path for path in beside if os.access(path, os.X_OK)), None)
     if path is None:
         raise Failure(f"{NAME} isn't on the path, and not where the tool was installed; name it by --program")

@@ -36,8 +36,11 @@ def entries_of(path: str, passes_over: bool) -> List[Entry]:
     lines = read(path).decode("ascii", "replace").split("\n")
     if lines[-1] == "":
         lines.pop()
-    return [entry_of(line, f"line {number} of {shown(path)}") for number, line in enumerate(lines, 1)
-            if not passes_over or line.split(" ")[0] == "todo"]
+    return [
+        entry_of(line, f"line {number} of {shown(path)}")
+        for number, line in enumerate(lines, 1)
+        if not passes_over or line.split(" ")[0] == "todo"
+    ]
 
 
 def statements_of(entries: List[Entry]) -> Iterator[str]:
@@ -51,8 +54,9 @@ def statements_of(entries: List[Entry]) -> Iterator[str]:
 
 def main(words: List[str]) -> int:
     parser = parser_of(__doc__)
-    parser.add_argument("files", nargs="*", default=["-"], metavar="FILE",
-                        help="the lines; the standard input by default")
+    parser.add_argument(
+        "files", nargs="*", default=["-"], metavar="FILE", help="the lines; the standard input by default"
+    )
     parser.add_argument("--from-check", action="store_true", help="pass over lines whose first word isn't `todo`")
     options = parser.parse_args(words)
     try:

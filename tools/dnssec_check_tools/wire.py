@@ -87,12 +87,22 @@ def ds(tag: int, digest_type: int, digest: bytes, algorithm: int = ECDSA_P256) -
     return struct.pack("!HBB", tag, algorithm, digest_type) + digest
 
 
-def rrsig(covered: int, labels: int, signer: bytes, tag: int, signature: bytes, times: Tuple[int, int] = (FIRST, LAST),
-          algorithm: int = ECDSA_P256) -> bytes:
+def rrsig(
+    covered: int,
+    labels: int,
+    signer: bytes,
+    tag: int,
+    signature: bytes,
+    times: Tuple[int, int] = (FIRST, LAST),
+    algorithm: int = ECDSA_P256,
+) -> bytes:
     """RFC 4034 3.1."""
     first, last = times
-    return written(dns.rdtypes.ANY.RRSIG.RRSIG(IN, RRSIG, covered, algorithm, labels, ORIGINAL_TTL, last, first, tag,
-                                               name_of(signer), signature))
+    return written(
+        dns.rdtypes.ANY.RRSIG.RRSIG(
+            IN, RRSIG, covered, algorithm, labels, ORIGINAL_TTL, last, first, tag, name_of(signer), signature
+        )
+    )
 
 
 @functools.lru_cache(None)
@@ -107,8 +117,9 @@ def nsec(following: str, kinds: str) -> bytes:
     return written(dns.rdtypes.ANY.NSEC.NSEC(IN, NSEC, spelled(following), windows_of(kinds)))
 
 
-def nsec3(iterations: int, salt: bytes, following: bytes, kinds: str = "", flags: int = 0,
-          algorithm: int = SHA_1) -> bytes:
+def nsec3(
+    iterations: int, salt: bytes, following: bytes, kinds: str = "", flags: int = 0, algorithm: int = SHA_1
+) -> bytes:
     """RFC 5155 3.2."""
     windows = windows_of(kinds)
     return written(dns.rdtypes.ANY.NSEC3.NSEC3(IN, NSEC3, algorithm, flags, iterations, salt, following, windows))
@@ -129,7 +140,7 @@ def tsig_record(key: bytes, rdata: Any) -> bytes:
 
 def with_tsig(message: bytes, key: bytes, secret: bytes, moment: int, request_mac: bytes = b"") -> bytes:
     """The message signed by the shared key, for the request with this MAC (RFC 8945 4.3)."""
-    identifier, additional = (int.from_bytes(message[place:place + 2], "big") for place in (0, 10))
+    identifier, additional = (int.from_bytes(message[place : place + 2], "big") for place in (0, 10))
     unsigned = tsig_rdata(b"", identifier, moment)
     signed = dns.tsig.sign(message, dns.tsig.Key(name_of(key), secret, HMAC_SHA256), unsigned, moment, request_mac)[0]
     return message[:10] + struct.pack("!H", additional + 1) + message[12:] + tsig_record(key, signed)

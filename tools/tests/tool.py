@@ -13,11 +13,9 @@ sys.dont_write_bytecode = True
 TOOLS = pathlib.Path(__file__).resolve().parent.parent
 DATA = TOOLS / "tests" / "data"
 PROGRAM = TOOLS.parent / "crates" / "dnssec_check" / "out" / "dnssec_check"
-sys.path.insert(0, str(TOOLS))
-
-
 PACKAGE = TOOLS / "dnssec_check_tools"
 PACKAGED = ("capture", "judge", "verify")
+sys.path.insert(0, str(TOOLS))  # a checkout has nothing installed
 
 
 @functools.lru_cache(None)

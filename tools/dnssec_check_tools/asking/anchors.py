@@ -30,30 +30,39 @@ def joined(lines: List[str]) -> bytes:
 
 def lines_at(anchors: List[Timed], moment: int) -> List[str]:
     """Those that may be used at the moment."""
-    return [anchor_line(each.owner, each.record, True) for each in anchors
-            if each.start <= moment and (each.end is None or moment <= each.end)]
+    return [
+        anchor_line(each.owner, each.record, True)
+        for each in anchors
+        if each.start <= moment and (each.end is None or moment <= each.end)
+    ]
 
 
 def is_own_form(octets: bytes) -> bool:
     """Whether each line that says something begins as the program's do; so does a file that says nothing."""
-    fields = [line.split() for line in octets.split(b"\n") if line.strip() and not line.lstrip().startswith((b"#", b";"))]
+    fields = [
+        line.split() for line in octets.split(b"\n") if line.strip() and not line.lstrip().startswith((b"#", b";"))
+    ]
     if not fields:
         return True
     return all(each[0] in OWN_WORDS for each in fields)
 
 
 def lines_of_zone(octets: bytes, path: str) -> List[str]:
-    """The anchors that the DS and DNSKEY records of a zone file are, each on the line on which its record begins: so the program
-    numbers anchors and lines as the file does."""
+    """The anchors that the DS and DNSKEY records of a zone file are, each on the line on which its record begins: so
+    the program numbers anchors and lines as the file does."""
     # A comment of the program's form is none of a zone file, and to dnspython a CR is no end of a line.
-    lines = ["" if line.startswith("#") else line.rstrip("\r") for line in octets.decode("utf-8", "replace").split("\n")]
+    lines = [
+        "" if line.startswith("#") else line.rstrip("\r") for line in octets.decode("utf-8", "replace").split("\n")
+    ]
     anchors = [""] * len(lines)
     try:
         for each in ZoneFile("\n".join(lines)).entries():
             anchors[each.line - 1] = anchor_line(each.owner, each.record, each.kind == DS)
     except WrongEntry as fault:
-        raise Refusal(f"the anchors {path}: neither lines `DS ..` and `KEY ..` nor DS and DNSKEY records: "
-                      f"line {fault.line}: {fault}") from fault
+        raise Refusal(
+            f"the anchors {path}: neither lines `DS ..` and `KEY ..` nor DS and DNSKEY records: "
+            f"line {fault.line}: {fault}"
+        ) from fault
     return anchors
 
 
@@ -68,4 +77,5 @@ def anchor_line(owner: Any, record: Any, is_ds: bool) -> str:
 def wire_text(name: Any) -> str:
     """The name as the program reads it."""
     from ..capturing.messages import name_text
+
     return name_text(name.labels[:-1])

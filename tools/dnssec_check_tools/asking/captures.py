@@ -1,6 +1,6 @@
 """The captures and questions that the words of a command line name."""
 import os
-from typing import Dict, List, NamedTuple, Tuple
+from typing import List, NamedTuple, Tuple
 
 from ..command import read, shown
 
@@ -77,8 +77,10 @@ def all_of(words: List[str], question_files: List[str]) -> List[Tuple[str, List[
     asked = [(capture.path, capture.own) for capture in captures if capture.own]
     alone = [path for path in paths if not os.path.isdir(path)]  # a list of questions is a folder's
     if alone or not asked:
-        raise WrongLine(f"no question is asked of {escaped((alone or paths)[0])}; write NAME/TYPE, as www.example.com/AAAA, or name "
-                        "a file by --questions")
+        raise WrongLine(
+            f"no question is asked of {escaped((alone or paths)[0])}; write NAME/TYPE, as www.example.com/AAAA, or "
+            "name a file by --questions"
+        )
     return asked
 
 

@@ -19,7 +19,9 @@ class Failure(Exception):
 
 def lacking(package: str, what: str, fault: Exception) -> Failure:
     """The failure for want of a Python package, with the interpreter that hasn't got it and how to get it."""
-    return Failure(f"{what} needs the Python package {package}, which {sys.executable} lacks ({how_to_get(package)}): {fault}")
+    return Failure(
+        f"{what} needs the Python package {package}, which {sys.executable} lacks ({how_to_get(package)}): {fault}"
+    )
 
 
 def how_to_get(package: str) -> str:
@@ -30,7 +32,8 @@ def how_to_get(package: str) -> str:
 
 
 def escaped(text: str) -> str:
-    """The text with what can't be shown as `\\xNN`, and `\\uNNNN` above; a path's octets that are no UTF-8 as `\\xNN`."""
+    """The text with what can't be shown as `\\xNN`, and `\\uNNNN` above; a path's octets that are no UTF-8 as
+    `\\xNN`."""
     return "".join(character if character.isprintable() else escape_of(ord(character)) for character in text)
 
 

@@ -18,7 +18,9 @@ class Question(NamedTuple):
 
 def name_of(text: str) -> str:
     """The name with a dot at its end; octets that no argument or no text can have are written `\\DDD`."""
-    name = "".join(f"\\{ord(each) & 0xFF:03}" if each == "\0" or "\udc80" <= each <= "\udcff" else each for each in text)
+    name = "".join(
+        f"\\{ord(each) & 0xFF:03}" if each == "\0" or "\udc80" <= each <= "\udcff" else each for each in text
+    )
     return name if ends_with_dot(name) else name + "."
 
 

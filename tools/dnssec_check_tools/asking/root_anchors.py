@@ -1,4 +1,5 @@
-"""Trust anchors as IANA publishes those of the root, in XML (RFC 9718): each with the time within which it may be used."""
+"""Trust anchors as IANA publishes those of the root, in XML (RFC 9718): each with the time within which it may be
+used."""
 from xml.etree import ElementTree
 from typing import Any, List, NamedTuple, Optional
 
@@ -10,7 +11,8 @@ FIELDS = ("KeyTag", "Algorithm", "DigestType", "Digest")
 
 
 class Timed(NamedTuple):
-    """An anchor's record, its owner's name, and the first and the last moment of its use, None where that has no end."""
+    """An anchor's record, its owner's name, and the first and the last moment of its use, None where that has no
+    end."""
 
     owner: Any
     record: Any
@@ -27,8 +29,10 @@ def timed_anchors(octets: bytes, path: str) -> List[Timed]:
     tree = tree_of(octets, path)
     if tree.tag != "TrustAnchor":
         raise Refusal(f"the anchors {path}: XML whose element is {tree.tag!r} in place of TrustAnchor (RFC 9718)")
-    return [timed(tree.findtext("Zone", ""), each, f"the anchors {path}: KeyDigest {number}")
-            for number, each in enumerate(tree.findall("KeyDigest"), 1)]
+    return [
+        timed(tree.findtext("Zone", ""), each, f"the anchors {path}: KeyDigest {number}")
+        for number, each in enumerate(tree.findall("KeyDigest"), 1)
+    ]
 
 
 def tree_of(octets: bytes, path: str) -> ElementTree.Element:
@@ -47,7 +51,7 @@ def timed(zone: str, element: ElementTree.Element, place: str) -> Timed:
     words = " ".join([zone, "DS", *(element.findtext(field, "") for field in FIELDS)]).split()
     start, end = element.get("validFrom"), element.get("validUntil")
     try:
-        entry, = ZoneFile(" ".join(words)).entries()
+        (entry,) = ZoneFile(" ".join(words)).entries()
         return Timed(entry.owner, entry.record, of_date(start or ""), None if end is None else of_date(end))
     except (WrongEntry, ValueError) as fault:
         raise Refusal(f"{place}: {fault}") from fault

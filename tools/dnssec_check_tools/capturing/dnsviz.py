@@ -18,8 +18,11 @@ def queries_of(octets: bytes, path: str) -> Iterator[Tuple[str, List[Tuple[str, 
         for asked in json.loads(octets).values():
             for query in asked.get("queries", ()):
                 text = f"{query['qname']} {query['qtype']}"
-                yield text, [(server, dict(response)) for server, clients in query["responses"].items()
-                             for response in clients.values()]
+                yield text, [
+                    (server, dict(response))
+                    for server, clients in query["responses"].items()
+                    for response in clients.values()
+                ]
     except (ValueError, KeyError, TypeError, AttributeError, RecursionError) as fault:
         raise Refusal(f"{path}: no output of dnsviz probe") from fault
 

@@ -1,6 +1,7 @@
 """What a file gives: messages, what of it is dropped, and what is passed over."""
 from typing import Any, Counter, NamedTuple, Union
 
+
 class InPacket(NamedTuple):
     """The place of what a packet made whole; that of a later packet is greater."""
 

@@ -11,7 +11,7 @@ def frames_of(octets: Octets) -> Tuple[List[bytes], int]:
         end = place + 2 + number_at(octets, place, 2)
         if end == place + 2 or end > len(octets):
             break
-        messages.append(bytes(octets[place + 2:end]))
+        messages.append(bytes(octets[place + 2 : end]))
         place = end
     return messages, place
 
@@ -22,6 +22,6 @@ def framed(messages: Iterable[bytes]) -> bytes:
 
 def frame_at(octets: Octets, place: int) -> Optional[bytes]:
     """The message there where it is one as a whole, else None."""
-    front, size = place + 2, int.from_bytes(octets[place:place + 2], "big")
-    message = bytes(octets[front:front + size])
+    front, size = place + 2, int.from_bytes(octets[place : place + 2], "big")
+    message = bytes(octets[front : front + size])
     return message if len(message) == size and is_message(message) else None

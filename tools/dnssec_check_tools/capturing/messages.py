@@ -51,8 +51,10 @@ def is_truncated(octets: Octets) -> bool:
 
 def label_text(label: bytes) -> str:
     """As dnssec_check writes it."""
-    return "".join("\\" + chr(octet) if octet in b".\\" else chr(octet) if 0x21 <= octet <= 0x7E else f"\\{octet:03}"
-                   for octet in label)
+    return "".join(
+        "\\" + chr(octet) if octet in b".\\" else chr(octet) if 0x21 <= octet <= 0x7E else f"\\{octet:03}"
+        for octet in label
+    )
 
 
 def name_text(labels: Iterable[bytes]) -> str:
@@ -67,7 +69,7 @@ def name_at(octets: Octets, place: int) -> Labels:
         if length == 0:
             return tuple(labels)
         if length < 64:
-            labels.append(bytes(octets[place + 1:place + 1 + length]))
+            labels.append(bytes(octets[place + 1 : place + 1 + length]))
             place += 1 + length
         elif length >= 0xC0:
             place = number_at(octets, place, 2) & 0x3FFF

@@ -1,7 +1,17 @@
 """What the answers lack that whoever asks for a verdict will stumble over."""
 from typing import List, Sequence, Set
-from .messages import (TYPE_DNSKEY, TYPE_DS, TYPE_RRSIG, Labels, lower, name_at, name_text, names_above, question_of,
-                       records_of)
+from .messages import (
+    TYPE_DNSKEY,
+    TYPE_DS,
+    TYPE_RRSIG,
+    Labels,
+    lower,
+    name_at,
+    name_text,
+    names_above,
+    question_of,
+    records_of,
+)
 from .octets import Incomplete
 
 SIGNER = 18  # where the signer's name stands in the RDATA of an RRSIG record (RFC 4034 3.1)

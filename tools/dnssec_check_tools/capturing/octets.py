@@ -12,4 +12,4 @@ class Incomplete(Exception):
 def number_at(octets: Octets, place: int, size: int, order: Literal["big", "little"] = "big") -> int:
     if place + size > len(octets):
         raise Incomplete("it ends too early")
-    return int.from_bytes(octets[place:place + size], order)
+    return int.from_bytes(octets[place : place + size], order)

@@ -60,7 +60,7 @@ def unpacked(octets: bytes, path: str) -> Tuple[bytes, List[Entry]]:
     unpacker = Unpacker(new)
     for place in range(0, len(octets), PIECE):
         try:
-            unpacker.take(octets[place:place + PIECE])
+            unpacker.take(octets[place : place + PIECE])
         except fault_of_way as fault:
             raise Refusal(f"{path}: it can't be unpacked: {fault}") from fault
         if len(unpacker.octets) > UNPACKED_MOST:

@@ -13,10 +13,25 @@ PLACES_OF_ETHERTYPE = {ETHERNET: 12, COOKED: 14, COOKED_2: 0}
 FRONTS = {ETHERNET: 14, COOKED: 16, COOKED_2: 20}
 
 BY_TSHARK = " (--tshark)"
-ETHERTYPES = {0x0806: "ARP", 0x8847: "MPLS" + BY_TSHARK, 0x8848: "MPLS" + BY_TSHARK, 0x8863: "PPPoE" + BY_TSHARK,
-              0x8864: "PPPoE" + BY_TSHARK, 0x88E5: "MACsec"}
-PROTOCOLS = {1: "ICMP", 2: "IGMP", 4: "IP in IP" + BY_TSHARK, 41: "IPv6 in IP" + BY_TSHARK, 47: "GRE" + BY_TSHARK,
-             50: "ESP", 51: "AH" + BY_TSHARK, 58: "ICMPv6", 132: "SCTP"}
+ETHERTYPES = {
+    0x0806: "ARP",
+    0x8847: "MPLS" + BY_TSHARK,
+    0x8848: "MPLS" + BY_TSHARK,
+    0x8863: "PPPoE" + BY_TSHARK,
+    0x8864: "PPPoE" + BY_TSHARK,
+    0x88E5: "MACsec",
+}
+PROTOCOLS = {
+    1: "ICMP",
+    2: "IGMP",
+    4: "IP in IP" + BY_TSHARK,
+    41: "IPv6 in IP" + BY_TSHARK,
+    47: "GRE" + BY_TSHARK,
+    50: "ESP",
+    51: "AH" + BY_TSHARK,
+    58: "ICMPv6",
+    132: "SCTP",
+}
 TUNNELS = {4789: "VXLAN" + BY_TSHARK, 8472: "VXLAN" + BY_TSHARK, 6081: "Geneve" + BY_TSHARK}
 
 

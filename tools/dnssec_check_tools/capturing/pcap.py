@@ -39,10 +39,10 @@ def packets_of_pcap(octets: bytes, order: Order) -> Iterator[Packet]:
     while place < len(octets):
         number += 1
         front = place + PACKET_HEADER_SIZE
-        size, sent = (int.from_bytes(octets[at:at + 4], order) for at in (place + 8, place + 12))
+        size, sent = (int.from_bytes(octets[at : at + 4], order) for at in (place + 8, place + 12))
         if front + size > len(octets):
             raise TornFile(f"the file ends within packet {number}")
-        yield Packet(number, link, octets[front:front + size], size == sent)
+        yield Packet(number, link, octets[front : front + size], size == sent)
         place = front + size
 
 
@@ -51,28 +51,28 @@ def blocks_of_pcapng(octets: bytes) -> Iterator[Tuple[int, bytes, Order]]:
     place = 0
     order: Order = "big"
     while place < len(octets):
-        kind, size = octets[place:place + 4], octets[place + 4:place + 8]
+        kind, size = octets[place : place + 4], octets[place + 4 : place + 8]
         if kind == PCAPNG_MAGIC:
-            order = "big" if octets[place + 8:place + 12] == b"\x1a\x2b\x3c\x4d" else "little"
+            order = "big" if octets[place + 8 : place + 12] == b"\x1a\x2b\x3c\x4d" else "little"
         end = place + int.from_bytes(size, order)
         if end > len(octets) or len(size) < 4:
             raise TornFile("the file ends within a block")
         if end < place + BLOCK_SIZE_LEAST:
             raise TornFile(f"a block of {end - place} octets")
-        yield int.from_bytes(kind, order), octets[place + 8:end - 4], order
+        yield int.from_bytes(kind, order), octets[place + 8 : end - 4], order
         place = end
 
 
 def packet_of_block(kind: int, body: bytes, order: Order, number: int, interfaces: List[Interface]) -> Packet:
     """A simple block has a packet of the first interface, cut to its limit; the others name theirs, and the size."""
-    numbers = [int.from_bytes(body[place:place + 4], order) for place in (0, 12, 16)]
+    numbers = [int.from_bytes(body[place : place + 4], order) for place in (0, 12, 16)]
     interface = {PACKET: numbers[0], OLD_PACKET: int.from_bytes(body[:2], order), SIMPLE_PACKET: 0}[kind]
     link, limit = interfaces[interface] if interface < len(interfaces) else (None, 0)
     front, size, sent = 20, *numbers[1:]
     if kind == SIMPLE_PACKET:
         front, sent = 4, numbers[0]
         size = min(sent, len(body) - front, limit or sent)
-    return Packet(number, link, body[front:front + size], size == sent and front + size <= len(body))
+    return Packet(number, link, body[front : front + size], size == sent and front + size <= len(body))
 
 
 def packets_of_pcapng(octets: bytes) -> Iterator[Packet]:

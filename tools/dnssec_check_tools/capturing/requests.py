@@ -18,10 +18,10 @@ def tsig_of(octets: bytes) -> Tsig:
     try:
         last = [*records_of(octets)][-1:]
         if last and last[0].kind == TYPE_TSIG:
-            data = octets[last[0].front:last[0].end]
+            data = octets[last[0].front : last[0].end]
             front = end_of_name(data, 0) + 8
             end = front + 2 + number_at(data, front, 2)
-            return Tsig(data[front + 2:end], number_at(data, end, 2))
+            return Tsig(data[front + 2 : end], number_at(data, end, 2))
     except Incomplete:
         pass
     return Tsig(b"", number_at(octets, 0, 2))

@@ -18,7 +18,7 @@ from .tshark import entries_of_tshark
 
 def entries_of_stream(octets: bytes, path: str) -> List[Entry]:
     messages, end = frames_of(octets)
-    if octets[end:end + 2] == b"\x00\x00":
+    if octets[end : end + 2] == b"\x00\x00":
         raise Refusal(f"{path}: a message of length 0 at octet {end}")
     if end < len(octets):
         raise Refusal(f"{path}: it ends within the message at octet {end}")
@@ -41,7 +41,9 @@ def entries_of_hex(octets: bytes, path: str) -> List[Entry]:
 # Packets
 
 
-def entries_of_packet(packet: Packet, place: InPacket, ports: Set[int], streams: Streams, others: Counter[str]) -> List[Entry]:
+def entries_of_packet(
+    packet: Packet, place: InPacket, ports: Set[int], streams: Streams, others: Counter[str]
+) -> List[Entry]:
     """What a packet brings; one that carries something else is counted in `others`."""
     try:
         payload = payload_of(packet, ports)
@@ -89,7 +91,10 @@ def kind_of(octets: bytes) -> str:
 
 
 READERS: Dict[str, Callable[[bytes, str], Sequence[Found]]] = {
-    "stream": entries_of_stream, "hex": entries_of_hex, "dnsviz": entries_of_dnsviz}
+    "stream": entries_of_stream,
+    "hex": entries_of_hex,
+    "dnsviz": entries_of_dnsviz,
+}
 
 
 def entries_of(kind: Optional[str], path: str, ports: Set[int]) -> Sequence[Found]:

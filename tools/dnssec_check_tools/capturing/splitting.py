@@ -9,8 +9,27 @@ from ..command import shown, tell, write
 
 from .entries import Refusal
 from .frames import framed
-from .messages import (AA, ADDITIONAL, ANSWER, AUTHORITY, TYPE_CNAME, TYPE_DNSKEY, TYPE_DS, TYPE_NS, TYPE_NSEC,
-                       TYPE_NSEC3, Labels, Question, flags_of, lower, name_at, name_text, names_above, question_of, records_of)
+from .messages import (
+    AA,
+    ADDITIONAL,
+    ANSWER,
+    AUTHORITY,
+    TYPE_CNAME,
+    TYPE_DNSKEY,
+    TYPE_DS,
+    TYPE_NS,
+    TYPE_NSEC,
+    TYPE_NSEC3,
+    Labels,
+    Question,
+    flags_of,
+    lower,
+    name_at,
+    name_text,
+    names_above,
+    question_of,
+    records_of,
+)
 from .octets import Incomplete
 
 MESSAGES_MOST, RECORDS_MOST = 64, 4096  # more the program refuses (403)

@@ -85,7 +85,7 @@ class Stream:
         """The octets of the first segment that waits but for those taken before, and where it came from."""
         number = heapq.heappop(self.order)
         octets, place = self.waiting.pop(number)
-        octets = octets[max(0, self.next - number):]
+        octets = octets[max(0, self.next - number) :]
         self.next = max(self.next, number) + len(octets)
         return octets, place
 

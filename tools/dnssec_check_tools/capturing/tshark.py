@@ -11,8 +11,13 @@ from .packets import Datagram, Segment
 # ICMP quotes packets, and quotes them cut. Behind a segment that is lost tshark finds nothing more.
 FILTER = "dns && !icmp && !icmpv6 || tcp.analysis.lost_segment"
 LAYERS = "frame ip ipv6 udp tcp dns"
-PREFERENCES = ("ip.defragment", "ipv6.defragment", "tcp.desegment_tcp_streams", "tcp.reassemble_out_of_order",
-               "dns.desegment_dns_messages")
+PREFERENCES = (
+    "ip.defragment",
+    "ipv6.defragment",
+    "tcp.desegment_tcp_streams",
+    "tcp.reassemble_out_of_order",
+    "dns.desegment_dns_messages",
+)
 
 
 Pairs = List[Tuple[str, Any]]
@@ -82,7 +87,7 @@ class Reader:
         """A message over TCP stands behind its length."""
         if self.frame.get("frame.cap_len") != self.frame.get("frame.len"):
             return Omission(self.place(), "it was cut when it was captured")
-        octets = bytes.fromhex(self.raw)[2 if "dns.length" in layer else 0:]
+        octets = bytes.fromhex(self.raw)[2 if "dns.length" in layer else 0 :]
         return Message(octets, self.place(), (self.kind, frozenset(self.ends)))
 
 

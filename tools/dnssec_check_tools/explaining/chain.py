@@ -5,8 +5,8 @@ from .explanation import Line
 from .missing import DS, DNSKEY
 from .values import algorithm_name, digest_name, owned
 
-# How a box or an edge stands: it holds; it fails; it isn't there; it follows from what fails; or it just is. An edge may
-# only say what stands under what.
+# How a box or an edge stands: it holds; it fails; it isn't there; it follows from what fails; or it just is. An edge
+# may only say what stands under what.
 HOLDS, FAILS, MISSING, FOLLOWS, PLAIN, UNDER = "holds", "fails", "missing", "follows", "plain", "under"
 # Of several that are said of one, the first of these counts.
 FROM_WORST = (FAILS, MISSING, HOLDS, PLAIN, FOLLOWS, UNDER)
@@ -73,7 +73,9 @@ def anchor_box(chain: Chain, number: int, zone: str, state: str, digest: Optiona
     return chain.add(("anchor", number), None, lines, state)
 
 
-def ds_box(chain: Chain, signers: Dict[int, str], place: Tuple[int, int], zone: str, state: str, line: Optional[Line] = None) -> Key:
+def ds_box(
+    chain: Chain, signers: Dict[int, str], place: Tuple[int, int], zone: str, state: str, line: Optional[Line] = None
+) -> Key:
     """The box of a DS record, in the frame of the zone that signs its RRset."""
     rrset, record = place
     lines: Tuple[str, ...] = owned(zone, DS), f"record {record}"
@@ -82,7 +84,9 @@ def ds_box(chain: Chain, signers: Dict[int, str], place: Tuple[int, int], zone: 
     return chain.add(("ds", rrset, record), signers.get(rrset), lines, state)
 
 
-def rrset_box(chain: Chain, zone: Optional[str], number: int, owner: str, kind: int, state: str, lines: Sequence[str] = ()) -> Key:
+def rrset_box(
+    chain: Chain, zone: Optional[str], number: int, owner: str, kind: int, state: str, lines: Sequence[str] = ()
+) -> Key:
     return chain.add(("rrset", number), zone, (owned(owner, kind), *lines), state)
 
 

@@ -1,8 +1,21 @@
 """The boxes and edges that each line of an explanation puts into the picture of the chain."""
-from typing import Callable, Dict, List, Set, Tuple
+from typing import Dict, List, Set, Tuple
 from .explanation import Explanation, Line
-from .chain import (FAILS, FOLLOWS, HOLDS, MISSING, PLAIN, UNDER, Chain, Key, anchor_box, ds_box, key_box, keys_box,
-                    rrset_box)
+from .chain import (
+    FAILS,
+    FOLLOWS,
+    HOLDS,
+    MISSING,
+    PLAIN,
+    UNDER,
+    Chain,
+    Key,
+    anchor_box,
+    ds_box,
+    key_box,
+    keys_box,
+    rrset_box,
+)
 from .holding import UNUSABLE
 from .missing import DNAME, DNSKEY, DS, ROLES
 from .values import date, flag_names, owned
@@ -57,9 +70,9 @@ class Scene:
         links = [line["rrset"] for line in self.told.of("trusted")]
         heads = {each.head for each in self.chain.edges.values()}
         last = ("rrset", links[-1]) if links else None
-        for key, box in list(self.chain.boxes.items()):
-            if last and key not in heads and key != last and box.state in (FAILS, MISSING):
-                self.chain.join(last, key, UNDER)
+        for box in list(self.chain.boxes.values()):
+            if last and box.key not in heads and box.key != last and box.state in (FAILS, MISSING):
+                self.chain.join(last, box.key, UNDER)
         if last:
             self.chain.join(last, QUESTION, UNDER)
 
@@ -81,18 +94,18 @@ class Scene:
 
 def trusted(scene: Scene, line: Line) -> None:
     zone = line["zone"]
-    key = key_box(scene.chain, zone, line, HOLDS)
-    scene.chain.join(scene.voucher(line, zone, HOLDS), key, HOLDS)
-    scene.chain.join(key, keys_box(scene.chain, zone, line["rrset"], HOLDS), HOLDS)
+    signing = key_box(scene.chain, zone, line, HOLDS)
+    scene.chain.join(scene.voucher(line, zone, HOLDS), signing, HOLDS)
+    scene.chain.join(signing, keys_box(scene.chain, zone, line["rrset"], HOLDS), HOLDS)
 
 
 def signed(scene: Scene, line: Line) -> None:
     zone = line["signer"]
-    key, keys = key_box(scene.chain, zone, line, HOLDS), ("rrset", line["keys"])
-    if (key, keys, "") not in scene.chain.edges:
-        scene.chain.join(keys_box(scene.chain, zone, line["keys"], HOLDS), key, HOLDS)
+    signing, keys = key_box(scene.chain, zone, line, HOLDS), ("rrset", line["keys"])
+    if (signing, keys, "") not in scene.chain.edges:
+        scene.chain.join(keys_box(scene.chain, zone, line["keys"], HOLDS), signing, HOLDS)
     for head in signed_boxes(scene, line):
-        scene.chain.join(key, head, HOLDS)
+        scene.chain.join(signing, head, HOLDS)
 
 
 def signed_boxes(scene: Scene, line: Line) -> List[Key]:
@@ -207,8 +220,12 @@ def at_zone(scene: Scene, line: Line) -> None:
 def at_name(scene: Scene, line: Line) -> None:
     """What a proof lacks, as an empty box with the name."""
     role = (ROLES[line["role"]],) if "role" in line else ()
-    box = scene.chain.add((line["word"], line["zone"], line["name"]), line["zone"],
-                          (f"no {line['kind'].upper()}", line["name"], *role), MISSING)
+    box = scene.chain.add(
+        (line["word"], line["zone"], line["name"]),
+        line["zone"],
+        (f"no {line['kind'].upper()}", line["name"], *role),
+        MISSING,
+    )
     scene.lead(box, MISSING)
 
 
@@ -216,7 +233,9 @@ def record(scene: Scene, line: Line) -> None:
     """A record that says something else, or that can't be used."""
     zone, name = line.get("zone"), line["name"] if line.get("name") else line["owner"]
     kind = line["kind"].upper() if "kind" in line else owned("", line["type"]).strip()
-    box = scene.chain.add(("record", line["rrset"], line["record"]), zone, (f"{kind}, record {line['record']}", name), FAILS)
+    box = scene.chain.add(
+        ("record", line["rrset"], line["record"]), zone, (f"{kind}, record {line['record']}", name), FAILS
+    )
     scene.lead(box, FAILS, line["word"])
 
 
@@ -234,12 +253,41 @@ def follows(scene: Scene, line: Line) -> None:
     scene.of_signature(line, FOLLOWS)
 
 
-ABSENT = {"no-anchor": "no trust anchor", "dnskey-missing": "no DNSKEY", "ds-missing": "no DS", "answer-missing": "no answer",
-          "denial-unproved": "no proof"}
+ABSENT = {
+    "no-anchor": "no trust anchor",
+    "dnskey-missing": "no DNSKEY",
+    "ds-missing": "no DS",
+    "answer-missing": "no answer",
+    "denial-unproved": "no proof",
+}
 REASONS = {
-    "no-anchor": at_zone, "dnskey-missing": at_zone, "ds-missing": at_zone, "not-self-signed": not_self_signed,
-    "unsigned": unsigned, "dname": dname, "nsec3-iterations": record, "nsec3-unusable": record, "delegation": record,
-    "type-held": record, "match-missing": at_name, "encloser-missing": at_name, "cover-missing": at_name,
-    "answer-missing": question, "denial-unproved": question}
-DRAWN = {"trusted": trusted, "signed": signed, "proof": proof, "part": part, "case": case, "unusable": unusable,
-         "hope": unseen, "holds": unseen, "rrset": unseen, "key": key, "reason": reason, "follows": follows}
+    "no-anchor": at_zone,
+    "dnskey-missing": at_zone,
+    "ds-missing": at_zone,
+    "not-self-signed": not_self_signed,
+    "unsigned": unsigned,
+    "dname": dname,
+    "nsec3-iterations": record,
+    "nsec3-unusable": record,
+    "delegation": record,
+    "type-held": record,
+    "match-missing": at_name,
+    "encloser-missing": at_name,
+    "cover-missing": at_name,
+    "answer-missing": question,
+    "denial-unproved": question,
+}
+DRAWN = {
+    "trusted": trusted,
+    "signed": signed,
+    "proof": proof,
+    "part": part,
+    "case": case,
+    "unusable": unusable,
+    "hope": unseen,
+    "holds": unseen,
+    "rrset": unseen,
+    "key": key,
+    "reason": reason,
+    "follows": follows,
+}

@@ -5,26 +5,37 @@ from .said import HAS, HOLDS, WHY, Said
 from .values import SECTIONS, ZONE_KEY, algorithm_name, date, digest_name, flag_names, key_name, owned, until
 
 FORMS = {
-    "no-name": "there is no such name", "no-data-1": "the name is there, without the type",
+    "no-name": "there is no such name",
+    "no-data-1": "the name is there, without the type",
     "no-data-2": "the name is there only for the names below it",
     "no-data-3": "a wildcard stands for the name, without the type",
     "no-data-4": "a wildcard stands for the name, and is there only for the names below it",
-    "no-closer": "no name is closer than the wildcard that answers", "opt-out": "the name may be unsigned"}
+    "no-closer": "no name is closer than the wildcard that answers",
+    "opt-out": "the name may be unsigned",
+}
 RELATIONS = {
-    "matched": "is at it", "exists": "shows that it is there", "covered": "proves that it isn't there",
+    "matched": "is at it",
+    "exists": "shows that it is there",
+    "covered": "proves that it isn't there",
     "non-terminal": "shows that it is there only for the names below it",
-    "opt-out": "leaves open whether it is an unsigned delegation (Opt-Out)"}
+    "opt-out": "leaves open whether it is an unsigned delegation (Opt-Out)",
+}
 CASES = {
-    1: "it is delegated without DS", 2: "none of its DS records can be used",
+    1: "it is delegated without DS",
+    2: "none of its DS records can be used",
     3: "Opt-Out leaves open whether it is an unsigned delegation",
-    4: "a wildcard answers, and Opt-Out leaves open whether the name itself is an unsigned delegation"}
-UNUSABLE = {"algorithm": "the algorithm isn't supported", "digest-type": "the digest type isn't supported",
-            "digest-ignored": "a stronger digest stands beside it"}
+    4: "a wildcard answers, and Opt-Out leaves open whether the name itself is an unsigned delegation",
+}
+UNUSABLE = {
+    "algorithm": "the algorithm isn't supported",
+    "digest-type": "the digest type isn't supported",
+    "digest-ignored": "a stronger digest stands beside it",
+}
 
 
 def unverified(line: Line) -> str:
     """Said of what holds only if a signature is good that nobody verified yet."""
-    return ", if signature {todo} of those to verify is good".format(**line) if "todo" in line else ""
+    return f", if signature {line['todo']} of those to verify is good" if "todo" in line else ""
 
 
 def trusted(_told: Explanation, line: Line) -> Said:
@@ -58,7 +69,8 @@ def case(_told: Explanation, line: Line) -> Said:
 
 
 def unusable(_told: Explanation, line: Line) -> Said:
-    text = f"it names {key_name(line['tag'], line['algorithm'])} by {digest_name(line['digest_type'])}; {UNUSABLE[line['why']]}"
+    named, digest = key_name(line["tag"], line["algorithm"]), digest_name(line["digest_type"])
+    text = f"it names {named} by {digest}; {UNUSABLE[line['why']]}"
     return Said(WHY, owned(line["owner"], DS), text)
 
 

@@ -5,8 +5,13 @@ from .values import all_of, key_name, owned
 
 DNSKEY, DS, DNAME = 48, 43, 39
 # What a part of a proof is for.
-ROLES = {"closest-encloser": "closest encloser", "next-closer": "next closer name", "wildcard": "wildcard",
-         "name": "name asked for", "cut": "delegation"}
+ROLES = {
+    "closest-encloser": "closest encloser",
+    "next-closer": "next closer name",
+    "wildcard": "wildcard",
+    "name": "name asked for",
+    "cut": "delegation",
+}
 
 
 def no_anchor(_told: Explanation, line: Line) -> Words:

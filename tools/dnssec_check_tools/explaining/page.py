@@ -18,8 +18,8 @@ SVG = "<svg "  # what a picture begins with, behind which the template names it
 
 @dataclass
 class Entry:
-    """A verdict: what is asked, the verdict in words, the capture's name and the moment, and what explains it, None where there
-    is no verdict."""
+    """A verdict: what is asked, the verdict in words, the capture's name and the moment, and what explains it, None
+    where there is no verdict."""
 
     question: str
     said: str
@@ -58,6 +58,7 @@ def library() -> Any:
 def markup(text: str) -> Any:
     """HTML that is taken as it is."""
     from markupsafe import Markup
+
     return Markup(text)
 
 
@@ -66,16 +67,23 @@ def template_text(name: str) -> str:
 
 
 def shown(value: Any) -> Any:
-    """What anybody wrote with what can't be shown as `\\xNN`; that is escaped for HTML behind this, and markup isn't."""
+    """What anybody wrote with what can't be shown as `\\xNN`; that is escaped for HTML behind this, and markup
+    isn't."""
     return escaped(value) if isinstance(value, str) and not hasattr(value, "__html__") else value
 
 
 def page_of(entries: Sequence[Entry], captures: Sequence[Tuple[str, List[str]]]) -> str:
     """The page: its entries, and the records of each capture, a line each, by the capture's name."""
     jinja = library()
-    environment = jinja.Environment(loader=jinja.FunctionLoader(template_text), autoescape=True, finalize=shown,
-                                    undefined=jinja.StrictUndefined, trim_blocks=True, lstrip_blocks=True,
-                                    keep_trailing_newline=True)
+    environment = jinja.Environment(
+        loader=jinja.FunctionLoader(template_text),
+        autoescape=True,
+        finalize=shown,
+        undefined=jinja.StrictUndefined,
+        trim_blocks=True,
+        lstrip_blocks=True,
+        keep_trailing_newline=True,
+    )
     listed = [(name, markup("\n").join(map(shown, lines))) for name, lines in captures]
     verdicts = [verdict_of(each) for each in entries]
     return environment.get_template(PAGE).render(verdicts=verdicts, captures=listed)
@@ -84,6 +92,6 @@ def page_of(entries: Sequence[Entry], captures: Sequence[Tuple[str, List[str]]])
 def verdict_of(entry: Entry) -> Verdict:
     chain = None
     if entry.told:
-        picture = markup(svg_of(chain_of(entry.told))[len(SVG):])
+        picture = markup(svg_of(chain_of(entry.told))[len(SVG) :])
         chain = Chain(why(entry.told), picture, [sentence(entry.told, line) for line in entry.told.lines])
     return Verdict(entry.question, entry.said, entry.capture, moment_text(entry.moment), chain)

@@ -11,8 +11,12 @@ from .chain import FAILS, FOLLOWS, MISSING, UNDER, Box, Chain, Edge, Key
 DOT = "dot"
 # How a box or an edge is drawn so that it can be told without colour; colours are given by the page, by class.
 BOX_STYLES = {FAILS: "style=bold penwidth=2.5", MISSING: "style=dashed", FOLLOWS: "style=dotted"}
-EDGE_STYLES = {FAILS: "style=bold penwidth=2.5", MISSING: "style=dashed penwidth=1.5", FOLLOWS: "style=dotted",
-               UNDER: "style=invis weight=0"}
+EDGE_STYLES = {
+    FAILS: "style=bold penwidth=2.5",
+    MISSING: "style=dashed penwidth=1.5",
+    FOLLOWS: "style=dotted",
+    UNDER: "style=invis weight=0",
+}
 FRONT = """digraph chain {
 graph [rankdir=TB nodesep=0.25 ranksep=0.35 margin=0 bgcolor=transparent fontname="Helvetica" fontsize=12]
 node [shape=box margin="0.1,0.05" height=0.3 fontname="Helvetica" fontsize=11]
@@ -21,8 +25,8 @@ edge [arrowsize=0.7 fontname="Helvetica" fontsize=10]
 FRAME = "class=zone; style=rounded; margin=8"
 # A frame's name is a box without lines in it, beside which edges have to pass.
 NAMED = 'shape=plaintext margin=0 fontname="Helvetica-Bold" fontsize=12 class=name'
-# What Graphviz writes besides the picture: what is before it, comments, titles, which would be numbers of nodes, and ids,
-# which each picture of a page would have again.
+# What Graphviz writes besides the picture: what is before it, comments, titles, which would be numbers of nodes, and
+# ids, which each picture of a page would have again.
 BESIDES = re.compile(r"\A.*?(?=<svg)|<!--.*?-->\n?|<title>.*?</title>\n?|(?<=<g) id=\"[^\"]*\"", re.DOTALL)
 WIDE = 26  # a longer name is broken at a dot
 NO_BREAK = "\u00a0"  # a blank that stays beside the text of an edge

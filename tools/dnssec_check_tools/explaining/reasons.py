@@ -10,21 +10,44 @@ Reason = Callable[[Explanation, Line], Words]
 
 # What a word is said by; a word that is said of a signature and of what vouches for keys has one for each.
 OF_SIGNATURES: Dict[str, Reason] = {
-    "labels": signatures.labels, "signer": signatures.signer, "expanded": signatures.expanded,
-    "algorithm": signatures.algorithm, "not-yet": signatures.not_yet, "expired": signatures.expired,
-    "key-missing": signatures.key_missing, "not-zone-key": signatures.not_zone_key, "bad": signatures.bad,
-    "unanswered": signatures.unanswered, "key-untrusted": signatures.key_untrusted, "no-closer": signatures.no_closer}
+    "labels": signatures.labels,
+    "signer": signatures.signer,
+    "expanded": signatures.expanded,
+    "algorithm": signatures.algorithm,
+    "not-yet": signatures.not_yet,
+    "expired": signatures.expired,
+    "key-missing": signatures.key_missing,
+    "not-zone-key": signatures.not_zone_key,
+    "bad": signatures.bad,
+    "unanswered": signatures.unanswered,
+    "key-untrusted": signatures.key_untrusted,
+    "no-closer": signatures.no_closer,
+}
 OF_VOUCHERS: Dict[str, Reason] = {
-    "algorithm": vouchers.algorithm, "digest-type": vouchers.digest_type, "digest-ignored": vouchers.digest_ignored,
-    "key-missing": vouchers.key_missing, "key-algorithm": vouchers.key_algorithm,
-    "digest-differs": vouchers.digest_differs}
+    "algorithm": vouchers.algorithm,
+    "digest-type": vouchers.digest_type,
+    "digest-ignored": vouchers.digest_ignored,
+    "key-missing": vouchers.key_missing,
+    "key-algorithm": vouchers.key_algorithm,
+    "digest-differs": vouchers.digest_differs,
+}
 OF_OTHERS: Dict[str, Reason] = {
-    "no-anchor": missing.no_anchor, "dnskey-missing": missing.dnskey_missing, "ds-missing": missing.ds_missing,
-    "not-self-signed": missing.not_self_signed, "unsigned": missing.unsigned, "dname": missing.dname,
-    "nsec3-iterations": missing.nsec3_iterations, "nsec3-unusable": missing.nsec3_unusable,
-    "delegation": missing.delegation, "type-held": missing.type_held, "match-missing": missing.match_missing,
-    "encloser-missing": missing.encloser_missing, "cover-missing": missing.cover_missing,
-    "answer-missing": missing.answer_missing, "denial-unproved": missing.denial_unproved}
+    "no-anchor": missing.no_anchor,
+    "dnskey-missing": missing.dnskey_missing,
+    "ds-missing": missing.ds_missing,
+    "not-self-signed": missing.not_self_signed,
+    "unsigned": missing.unsigned,
+    "dname": missing.dname,
+    "nsec3-iterations": missing.nsec3_iterations,
+    "nsec3-unusable": missing.nsec3_unusable,
+    "delegation": missing.delegation,
+    "type-held": missing.type_held,
+    "match-missing": missing.match_missing,
+    "encloser-missing": missing.encloser_missing,
+    "cover-missing": missing.cover_missing,
+    "answer-missing": missing.answer_missing,
+    "denial-unproved": missing.denial_unproved,
+}
 
 
 def reason(told: Explanation, line: Line) -> Said:

@@ -1,6 +1,6 @@
 """The sentences of an explanation: the verdict; then what fails first, what the zone has beside what is wanted, what
 follows, and how far it holds. All of it is from one JSON object of `explain`."""
-from typing import Callable, Dict, List, Optional
+from typing import Dict, List, Optional
 from .explanation import Explanation, Line
 from . import holding
 from .missing import DNSKEY
@@ -8,9 +8,20 @@ from .reasons import follows, reason
 from .said import HOLDS, Said
 from .values import counted, owned, until
 
-LINES = {"reason": reason, "follows": follows, "key": holding.key, "trusted": holding.trusted, "signed": holding.signed,
-         "proof": holding.proof, "part": holding.part, "case": holding.case, "unusable": holding.unusable,
-         "hope": holding.hope, "holds": holding.holds, "rrset": holding.rrset}
+LINES = {
+    "reason": reason,
+    "follows": follows,
+    "key": holding.key,
+    "trusted": holding.trusted,
+    "signed": holding.signed,
+    "proof": holding.proof,
+    "part": holding.part,
+    "case": holding.case,
+    "unusable": holding.unusable,
+    "hope": holding.hope,
+    "holds": holding.holds,
+    "rrset": holding.rrset,
+}
 FAILING = ("Bogus", "Indeterminate")
 
 
@@ -40,8 +51,8 @@ def first_reason(told: Explanation) -> Optional[Said]:
 
 
 def why(told: Explanation) -> List[Said]:
-    """Why the verdict isn't secure; nothing of one that is. RRsets that came several times may have equal sentences, each of
-    which is said once."""
+    """Why the verdict isn't secure; nothing of one that is. RRsets that came several times may have equal sentences,
+    each of which is said once."""
     words = ("reason", "key", "follows") if told.value["verdict"] in FAILING else ("case", "unusable", "hope")
     said = list(dict.fromkeys(sentence(told, line) for word in words for line in told.of(word)))
     return said + how_far(told) if said and told.value["verdict"] in FAILING else said
@@ -60,8 +71,8 @@ def how_far(told: Explanation) -> List[Said]:
 
 
 def start_of(links: List[Line]) -> Optional[Line]:
-    """The link that an anchor begins of the chain that ends with the last one: other chains, as those of aliases, may have
-    others. None where it isn't among them."""
+    """The link that an anchor begins of the chain that ends with the last one: other chains, as those of aliases, may
+    have others. None where it isn't among them."""
     by_rrset: Dict[int, Optional[Line]] = {line["rrset"]: line for line in links}
     link: Optional[Line] = links[-1]
     while link is not None and "anchor" not in link:

@@ -6,9 +6,23 @@ from ..asking.moments import moment_text
 # Numbers of the IANA registries "DNS Security Algorithm Numbers" and "Delegation Signer (DS) Resource Record (RR) Type
 # Digest Algorithms".
 ALGORITHMS = {
-    1: "RSAMD5", 3: "DSA", 5: "RSASHA1", 6: "DSA-NSEC3-SHA1", 7: "RSASHA1-NSEC3-SHA1", 8: "RSASHA256", 10: "RSASHA512",
-    12: "ECC-GOST", 13: "ECDSAP256SHA256", 14: "ECDSAP384SHA384", 15: "ED25519", 16: "ED448", 17: "SM2SM3",
-    23: "ECC-GOST12", 253: "PRIVATEDNS", 254: "PRIVATEOID"}
+    1: "RSAMD5",
+    3: "DSA",
+    5: "RSASHA1",
+    6: "DSA-NSEC3-SHA1",
+    7: "RSASHA1-NSEC3-SHA1",
+    8: "RSASHA256",
+    10: "RSASHA512",
+    12: "ECC-GOST",
+    13: "ECDSAP256SHA256",
+    14: "ECDSAP384SHA384",
+    15: "ED25519",
+    16: "ED448",
+    17: "SM2SM3",
+    23: "ECC-GOST12",
+    253: "PRIVATEDNS",
+    254: "PRIVATEOID",
+}
 DIGESTS = {1: "SHA-1", 2: "SHA-256", 3: "GOST R 34.11-94", 4: "SHA-384", 5: "GOST R 34.11-2012", 6: "SM3"}
 # The bits of a key's flags (RFC 4034 2.1.1, RFC 5011 3).
 FLAGS = ((0x100, "ZONE"), (0x80, "REVOKE"), (1, "SEP"))
@@ -46,7 +60,8 @@ def counted(number: int, word: str) -> str:
 
 
 def distance(seconds: int) -> str:
-    """A length of time in one unit, in so large a one that there are two of it, and no more than there are whole ones."""
+    """A length of time in one unit, in so large a one that there are two of it, and no more than there are whole
+    ones."""
     for word, length in UNITS:
         if seconds >= FEW * length:
             return counted(seconds // length, word)

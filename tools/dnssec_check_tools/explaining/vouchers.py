@@ -51,8 +51,8 @@ def beside(told: Explanation, line: Line) -> str:
 
 def key_algorithm(told: Explanation, line: Line) -> Words:
     others = told.algorithms(line["zone"], line["tag"])
-    beside = f"the zone's is of {all_of(map(algorithm_name, others))}" if others else "the zone's is of another"
-    return owned(line["zone"], DNSKEY), f"{named(line)}; {beside}"
+    instead = f"the zone's is of {all_of(map(algorithm_name, others))}" if others else "the zone's is of another"
+    return owned(line["zone"], DNSKEY), f"{named(line)}; {instead}"
 
 
 def digest_differs(_told: Explanation, line: Line) -> Words:

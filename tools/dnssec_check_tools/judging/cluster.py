@@ -15,8 +15,8 @@ from .spread import Result, Task
 from .work import Common, Judged, judged
 
 MODULES = f"{PACKAGE.name}.zip"
-AHEAD = 8         # captures sent ahead for each thread of the workers
-LOST_MOST = 3     # how often a capture is handed out anew whose workers were lost again and again
+AHEAD = 8  # captures sent ahead for each thread of the workers
+LOST_MOST = 3  # how often a capture is handed out anew whose workers were lost again and again
 WAIT_SECONDS = 30
 
 

@@ -64,7 +64,7 @@ def rdata_of_signature(octets: bytes, record: Record) -> Tuple[bytes, Labels, by
     while 0 < octets[place] < 64:
         place += 1 + octets[place]
     behind = place + (2 if octets[place] >= 0xC0 else 1)
-    return bytes(octets[front:front + SIGNER]), labels, bytes(octets[behind:record.end])
+    return bytes(octets[front : front + SIGNER]), labels, bytes(octets[behind : record.end])
 
 
 def readable_records(octets: bytes) -> List[Record]:

@@ -14,7 +14,8 @@ class Page:
     """What is judged, in its order, and the records of the captures."""
 
     def __init__(self, paths: Dict[str, str]) -> None:
-        library(), program()  # what is missing is told before anything is judged
+        for needed in (library, program):  # what is missing is told before anything is judged
+            needed()
         self.lines = Lines(False, False, paths)
         self.entries: List[Entry] = []
         self.records: Dict[int, Tuple[str, List[str]]] = {}

@@ -7,13 +7,13 @@ from typing import Any, Callable, Iterator, Optional, TextIO
 @contextlib.contextmanager
 def progress(total: int) -> Iterator[Callable[[], None]]:
     """What to call for each capture that is done. Where lines go to the terminal themselves, there is no bar."""
-    bar = bar_of() if total > 1 and is_terminal(sys.stderr) and not is_terminal(sys.stdout) else None
-    if bar is None:
+    shown = bar_of() if total > 1 and is_terminal(sys.stderr) and not is_terminal(sys.stdout) else None
+    if shown is None:
         yield lambda: None
         return
-    with bar:
-        task = bar.add_task("captures", total=total)
-        yield lambda: bar.advance(task)
+    with shown:
+        task = shown.add_task("captures", total=total)
+        yield lambda: shown.advance(task)
 
 
 def is_terminal(stream: Optional[TextIO]) -> bool:

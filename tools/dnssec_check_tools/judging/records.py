@@ -48,7 +48,8 @@ def header_text(dns: Any, octets: bytes, placed: List[Placed]) -> str:
 
 
 def edns_of(octets: bytes, placed: List[Placed]) -> int:
-    """What the OPT record has for a TTL, 0 where there is none: its upper octet is that of the response code (RFC 6891 6.1.3)."""
+    """What the OPT record has for a TTL, 0 where there is none: its upper octet is that of the response code (RFC 6891
+    6.1.3)."""
     return next((number_at(octets, each.record.front - 6, 4) for each in placed if each.record.kind == TYPE_OPT), 0)
 
 
@@ -79,7 +80,7 @@ def record_text(dns: Any, octets: bytes, record: Record) -> str:
     if record.kind == TYPE_OPT:
         return f"{owner} OPT, UDP {group}, flags {dns.flags.edns_to_text(ttl) or '-'} {text}".rstrip()
     named = f"{owner} {ttl} {dns.rdataclass.to_text(group)} {dns.rdatatype.to_text(record.kind)} {text}"
-    return named + (key_text(octets[front:record.end]) if record.kind == TYPE_DNSKEY and size >= 4 else "")
+    return named + (key_text(octets[front : record.end]) if record.kind == TYPE_DNSKEY and size >= 4 else "")
 
 
 def rdata_text(dns: Any, octets: bytes, record: Record, group: int, size: int) -> str:

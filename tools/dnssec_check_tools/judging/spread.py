@@ -30,12 +30,19 @@ def of_unread(task: Task, fault: OSError, common: Common) -> Judged:
     """The verdicts of a capture that can't be read."""
     number = READ_FAILED if is_of_read(fault) else OPEN_FAILED
     evidence = {"number": number, "file": "capture"}
-    return Judged([Row(moment, question, FAILED, "fault", evidence, None) for moment in common.moments
-                   for question in task.questions], [])
+    return Judged(
+        [
+            Row(moment, question, FAILED, "fault", evidence, None)
+            for moment in common.moments
+            for question in task.questions
+        ],
+        [],
+    )
 
 
 def is_of_read(fault: OSError) -> bool:
-    """Whether it's one of a read: that of an open has the file's name, but for a folder's, which the program can open."""
+    """Whether it's one of a read: that of an open has the file's name, but for a folder's, which the program can
+    open."""
     return isinstance(fault, IsADirectoryError) or (fault.errno is not None and fault.filename is None)
 
 
@@ -52,8 +59,8 @@ def ignore_interrupts() -> None:
 
 @contextlib.contextmanager
 def uninterrupted() -> Iterator[None]:
-    """An interrupt waits: behind the start of a process, and before that of the thread which ends it, it would leave it for
-    ever, and this process waits for it."""
+    """An interrupt waits: behind the start of a process, and before that of the thread which ends it, it would leave it
+    for ever, and this process waits for it."""
     old = signal.pthread_sigmask(signal.SIG_BLOCK, {signal.SIGINT})
     try:
         yield

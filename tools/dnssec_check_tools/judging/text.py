@@ -47,8 +47,10 @@ def tsv_head() -> str:
 
 def evidence_words(evidence: Json) -> str:
     """The evidence as the program words it."""
-    aliases = [f"alias {each['name']} rrset {each['rrset']} signature {each['signature']}"
-               for each in evidence.get("aliases", ())]
+    aliases = [
+        f"alias {each['name']} rrset {each['rrset']} signature {each['signature']}"
+        for each in evidence.get("aliases", ())
+    ]
     behind = {name: value for name, value in evidence.items() if name != "aliases"}
     return "; ".join([*aliases, *([words_behind(behind)] if behind else [])])
 

@@ -71,8 +71,10 @@ def judged(octets: bytes, questions: List[Question], common: Common, program: Pr
         for moment in common.moments:
             files["anchors"] = common.anchors[moment]
             write_files(folder, {"anchors": files["anchors"]})
-            rows += [view.row(moment, question, program.told(EXPLAIN, folder, files, moment, question))
-                     for question in questions]
+            rows += [
+                view.row(moment, question, program.told(EXPLAIN, folder, files, moment, question))
+                for question in questions
+            ]
     return Judged(rows, notes)
 
 

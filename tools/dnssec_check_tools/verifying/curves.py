@@ -3,11 +3,12 @@
 Each function answers whether the signature is one of the data by the key. A ValueError tells that the key or the
 signature is malformed, a NotImplementedError that the package lacks the algorithm on this machine.
 """
+from typing import Any, Callable, Dict
+
 from cryptography.exceptions import InvalidSignature, UnsupportedAlgorithm
 from cryptography.hazmat.primitives import hashes
 from cryptography.hazmat.primitives.asymmetric import ec, ed448, ed25519
 from cryptography.hazmat.primitives.asymmetric.utils import encode_dss_signature
-from typing import Any, Callable, Dict
 
 ECDSA = {"P-256": (ec.SECP256R1(), hashes.SHA256()), "P-384": (ec.SECP384R1(), hashes.SHA384())}
 EDDSA: Dict[str, Any] = {"Ed25519": ed25519.Ed25519PublicKey, "Ed448": ed448.Ed448PublicKey}
@@ -22,7 +23,10 @@ def is_signed_by_ecdsa(name: str, key: bytes, data: bytes, signature: bytes) -> 
     r, s = (int.from_bytes(half, "big") for half in (signature[:size], signature[size:]))
     return is_verified(
         lambda: ec.EllipticCurvePublicKey.from_encoded_point(curve, b"\x04" + key),
-        encode_dss_signature(r, s), data, ec.ECDSA(hash_function))
+        encode_dss_signature(r, s),
+        data,
+        ec.ECDSA(hash_function),
+    )
 
 
 def is_signed_by_eddsa(name: str, key: bytes, data: bytes, signature: bytes) -> bool:

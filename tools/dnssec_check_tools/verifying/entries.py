@@ -1,4 +1,5 @@
 """What has to be verified, line by line, and the statements that answer it."""
+import importlib
 import re
 from typing import Any, NamedTuple, Tuple
 
@@ -24,8 +25,7 @@ class Lacking(Exception):
 
 def curves() -> Any:
     """Imported where a line needs it: RSA does without the package, and an interrupt of the import has its line too."""
-    from . import curves as module
-    return module
+    return importlib.import_module(".curves", __package__)
 
 
 VERIFIERS = {

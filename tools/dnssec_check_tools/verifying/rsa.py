@@ -30,7 +30,7 @@ def rsa_key(key: bytes, bits_least: int) -> Tuple[int, int]:
         front, length = 3, int.from_bytes(key[1:3], "big")
         if length < 256:
             raise Malformed
-    exponent, modulus = rsa_number(key[front:front + length]), rsa_number(key[front + length:])
+    exponent, modulus = rsa_number(key[front : front + length]), rsa_number(key[front + length :])
     if modulus.bit_length() < bits_least or not 3 <= exponent < modulus:
         raise Malformed
     return modulus, exponent

@@ -190,7 +190,7 @@ class Lacking(unittest.TestCase):
 
     def test_without_the_package_rsa_is_verified(self):
         lines = self.GIVEN.decode().splitlines()
-        with mock.patch.dict(sys.modules, {"verifying.curves": None}):
+        with mock.patch.dict(sys.modules, {"dnssec_check_tools.verifying.curves": None}):
             self.left_out([number for number, line in enumerate(lines, 1) if line.startswith("todo 1")
                            and not line.startswith("todo 10 ")])
 
