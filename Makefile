@@ -1,7 +1,7 @@
 # `all`, `try`, `test` and `wrong-bodies` need the kit's command `rt` on the path, and `test` the packages of `packages`
 # besides; `demo`, `examples`, `faults`, `pages`, `install` and `deb` take the program that is built, and build it where there
 # is none. `check` builds nothing.
-.PHONY: all try test check packages demo examples faults wrong-bodies test-tools pages install deb
+.PHONY: all try test check packages lint demo examples faults wrong-bodies test-tools pages install deb
 
 program = crates/dnssec_check/out/dnssec_check
 rows = crates/dnsv_rows/out/dnsv_rows
@@ -33,6 +33,10 @@ check:
 # Debian's packages that the tools, their tests and the guards need.
 packages:
 	tools/packages
+
+# What black, pylint and mypy say of the Python.
+lint:
+	tools/lint
 
 # What each signature of a message that a real name server sent signs.
 demo: | $(program)

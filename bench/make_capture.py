@@ -23,6 +23,9 @@ Each message is a response with RECORDS records in its answer section, of one of
 
 The second form writes a file of the anchor that the zones of tree, chain, bare and collide begin with.
 """
+
+from __future__ import annotations
+
 import hashlib
 import random
 import struct
@@ -30,11 +33,11 @@ import sys
 
 from wire import QUESTION, ROOT, ZONE, anchor, key_tag, label, nsec3_rdata, record, response, rrsig, twin_key, zone_key
 
-TYPES = {1: 4, 28: 16, 15: None, 16: 24, 2: None}  # the type and how many octets its RDATA has
+TYPES = {1: 4, 28: 16, 15: 0, 16: 24, 2: 0}  # the type and how many octets its RDATA has, 0 where it has a name
 DEEP = b"\x01a" * 121 + ROOT
 
 
-def rdata_of(draw, rtype):
+def rdata_of(draw: random.Random, rtype: int) -> bytes:
     name = bytes([8]) + bytes(draw.choices(b"ABCDEFGHijklmnop", k=8)) + ZONE
     if rtype == 15:
         return struct.pack("!H", draw.randrange(100)) + name
@@ -44,12 +47,12 @@ def rdata_of(draw, rtype):
     return bytes([len(octets) - 1]) + octets[1:] if rtype == 16 else octets
 
 
-def dnskey(number):
+def dnskey(number: int) -> bytes:
     """A key. All have one tag."""
     return twin_key(number, 1000, back=bytes(range(60)))
 
 
-def records_of(draw, count, kind, message):
+def records_of(draw: random.Random, count: int, kind: str, message: int) -> list[bytes]:
     """The records of one message, RRset by RRset."""
     if kind == "pairs":
         return [record(QUESTION, 50, nsec3_rdata(1, struct.pack("!H", number), 0)) for number in range(count)]
@@ -74,18 +77,18 @@ def records_of(draw, count, kind, message):
     return records[:count]
 
 
-def zone_name(number, width):
+def zone_name(number: int, width: int) -> bytes:
     """Zone 0 is the first, and each zone has as many below it as the width says."""
     if number == 0:
         return ZONE
     return label(b"z%d" % number if width > 1 else b"z") + zone_name((number - 1) // width, width)
 
 
-def zone_signature(draw, rtype, owner, signer, tag):
+def zone_signature(draw: random.Random, rtype: int, owner: bytes, signer: bytes, tag: int) -> bytes:
     return rrsig(draw, rtype, owner.count(b"z") + owner.count(b"sub") + 2, signer, tag)
 
 
-def zone_records(draw, number, width):
+def zone_records(draw: random.Random, number: int, width: int) -> list[bytes]:
     zone, above = zone_name(number, width), (number - 1) // width if number else 0
     parent = zone_name(above, width)
     first, second = zone_key(number, 257), zone_key(number, 256)
@@ -102,13 +105,13 @@ def zone_records(draw, number, width):
     ]
 
 
-def zones_of(draw, number, count, width, behind):
+def zones_of(draw: random.Random, number: int, count: int, width: int, behind: int) -> list[bytes]:
     """The records of one message, zone by zone, each without so many at its beginning."""
     zones = range(number * count // 8, (number + 1) * count // 8)
     return [each for zone in zones for each in zone_records(draw, zone, width)[behind:]]
 
 
-def collide(draw, number):
+def collide(draw: random.Random, number: int) -> list[bytes]:
     """The records of one message: keys of one tag, and DS records that each of them has to be tried with."""
     if number == 0:
         return zone_records(draw, 0, 8)[2:6]
@@ -124,7 +127,7 @@ def collide(draw, number):
     ]
 
 
-def main():
+def main() -> None:
     if sys.argv[1] == "anchor":
         sys.stdout.write(anchor("bench.example.", zone_key(0, 257)))
         return

@@ -3,8 +3,8 @@
 
 usage: make_denials.py KIND RECORDS > FILE
 
-The zone is the root. The capture has RECORDS records: its DNSKEY record, and RRsets of one record, each with a signature.
-They are of one of these kinds:
+The zone is the root. The capture has RECORDS records: its DNSKEY record, and RRsets of one record, each with a
+signature. They are of one of these kinds:
   near   NSEC records with owners of 120 labels, of which a question of 127 has 119
   far    NSEC records with owners of two labels, of which it has none
   hashed NSEC3 records of 500 iterations, with 8 salts, that say nothing of any name
@@ -13,22 +13,41 @@ usage: make_denials.py anchors > FILE
 
 Writes the trust anchor: the zone's key.
 """
+
+from __future__ import annotations
+
 import random
 import struct
 import sys
+from typing import Iterator, Tuple
 
-from wire import (DNSKEY, NSEC, NSEC3, ROOT, RRSIG, anchor, hash_label, key_tag, label, nsec3_rdata, record, response,
-                  rrsig)
+from wire import (
+    DNSKEY,
+    NSEC,
+    NSEC3,
+    ROOT,
+    RRSIG,
+    anchor,
+    hash_label,
+    key_tag,
+    label,
+    nsec3_rdata,
+    record,
+    response,
+    rrsig,
+)
 
+# An owner, the type, the RDATA and how many labels a signature counts.
+Denial = Tuple[bytes, int, bytes, int]
 ABOVE = b"\x01a" * 119 + ROOT
 KEY = struct.pack("!HBB", 257, 3, 13) + bytes(range(64))
 
 
-def signature(draw, rtype, labels):
+def signature(draw: random.Random, rtype: int, labels: int) -> bytes:
     return rrsig(draw, rtype, labels, ROOT, key_tag(KEY))
 
 
-def nsec(draw, count, above):
+def nsec(count: int, above: bytes) -> Iterator[Denial]:
     """NSEC records from one owner to the next; the last goes back to the first."""
     names = [label(b"h%04d" % number) + above for number in range(count)]
     for place, owner in enumerate(names):
@@ -36,7 +55,7 @@ def nsec(draw, count, above):
         yield owner, NSEC, following + bytes([0, 6, 0x40, 0, 0, 0, 0, 3]), 1 + len(above) // 2
 
 
-def nsec3(draw, count):
+def nsec3(draw: random.Random, count: int) -> Iterator[Denial]:
     """NSEC3 records whose gaps are empty, so that none covers a hash."""
     for number in range(count):
         salt = bytes([number % 8] * 8)
@@ -45,7 +64,7 @@ def nsec3(draw, count):
         yield hash_label(hashed) + ROOT, NSEC3, rdata, 1
 
 
-def main():
+def main() -> None:
     if sys.argv[1] == "anchors":
         sys.stdout.write(anchor(".", KEY))
         return
@@ -53,8 +72,8 @@ def main():
     draw = random.Random(20261123)
     sets = (count - 2) // 2
     rrsets = {
-        "near": lambda: nsec(draw, sets, ABOVE),
-        "far": lambda: nsec(draw, sets, b"\x01b" + ROOT),
+        "near": lambda: nsec(sets, ABOVE),
+        "far": lambda: nsec(sets, b"\x01b" + ROOT),
         "hashed": lambda: nsec3(draw, sets),
     }[kind]()
     records = [record(ROOT, DNSKEY, KEY), record(ROOT, RRSIG, signature(draw, DNSKEY, 0))]
@@ -62,7 +81,7 @@ def main():
         records += [record(owner, rtype, rdata), record(owner, RRSIG, signature(draw, rtype, labels))]
     # Messages of 64 records, whose question is the same.
     for number, first in enumerate(range(0, len(records), 64)):
-        sys.stdout.buffer.write(response(number, ROOT, records[first:first + 64]))
+        sys.stdout.buffer.write(response(number, ROOT, records[first : first + 64]))
 
 
 main()

@@ -9,70 +9,84 @@ growth is their number by that of the row above, and peak memory and processor t
 needs the built program (make), valgrind and GNU time. The largest rows take a GiB of memory, and all together some
 minutes of processor time.
 """
+
+from __future__ import annotations
+
 import pathlib
 import re
 import subprocess
 import sys
 import tempfile
-from collections import namedtuple
+from typing import Iterable, NamedTuple
 
 from shapes import SHAPES
+from shapes.shape import Shape
 
 PROGRAM = pathlib.Path(__file__).resolve().parent.parent / "crates" / "dnssec_check" / "out" / "dnssec_check"
 GROWTH = 4
 VERDICTS_AND_REFUSALS = (0, 3, 4, 5, 6, 7)
 
-Costs = namedtuple("Costs", "octets pairs instructions peak seconds answer")
+
+class Costs(NamedTuple):
+    octets: int
+    pairs: int
+    instructions: int
+    peak: int
+    seconds: float
+    answer: str
 
 
-def write_files(shape, room):
+def write_files(shape: Shape, room: pathlib.Path) -> None:
     """Writes the shape's files, and its statements as the lines of `list` begin."""
     for option, pieces in shape.files.items():
         with open(room / option, "wb") as file:
             file.writelines(pieces)
     if shape.answered_from is not None:
-        words = [PROGRAM, "list", "--capture", room / "capture", "--moment", "1500"]
+        words = [str(PROGRAM), "list", "--capture", str(room / "capture"), "--moment", "1500"]
         todo = subprocess.run(words, check=True, stdout=subprocess.PIPE).stdout.splitlines(keepends=True)
-        good = [line.replace(b"todo", b"good", 1) for line in todo[shape.answered_from:]]
+        good = [line.replace(b"todo", b"good", 1) for line in todo[shape.answered_from :]]
         (room / "statements").write_bytes(b"".join(good))
 
 
-def words_of(shape, room):
-    files = [word for path in sorted(room.iterdir()) for word in (f"--{path.name}", path)]
-    return [PROGRAM, *shape.words, *files]
+def words_of(shape: Shape, room: pathlib.Path) -> list[str]:
+    files = [word for path in sorted(room.iterdir()) for word in (f"--{path.name}", str(path))]
+    return [str(PROGRAM), *shape.words, *files]
 
 
-def run(words):
+def run(words: list[str]) -> tuple[str, str]:
     """What it prints and what it complains of; any verdict and any refusal will do, a fault of the machine won't."""
     done = subprocess.run(words, capture_output=True, check=False)
     if done.returncode not in VERDICTS_AND_REFUSALS:
-        raise SystemExit(f"{' '.join(map(str, words))}: status {done.returncode}: {done.stderr.decode()}")
+        raise SystemExit(f"{' '.join(words)}: status {done.returncode}: {done.stderr.decode()}")
     return done.stdout.decode(), done.stderr.decode()
 
 
-def costs_of(shape):
+def costs_of(shape: Shape) -> Costs:
     with tempfile.TemporaryDirectory() as name:
         room, log = pathlib.Path(name) / "files", pathlib.Path(name) / "log"
         room.mkdir()
         write_files(shape, room)
         octets, words = sum(path.stat().st_size for path in room.iterdir()), words_of(shape, room)
-        output, errors = run(["/usr/bin/time", "-q", "-f", "%M %U %S", "-o", log, *words])
+        output, errors = run(["/usr/bin/time", "-q", "-f", "%M %U %S", "-o", str(log), *words])
         peak, user, system = log.read_text().split()
         valgrind = ["valgrind", "--tool=callgrind", "--callgrind-out-file=/dev/null"]
-        counted = re.search(r"refs: *([0-9,]+)", run([*valgrind, *words])[1]).group(1)
+        counted = re.findall(r"refs: *([0-9,]+)", run([*valgrind, *words])[1])[0]
         answer = (output or errors).split("\n")[0]
         return Costs(octets, shape.pairs, int(counted.replace(",", "")), int(peak), float(user) + float(system), answer)
 
 
-def row(name, size, costs, before):
+def row(name: str, size: int, costs: Costs, before: Costs | None) -> str:
     pairs = f"{costs.pairs:,}" if costs.pairs else ""
     growth = f"{costs.instructions / before.instructions:.1f}" if before else ""
-    return (f"| `{name}` | {size:,} | {costs.octets:,} | {pairs} | {costs.instructions:,} | {growth} "
-            f"| {costs.peak:,} KiB | {costs.seconds:.2f} |")
+    return (
+        f"| `{name}` | {size:,} | {costs.octets:,} | {pairs} | {costs.instructions:,} | {growth} "
+        f"| {costs.peak:,} KiB | {costs.seconds:.2f} |"
+    )
 
 
-def measure(name, sizes):
-    make, before = SHAPES[name][0], None
+def measure(name: str, sizes: Iterable[int]) -> None:
+    make = SHAPES[name][0]
+    before: Costs | None = None
     for size in sizes:
         costs = costs_of(make(size))
         print(row(name, size, costs, before), flush=True)
@@ -80,7 +94,7 @@ def measure(name, sizes):
         before = costs
 
 
-def main(words):
+def main(words: list[str]) -> None:
     names, sizes = words[:1] or SHAPES, [int(word) for word in words[1:]]
     for name in names:
         _, size = SHAPES[name]

@@ -1,35 +1,40 @@
 """Files of many small parts."""
+
+from __future__ import annotations
+
+from typing import Iterable
+
 from .shape import Shape
 
-NOTHING = {"capture": [], "anchors": []}
+NOTHING: dict[str, Iterable[bytes]] = {"capture": [], "anchors": []}
 
 
-def key_file(lines):
+def key_file(lines: int) -> Shape:
     """A file of so many shared keys, a line of 15 octets each."""
     return Shape({**NOTHING, "keys": [b"k%07d. AAAA\n" % number for number in range(lines)]})
 
 
-def statement(number):
+def statement(number: int) -> bytes:
     """A line of 23 octets."""
     return b"good 13 %08x 00 00\n" % number
 
 
-def statements(lines):
+def statements(lines: int) -> Shape:
     """So many short statements, each greater than the one before."""
     return Shape({**NOTHING, "statements": map(statement, range(lines))})
 
 
-def scattered(lines):
+def scattered(lines: int) -> Shape:
     """The same in no order."""
     # The factor is odd, so no two numbers become one.
     return Shape({**NOTHING, "statements": (statement(number * 2_654_435_761 % 2**32) for number in range(lines))})
 
 
-def frames(count):
+def frames(count: int) -> Shape:
     """A capture of so many messages of one octet, of which the first is refused."""
     return Shape({"capture": [b"\x00\x01\x00" * 1_000] * (count // 1_000)}, ("list", "--moment", "1500"))
 
 
-def zeros(octets):
+def zeros(octets: int) -> Shape:
     """So many zeros as anchors."""
     return Shape({"capture": [], "anchors": [bytes(2**20)] * (octets // 2**20)})

@@ -10,8 +10,19 @@ RECORDS = ("nsec3-iterations", "nsec3-unusable")
 def entry(fields: Fields) -> Members:
     """ZONE anchor A wants TAG ALG [digest D], or ZONE rrset R record K wants TAG ALG digest D."""
     zone, *rest = fields
-    return {"zone": zone, **options(rest, {"anchor": ["anchor"], "rrset": ["rrset"], "record": ["record"],
-                                           "wants": ["tag", "algorithm"], "digest": ["digest_type"]})}
+    return {
+        "zone": zone,
+        **options(
+            rest,
+            {
+                "anchor": ["anchor"],
+                "rrset": ["rrset"],
+                "record": ["record"],
+                "wants": ["tag", "algorithm"],
+                "digest": ["digest_type"],
+            },
+        ),
+    }
 
 
 def source(fields: Fields) -> tuple[Members, list[str]]:
@@ -43,8 +54,11 @@ def of_signature(fields: Fields) -> Members:
 
 def record(fields: Fields) -> Members:
     owner, rtype, *rest = fields
-    return {"owner": owner, "type": int(rtype),
-            **options(rest, {"rrset": ["rrset"], "record": ["record"], "iterations": ["iterations"]})}
+    return {
+        "owner": owner,
+        "type": int(rtype),
+        **options(rest, {"rrset": ["rrset"], "record": ["record"], "iterations": ["iterations"]}),
+    }
 
 
 def answer(fields: Fields) -> Members:
@@ -72,8 +86,15 @@ def ds_unproved(fields: Fields) -> Members:
     return {"name": name, "zone": zone}
 
 
-OTHERS = {"not-self-signed": self_signed, "not-vouched": not_vouched, "ds-unproved": ds_unproved,
-          "unsigned": record, "dname": dname, "answer-missing": answer, "denial-unproved": answer}
+OTHERS = {
+    "not-self-signed": self_signed,
+    "not-vouched": not_vouched,
+    "unsigned": record,
+    "dname": dname,
+    "answer-missing": answer,
+    "denial-unproved": answer,
+    "ds-unproved": ds_unproved,
+}
 OTHERS |= {word: lambda fields: {"zone": fields[0]} for word in ZONED}
 OTHERS |= {word: sourced for word in SOURCED} | {word: record for word in RECORDS}
 
@@ -91,6 +112,19 @@ def follows(fields: Fields) -> Members:
 
 def key(fields: Fields) -> Members:
     zone, *rest = fields
-    return {"zone": zone, **options(rest, {
-        "rrset": ["rrset"], "record": ["record"], "tag": ["tag"], "algorithm": ["algorithm"], "flags": ["flags"],
-        "signature": ["signature"], "anchor": ["anchor"], "ds": ["ds_rrset", "ds_record"]})}
+    return {
+        "zone": zone,
+        **options(
+            rest,
+            {
+                "rrset": ["rrset"],
+                "record": ["record"],
+                "tag": ["tag"],
+                "algorithm": ["algorithm"],
+                "flags": ["flags"],
+                "signature": ["signature"],
+                "anchor": ["anchor"],
+                "ds": ["ds_rrset", "ds_record"],
+            },
+        ),
+    }

@@ -13,8 +13,14 @@ def numbers(fields: Iterable[str], *keys: str) -> Members:
 def signature(fields: Fields) -> tuple[Members, list[str]]:
     """OWNER TYPE rrset R signature S key TAG ALG zone SIGNER, and what follows."""
     owner, rtype, _, rrset, _, number, _, tag, algorithm, _, signer, *rest = fields
-    return ({"owner": owner, **numbers((rtype, rrset, number, tag, algorithm), "type", "rrset", "signature", "tag",
-                                       "algorithm"), "signer": signer}, rest)
+    return (
+        {
+            "owner": owner,
+            **numbers((rtype, rrset, number, tag, algorithm), "type", "rrset", "signature", "tag", "algorithm"),
+            "signer": signer,
+        },
+        rest,
+    )
 
 
 def options(fields: Fields, keys: Mapping[str, Sequence[str]]) -> Members:
@@ -23,5 +29,5 @@ def options(fields: Fields, keys: Mapping[str, Sequence[str]]) -> Members:
     while fields:
         word, *fields = fields
         said |= numbers(fields, *keys[word])
-        fields = fields[len(keys[word]):]
+        fields = fields[len(keys[word]) :]
     return said

@@ -6,8 +6,9 @@ from .fields import Fields, Members, numbers, options, signature
 def trusted(fields: Fields) -> Members:
     zone, _, rrset, _, number, _, tag, algorithm, *rest = fields
     said = {"zone": zone, **numbers((rrset, number, tag, algorithm), "rrset", "signature", "tag", "algorithm")}
-    return said | options(rest, {"anchor": ["anchor"], "ds": ["ds_rrset", "ds_record"], "digest": ["digest_type"],
-                                 "todo": ["todo"]})
+    return said | options(
+        rest, {"anchor": ["anchor"], "ds": ["ds_rrset", "ds_record"], "digest": ["digest_type"], "todo": ["todo"]}
+    )
 
 
 def signed(fields: Fields) -> Members:
@@ -36,8 +37,11 @@ def case(fields: Fields) -> Members:
 
 def unusable(fields: Fields) -> Members:
     why, owner, _, rrset, _, place, _, tag, algorithm, _, digest = fields
-    return {"why": why, "owner": owner,
-            **numbers((rrset, place, tag, algorithm, digest), "rrset", "record", "tag", "algorithm", "digest_type")}
+    return {
+        "why": why,
+        "owner": owner,
+        **numbers((rrset, place, tag, algorithm, digest), "rrset", "record", "tag", "algorithm", "digest_type"),
+    }
 
 
 def place(fields: Fields) -> Members:
@@ -46,10 +50,18 @@ def place(fields: Fields) -> Members:
 
 
 LINES = {
-    "trusted": trusted, "signed": signed, "proof": proof, "part": part, "case": case, "unusable": unusable,
+    "trusted": trusted,
+    "signed": signed,
+    "proof": proof,
+    "part": part,
+    "case": case,
+    "unusable": unusable,
     "hope": lambda fields: {"kind": fields[0]},
     "holds": lambda fields: {"from": int(fields[1]), "to": int(fields[3])},
-    "rrset": place, "reason": reason, "follows": follows, "key": key,
+    "rrset": place,
+    "reason": reason,
+    "follows": follows,
+    "key": key,
 }
 
 

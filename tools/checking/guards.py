@@ -15,8 +15,25 @@ ROWS = "crates/dnsv_rows/out/dnsv_rows"
 BUILT_BY = {PROGRAM: "make", ROWS: "cd crates/dnsv_rows && rt run < /dev/null"}
 
 OF_TOOLS = ("python3-cryptography", "python3-dnspython")
-OF_TESTS = (*OF_TOOLS, "debhelper", "dh-python", "dns-root-data", "dpkg-dev", "gcc", "graphviz", "libc6-dev", "mandoc",
-            "python3-distributed", "python3-jsonschema", "python3-rich", "python3-zstandard", "tshark")
+OF_TESTS = (
+    *OF_TOOLS,
+    "debhelper",
+    "dh-python",
+    "dns-root-data",
+    "dpkg-dev",
+    "gcc",
+    "graphviz",
+    "libc6-dev",
+    "mandoc",
+    "python3-distributed",
+    "python3-jinja2",
+    "python3-jsonschema",
+    "python3-rich",
+    "python3-zstandard",
+    "tshark",
+)
+# What the linters read of other packages is there when they look.
+OF_LINT = ("black", "mypy", "pylint", *OF_TOOLS, "python3-jinja2", "python3-rich")
 # The tests that take longest.
 LONG = ("tests/judge", "tests/program")
 # The share of the faults that is tried: whole they take longer than all other guards together.
@@ -66,6 +83,7 @@ def guards() -> list[Guard]:
         *sorted(map(of_tests, folders), key=lambda guard: guard.name not in LONG),
         Guard("faults", ("tools/faults", "--share", FAULTS), packages=("gcc", "libc6-dev"), built=(PROGRAM, ROWS)),
         *map(of_loans, crates),
+        Guard("lint", ("tools/lint",), packages=OF_LINT),
         Guard("examples", ("tools/examples",), built=(PROGRAM,)),
         of_page("README.md", "dnssec_check", "To install it", "The program by itself"),
         of_page("docs/AUDITING.md", packages=(*OF_TOOLS, "parallel")),

@@ -15,7 +15,8 @@ PATH = os.pathsep.join(["/usr/bin", os.environ.get("PATH", os.defpath)])
 
 @dataclass(frozen=True)
 class Package:
-    """A package by its name, and something by which one sees that it is there: a command, a module of Python or a file."""
+    """A package by its name, and something by which one sees that it is there: a command, a module of Python or a
+    file."""
 
     name: str
     command: str = ""
@@ -29,6 +30,7 @@ class Package:
 
 
 PACKAGES = (
+    Package("black", module="black"),
     Package("debhelper", command="dh"),
     Package("dh-python", command="dh_python3"),
     Package("dns-root-data", file="/usr/share/dns/root.ds"),
@@ -37,10 +39,13 @@ PACKAGES = (
     Package("graphviz", command="dot"),
     Package("libc6-dev", file="/usr/include/stdio.h"),
     Package("mandoc", command="mandoc"),
+    Package("mypy", module="mypy"),
     Package("parallel", command="parallel"),
+    Package("pylint", module="pylint"),
     Package("python3-cryptography", module="cryptography"),
     Package("python3-distributed", module="distributed"),
     Package("python3-dnspython", module="dns"),
+    Package("python3-jinja2", module="jinja2"),
     Package("python3-jsonschema", module="jsonschema"),
     Package("python3-rich", module="rich"),
     Package("python3-zstandard", module="zstandard"),

@@ -43,7 +43,9 @@ def unmet(guard: Guard) -> list[str]:
     if packages:
         lines.append(f"this installs what is missing: {line_for(lacking())}")
     lines += [f"{path} isn't built: {BUILT_BY[path]}" for path in guard.built if not (TREE / path).is_file()]
-    return lines + [f"the kit's command {name} isn't on the path" for name in guard.kit if not shutil.which(name, path=PATH)]
+    return lines + [
+        f"the kit's command {name} isn't on the path" for name in guard.kit if not shutil.which(name, path=PATH)
+    ]
 
 
 def ran(guard: Guard, lanes: int) -> Result:
@@ -52,8 +54,17 @@ def ran(guard: Guard, lanes: int) -> Result:
     if missing:
         return Result(guard, "".join(f"{line}\n" for line in missing), BROKEN, 0)
     begun = time.monotonic()
-    done = subprocess.run([*INTERRUPTIBLE, *guard.words], cwd=TREE, env=environment(lanes), stdin=subprocess.DEVNULL, stdout=subprocess.PIPE,
-                          stderr=subprocess.STDOUT, text=True, errors="replace", check=False)
+    done = subprocess.run(
+        [*INTERRUPTIBLE, *guard.words],
+        cwd=TREE,
+        env=environment(lanes),
+        stdin=subprocess.DEVNULL,
+        stdout=subprocess.PIPE,
+        stderr=subprocess.STDOUT,
+        text=True,
+        errors="replace",
+        check=False,
+    )
     count = guard.count(done.stdout, done.returncode)
     return Result(guard, done.stdout, count, time.monotonic() - begun)
 
@@ -73,8 +84,15 @@ def passed_through(guard: Guard) -> Result:
         print("\n".join(missing))
         return Result(guard, "", BROKEN, 0)
     begun, lines = time.monotonic(), []
-    with subprocess.Popen(guard.words, cwd=TREE, stdin=subprocess.DEVNULL, stdout=subprocess.PIPE, stderr=subprocess.STDOUT,
-                          text=True, errors="replace") as process:
+    with subprocess.Popen(
+        guard.words,
+        cwd=TREE,
+        stdin=subprocess.DEVNULL,
+        stdout=subprocess.PIPE,
+        stderr=subprocess.STDOUT,
+        text=True,
+        errors="replace",
+    ) as process:
         for line in process.stdout or ():
             sys.stdout.write(line)
             sys.stdout.flush()

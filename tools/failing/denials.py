@@ -1,23 +1,33 @@
 """Worked denials in the zone `example.`, and each of their RRsets left out: what isn't there proves nothing."""
+
+from __future__ import annotations
+
 import hashlib
-from collections import namedtuple
+from typing import Any, Iterator, NamedTuple, Sequence
 
 from .documented import VERDICTS, kind_of, verdict_of
 from .evidence import ANCHOR, DNSKEY, KEY, MOMENT, Rrset, TYPES, ds, name
-from .runs import Answer, Bench
+from .runs import Answer, Bench, Case, Tried
 from .tally import Tally
 
+# pylint: disable=wrong-import-order
 from dnssec_check_tools.wire import nsec
 from zones import Hashing  # behind .evidence, which says where it is
 
-Worked = namedtuple("Worked", "title owner rtype wanted rrsets")
+
+class Worked(NamedTuple):
+    title: str
+    owner: str
+    rtype: int
+    wanted: list[str]
+    rrsets: tuple[Rrset, ...]
 
 
-def by_nsec(owner, following, types):
+def by_nsec(owner: str, following: str, types: str) -> Rrset:
     return Rrset(owner, "NSEC", (nsec(following, f"{types} RRSIG NSEC"),))
 
 
-def circle(iterations, flags=0):
+def circle(iterations: int, flags: int = 0) -> Rrset:
     """The one NSEC3 record of a zone of one name, whose hash RFC 5155 appendix A has."""
     following = Hashing(12, "aabbccdd").hash_of("example.")
     rdata = Hashing(iterations, "aabbccdd", flags).nsec3(following, "NS SOA RRSIG DNSKEY")
@@ -58,25 +68,29 @@ WORKED = [
     Worked("a weak digest", "sub.example.", 1, ["SecureAnswer", "rrset 4 signature 1"], (WEAK, CHILD_KEY, CHILD)),
     Worked("an alias", "c.example.", 1, ["Bogus", "alias c.example. rrset 2 signature 1"], (ALIAS,)),
     Worked("the alias itself", "c.example.", 5, ["SecureAnswer", "rrset 2 signature 1"], (ALIAS,)),
-    Worked("an unknown digest", "www.sub.example.", 1, ["Insecure", "cut sub.example."], (UNKNOWN_DIGEST,))]
+    Worked("an unknown digest", "www.sub.example.", 1, ["Insecure", "cut sub.example."], (UNKNOWN_DIGEST,)),
+]
 
 
-def jobs(cases):
+def jobs(cases: list[Case]) -> Iterator[tuple[Any, ...]]:
     for worked in WORKED:
         yield left_out, worked
     for case in cases:
         yield messages_left_out, case
 
 
-def answer_of(bench, worked, rrsets):
-    files = {"capture": b"".join(each.message() for each in rrsets), "anchors": ANCHOR,
-             "statements": b"".join(sorted({each.statement() for each in rrsets}))}
+def answer_of(bench: Bench, worked: Worked, rrsets: Sequence[Rrset]) -> Answer:
+    files = {
+        "capture": b"".join(each.message() for each in rrsets),
+        "anchors": ANCHOR,
+        "statements": b"".join(sorted({each.statement() for each in rrsets})),
+    }
     words = [word for option, octets in files.items() for word in (f"--{option}", str(bench.file(option, octets)))]
     question = ["--moment", str(MOMENT), "--name", worked.owner, "--type", str(worked.rtype)]
     return bench.answer(["check", *words, *question])
 
 
-def left_out(tried, worked):
+def left_out(tried: Tried, worked: Worked) -> Tally:
     """The denial as it is, and without each of its RRsets and of the zone's key."""
     tally, row, whole = Tally(), "left-out: worked denials", (KEY, *worked.rrsets)
     kind, *lines = worked.wanted
@@ -94,13 +108,13 @@ def left_out(tried, worked):
     return tally
 
 
-def records_of(answer):
+def records_of(answer: Answer) -> set[tuple[str, int]]:
     """The records that a denial names, by owner and type."""
     lines = (line.split(" ") for line in answer.output.decode(errors="replace").splitlines())
     return {(fields[1], int(fields[2])) for fields in lines if fields[0] == "record" and len(fields) == 3}
 
 
-def messages_of(octets):
+def messages_of(octets: bytes) -> list[bytes]:
     """Each message behind its length."""
     found = []
     while octets:
@@ -110,12 +124,12 @@ def messages_of(octets):
     return found
 
 
-def messages_left_out(tried, case):
+def messages_left_out(tried: Tried, case: Case) -> Tally:
     """The real capture without each of its messages; what is there `show` tells."""
     tally, parts = Tally(), messages_of(case.files["capture"].read_bytes())
     with Bench(tried) as bench:
         for place in range(len(parts)):
-            capture = bench.file("capture", b"".join(parts[:place] + parts[place + 1:]))
+            capture = bench.file("capture", b"".join(parts[:place] + parts[place + 1 :]))
             answer = bench.answer(case.words_with(capture=capture))
             there = records_shown(bench.answer(["show", "--capture", str(capture)])) if records_of(answer) else set()
             end = kind_of(answer) if records_of(answer) <= there and answer.status != 1 else None
@@ -123,6 +137,6 @@ def messages_left_out(tried, case):
     return tally
 
 
-def records_shown(answer):
+def records_shown(answer: Answer) -> set[tuple[str, int]]:
     lines = (line.split(" ") for line in answer.output.decode().splitlines())
     return {(fields[2].lower(), int(fields[3])) for fields in lines if fields[0] == "record"}

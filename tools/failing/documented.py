@@ -1,7 +1,12 @@
 """The ends of a run that the program's pages tell of."""
+
+from __future__ import annotations
+
 import re
 
 from dnssec_check_tools.judging import numbers
+
+from .runs import Answer
 
 NAME, HEX = rb"[!-~]+", rb"(?:-|(?:[0-9a-f]{2})+)"
 ALIASES = rb"(?:alias " + NAME + rb" rrset [1-9]\d* signature [1-9]\d*\n){0,8}"
@@ -14,7 +19,8 @@ VERDICTS = {
     b"Insecure": (3, rb"cut " + NAME + rb"\n"),
     b"Pending": (4, rb"(?:todo \d+ " + HEX + rb" " + HEX + rb" " + HEX + rb"\n)+"),
     b"Bogus": (5, b""),
-    b"Indeterminate": (6, b"")}
+    b"Indeterminate": (6, b""),
+}
 REFUSED = re.compile(rb"refused (\d+)(?: message [1-9]\d*)?(?: record [1-9]\d*)?(?: line [1-9]\d*)?\n")
 FAULT = re.compile(rb"fault (?:90|(?:210|211|811) (?:capture|anchors|statements|keys|macs))\n")
 
@@ -23,7 +29,7 @@ FAULTS = {90, 210, 211, 811, 812}
 REFUSALS = frozenset(str(number).encode() for number in numbers.numbers().keys() - FAULTS)
 
 
-def kind_of(answer):
+def kind_of(answer: Answer) -> str | None:
     """The verdict or the refusal that `check` tells, as in `refused 209`; None where no page tells of such an end."""
     if answer.status == 7 and not answer.output:
         found = REFUSED.fullmatch(answer.errors)
@@ -33,7 +39,7 @@ def kind_of(answer):
     return verdict_of(answer)
 
 
-def verdict_of(answer):
+def verdict_of(answer: Answer) -> str | None:
     """The word of the verdict, None where there is none in the form that the pages show."""
     word = answer.output.split(b" ")[0]
     status, lines = VERDICTS.get(word, (None, b""))

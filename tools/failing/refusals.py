@@ -1,6 +1,11 @@
 """The program on a machine that refuses it memory, reads or writes."""
+
+from __future__ import annotations
+
+from typing import Any, Iterator, Sequence
+
 from .refusal import Refusal, refused
-from .runs import Answer, Bench
+from .runs import Answer, Asked, Bench, Tried
 from .tally import Tally
 
 OUT_OF_MEMORY = Answer(1, b"", b"fault 90\n")
@@ -14,7 +19,7 @@ OUTPUT, ERRORS = "/dev/stdout", "/dev/stderr"
 BROKEN = ("> /dev/full", ">&-")
 
 
-def jobs(tried, kind, cases):
+def jobs(tried: Tried, kind: str, cases: Sequence[Asked]) -> Iterator[tuple[Any, ...]]:
     """A job for each part of what is refused to each case."""
     if kind == "write":
         yield from ((broken, case) for case in cases)
@@ -27,14 +32,16 @@ def jobs(tried, kind, cases):
                     yield each, case, refusal, range(first, min(first + SPAN, calls + 1))
 
 
-def none(_tried, case, refusal, answer, calls):
+def none(_tried: Tried, case: Asked, refusal: Refusal, answer: Answer, calls: int) -> Tally:
     """What came where each call was granted."""
     tally = Tally()
-    tally.take(row_of(case, refusal), RIGHT if answer == case.right and calls else None, f"{refusal}, {calls} calls", answer)
+    tally.take(
+        row_of(case, refusal), RIGHT if answer == case.right and calls else None, f"{refusal}, {calls} calls", answer
+    )
     return tally
 
 
-def each(tried, case, refusal, numbers):
+def each(tried: Tried, case: Asked, refusal: Refusal, numbers: range) -> Tally:
     """Refuses the call of each of these numbers: alone, and with all that follow."""
     tally, row, kind = Tally(), row_of(case, refusal), KINDS[refusal.kind]
     with Bench(tried) as bench:
@@ -42,11 +49,13 @@ def each(tried, case, refusal, numbers):
             for last in (number, None):
                 asked = refusal._replace(first=number, last=last)
                 answer, _, count = refused(bench, case.words_with(), asked)
-                tally.take(row, kind.end_of(case, asked, answer) if count else None, f"{asked}, {count} refused", answer)
+                tally.take(
+                    row, kind.end_of(case, asked, answer) if count else None, f"{asked}, {count} refused", answer
+                )
     return tally
 
 
-def broken(tried, case):
+def broken(tried: Tried, case: Asked) -> Tally:
     """The stream that the answer is written to is none."""
     tally, (status, output, errors) = Tally(), case.right
     with Bench(tried) as bench:
@@ -58,26 +67,28 @@ def broken(tried, case):
     return tally
 
 
-def take_broken(tally, bench, case, how, wanted):
+def take_broken(tally: Tally, bench: Bench, case: Asked, how: str, wanted: Answer) -> None:
     command = ["/bin/sh", "-c", f'exec "$0" "$@" {how}', str(bench.tried.program), *case.words_with()]
     answer = bench.answer_of(command)
-    tally.take(f"write: {case.name}, where the system refuses it", "as it should" if answer == wanted else None, how, answer)
+    tally.take(
+        f"write: {case.name}, where the system refuses it", "as it should" if answer == wanted else None, how, answer
+    )
 
 
-def row_of(case, refusal):
+def row_of(case: Asked, refusal: Refusal) -> str:
     return f"{refusal.kind}: {case.name}" + KINDS[refusal.kind].told(case, refusal)
 
 
 class Memory:
     """Each call for memory."""
 
-    def plan(self, _case):
-        return [Refusal("memory")]
+    def plan(self, _case: Asked) -> Iterator[Refusal]:
+        yield Refusal("memory")
 
-    def told(self, _case, _refusal):
+    def told(self, _case: Asked, _refusal: Refusal) -> str:
         return ""
 
-    def end_of(self, case, _refusal, answer):
+    def end_of(self, case: Asked, _refusal: Refusal, answer: Answer) -> str | None:
         if answer == OUT_OF_MEMORY:
             return "`fault 90`"
         return RIGHT if answer == case.right else None
@@ -86,19 +97,19 @@ class Memory:
 class Reads:
     """Each read of each file: as the program asks for it, and of an octet at a time where the file is small."""
 
-    def plan(self, case):
+    def plan(self, case: Asked) -> Iterator[Refusal]:
         for path in case.files.values():
             yield Refusal("read", file=path)
             if path.stat().st_size <= SPAN:
                 yield Refusal("read", file=path, size=1)
 
-    def option(self, case, refusal):
+    def option(self, case: Asked, refusal: Refusal) -> str:
         return next(option for option, path in case.files.items() if path == refusal.file)
 
-    def told(self, case, refusal):
+    def told(self, case: Asked, refusal: Refusal) -> str:
         return f", {self.option(case, refusal)}" + (", an octet at a time" if refusal.size else "")
 
-    def end_of(self, case, refusal, answer):
+    def end_of(self, case: Asked, refusal: Refusal, answer: Answer) -> str | None:
         said = f"fault 210 {self.option(case, refusal)}"
         return f"`{said}`" if answer == Answer(1, b"", f"{said}\n".encode()) else None
 
@@ -106,16 +117,16 @@ class Reads:
 class Writes:
     """Each write of both streams: as the program asks for it, and in pieces, down to an octet."""
 
-    def plan(self, case):
+    def plan(self, case: Asked) -> Iterator[Refusal]:
         for stream, text in ((OUTPUT, case.right.output), (ERRORS, case.right.errors)):
             if text:
                 yield Refusal("write", file=stream)
                 yield Refusal("write", file=stream, size=max(1, len(text) // PIECES))
 
-    def told(self, _case, refusal):
+    def told(self, _case: Asked, refusal: Refusal) -> str:
         return f", {refusal.file}" + (f", {refusal.size} octets at a time" if refusal.size else "")
 
-    def end_of(self, case, refusal, answer):
+    def end_of(self, case: Asked, refusal: Refusal, answer: Answer) -> str | None:
         """What was written is a beginning of the text, of no more than what was taken before."""
         status, output, errors = case.right
         if refusal.file == ERRORS:
@@ -124,9 +135,9 @@ class Writes:
         is_right = self.is_begun(refusal, answer.output, output) and answer == (1, answer.output, b"fault 812\n")
         return "`fault 812` behind a beginning" if is_right else None
 
-    def is_begun(self, refusal, written, text):
-        taken = (refusal.first - 1) * (refusal.size or len(text))
+    def is_begun(self, refusal: Refusal, written: bytes, text: bytes) -> bool:
+        taken = ((refusal.first or 1) - 1) * (refusal.size or len(text))
         return text.startswith(written) and len(written) <= min(taken, len(text) - 1)
 
 
-KINDS = {"memory": Memory(), "read": Reads(), "write": Writes()}
+KINDS: dict[str, Memory | Reads | Writes] = {"memory": Memory(), "read": Reads(), "write": Writes()}

@@ -8,6 +8,9 @@ parts: evidence    the rows that name messages of evidence
        answers     what has to come for these, by looking the names up
        limits      what has to come for the hand-written rows of the largest evidence
 """
+
+from __future__ import annotations
+
 import sys
 
 import denial_evidence
@@ -22,7 +25,7 @@ PARTS = {
 }
 
 
-def main():
+def main() -> None:
     if len(sys.argv) != 2 or sys.argv[1] not in PARTS:
         sys.exit(__doc__.strip())
     for lines in PARTS[sys.argv[1]]:

@@ -1,21 +1,26 @@
 """The messages of evidence of the rows of dnsv_denial, each of one RRset but where a whole chain is in one."""
+
+from __future__ import annotations
+
+from typing import Iterable, Iterator, Sequence
+
 from denial_zones import DS, LOOSE, MIXED, NODES, NSECS, RFC5155, SMALL
 from dnssec_check_tools.wire import nsec
 from messages import DNSKEY, key_message, message, signed
-from zones import Hashing, nsec3_chain, nsec_chain
+from zones import Hashing, Node, Zone, nsec3_chain, nsec_chain
 
 
-def let(name, *records):
+def let(name: str, *records: bytes) -> str:
     return f"let {name} {message(*records).hex()}"
 
 
-def lines():
+def lines() -> Iterator[str]:
     yield "let key " + key_message("example.").hex()
     for part in [by_nsec, by_ds, circles, by_rfc5155, chains]:
         yield from part()
 
 
-def by_nsec():
+def by_nsec() -> Iterator[str]:
     for each, (owner, following, types) in NSECS.items():
         yield let(each, signed(owner, "NSEC", nsec(following, types)))
     to_ns, to_a = NSECS["example>ns"], NSECS["example>a"]
@@ -29,10 +34,18 @@ def by_nsec():
     yield let("sub>sub", signed("sub.example.", "NSEC", own, signer="sub.example."))
 
 
-def by_ds():
+def by_ds() -> Iterator[str]:
     """DS records of `sub.example.`, those of one RRset in one message; and of other names and signers."""
-    sets = ["sha256", "sha1", "gost", "of-gost", "gost+of-gost", "gost+of-gost+sha256", "gost+of-gost+sha256+sha1",
-            "of-gost+sha1"]
+    sets = [
+        "sha256",
+        "sha1",
+        "gost",
+        "of-gost",
+        "gost+of-gost",
+        "gost+of-gost+sha256",
+        "gost+of-gost+sha256+sha1",
+        "of-gost+sha1",
+    ]
     for each in sets:
         yield let(f"ds:{each}", *(signed("sub.example.", "DS", DS[kind]) for kind in each.split("+")))
     gost = DS["gost"]
@@ -49,12 +62,12 @@ TWELVE = Hashing(12, "aabbccdd")
 HASH = "0P9MHAVEQVM6T7VBL5LOP2U3T2RP3TOM"
 
 
-def circle(name, hashing, owner=f"{HASH}.example.", labels=None, **rest):
+def circle(name: str, hashing: Hashing, owner: str = f"{HASH}.example.", labels: int | None = None, **rest: int) -> str:
     """A record whose next hash is that one."""
     return let(name, signed(owner, "NSEC3", hashing.nsec3(TWELVE.hash_of("example."), APEX, **rest), labels))
 
 
-def circles():
+def circles() -> Iterator[str]:
     """Records of a zone with one name, as they are and as they can't be used."""
     yield circle("circle", TWELVE)
     yield circle("circle:open", Hashing(12, "aabbccdd", flags=1))
@@ -69,7 +82,7 @@ def circles():
         yield from part()
 
 
-def plain_circles():
+def plain_circles() -> Iterator[str]:
     """Such records without iterations or salt: a circle, one with Opt-Out, and one whose gap is empty."""
     plain, opened = Hashing(), Hashing(flags=1)
     at = plain.hash_of("example.")
@@ -80,17 +93,17 @@ def plain_circles():
     yield let("plain:narrow", signed(owner, "NSEC3", plain.nsec3(behind, APEX)))
 
 
-def covering():
+def covering() -> Iterator[str]:
     """Of twelve iterations, from 00..00 to ff..ff: it matches no name, and covers each."""
     yield let("covering", signed("0" * 32 + ".example.", "NSEC3", TWELVE.nsec3(b"\xff" * 20, "")))
 
 
-def hashed(nodes, hashing):
+def hashed(nodes: Sequence[Node], hashing: Hashing) -> list[bytes]:
     """The records of the chain of these nodes, each with its signature."""
     return [signed(f"{label}.example.", "NSEC3", rdata) for label, rdata in nsec3_chain(nodes, hashing)]
 
 
-def by_rfc5155():
+def by_rfc5155() -> Iterator[str]:
     """RFC 5155 appendix A: its NSEC3 records, and the same without the Opt-Out flag."""
     for zone, flags in [("rfc5155", 1), ("firm", 0)]:
         records = hashed(RFC5155, Hashing(12, "aabbccdd", flags))
@@ -98,7 +111,7 @@ def by_rfc5155():
             yield let(f"{zone}:{owner.removesuffix('.example.').rstrip('.')}", each)
 
 
-def chains():
+def chains() -> Iterator[str]:
     """Whole chains, in one message each."""
     yield let("hashed", *hashed(NODES, TWELVE))
     yield let("hashed:open", *hashed(NODES[:6], Hashing(12, "aabbccdd", flags=1)))
@@ -109,5 +122,5 @@ def chains():
         yield let(f"{name}:open", *hashed(typed(zone, zone.signed_nodes()), Hashing(1, "ab", flags=1)))
 
 
-def typed(zone, nodes):
+def typed(zone: Zone, nodes: Iterable[str]) -> list[Node]:
     return [(node, " ".join(zone.types.get(node, []))) for node in nodes]

@@ -2,20 +2,44 @@
 from zones import Zone
 
 # A delegation without DS, a wildcard, and two empty non-terminals.
-SMALL = Zone("example.", [
-    ("example.", "NS SOA DNSKEY"), ("a.example.", "A"), ("sub.example.", "NS"), ("*.w.example.", "TXT"),
-    ("x.y.example.", "A")])
+SMALL = Zone(
+    "example.",
+    [
+        ("example.", "NS SOA DNSKEY"),
+        ("a.example.", "A"),
+        ("sub.example.", "NS"),
+        ("*.w.example.", "TXT"),
+        ("x.y.example.", "A"),
+    ],
+)
 
 # An alias at a wildcard, a DNAME, delegations with and without DS, and a wildcard further down.
-MIXED = Zone("example.", [
-    ("example.", "NS SOA"), ("*.example.", "CNAME"), ("a.example.", "A DNAME"), ("sub.example.", "NS DS"),
-    ("*.x.w.example.", "TXT"), ("y.example.", "NS")])
+MIXED = Zone(
+    "example.",
+    [
+        ("example.", "NS SOA"),
+        ("*.example.", "CNAME"),
+        ("a.example.", "A DNAME"),
+        ("sub.example.", "NS DS"),
+        ("*.x.w.example.", "TXT"),
+        ("y.example.", "NS"),
+    ],
+)
 
-# Delegations without DS, one below an empty non-terminal that has nothing else, one below another; a delegation with DS,
-# and a wildcard.
-LOOSE = Zone("example.", [
-    ("example.", "NS SOA"), ("a.example.", "A"), ("sub.example.", "NS DS"), ("y.w.example.", "NS"),
-    ("*.x.example.", "TXT"), ("a.y.example.", "A"), ("q.y.example.", "NS")])
+# Delegations without DS, one below an empty non-terminal that has nothing else, one below another; a delegation with
+# DS, and a wildcard.
+LOOSE = Zone(
+    "example.",
+    [
+        ("example.", "NS SOA"),
+        ("a.example.", "A"),
+        ("sub.example.", "NS DS"),
+        ("y.w.example.", "NS"),
+        ("*.x.example.", "TXT"),
+        ("a.y.example.", "A"),
+        ("q.y.example.", "NS"),
+    ],
+)
 
 APEX = "NS SOA RRSIG NSEC DNSKEY"
 
@@ -48,19 +72,37 @@ NSECS = {
 
 # The nodes of a zone, hashed.
 NODES = [
-    ("example.", "NS SOA RRSIG DNSKEY NSEC3PARAM"), ("a.example.", "A RRSIG"), ("w.example.", ""),
-    ("*.w.example.", "TXT RRSIG"), ("y.example.", ""), ("x.y.example.", "A RRSIG"), ("sub.example.", "NS")]
+    ("example.", "NS SOA RRSIG DNSKEY NSEC3PARAM"),
+    ("a.example.", "A RRSIG"),
+    ("w.example.", ""),
+    ("*.w.example.", "TXT RRSIG"),
+    ("y.example.", ""),
+    ("x.y.example.", "A RRSIG"),
+    ("sub.example.", "NS"),
+]
 
 # RFC 5155 appendix A, without `c.example.`, an unsigned delegation that Opt-Out leaves out.
 RFC5155 = [
-    ("example.", "MX DNSKEY NS SOA NSEC3PARAM RRSIG"), ("ns1.example.", "A RRSIG"), ("x.y.w.example.", "MX RRSIG"),
-    ("a.example.", "NS DS RRSIG"), ("x.w.example.", "MX RRSIG"), ("ai.example.", "A HINFO AAAA RRSIG"),
-    ("y.w.example.", ""), ("w.example.", ""), ("2t7b4g4vsa5smi47k61mv5bv1a22bojr.example.", "A RRSIG"),
-    ("ns2.example.", "A RRSIG"), ("*.w.example.", "MX RRSIG"), ("xx.example.", "HINFO A AAAA RRSIG")]
+    ("example.", "MX DNSKEY NS SOA NSEC3PARAM RRSIG"),
+    ("ns1.example.", "A RRSIG"),
+    ("x.y.w.example.", "MX RRSIG"),
+    ("a.example.", "NS DS RRSIG"),
+    ("x.w.example.", "MX RRSIG"),
+    ("ai.example.", "A HINFO AAAA RRSIG"),
+    ("y.w.example.", ""),
+    ("w.example.", ""),
+    ("2t7b4g4vsa5smi47k61mv5bv1a22bojr.example.", "A RRSIG"),
+    ("ns2.example.", "A RRSIG"),
+    ("*.w.example.", "MX RRSIG"),
+    ("xx.example.", "HINFO A AAAA RRSIG"),
+]
 
 # DS records with the tag 2063: of algorithm 13 by SHA-256, SHA-1 and a digest type that isn't supported, and of an
 # algorithm that isn't.
 DIGEST = bytes(range(32))
 DS = {
-    "sha256": bytes.fromhex("080f0d02") + DIGEST, "sha1": bytes.fromhex("080f0d01") + DIGEST[:20],
-    "gost": bytes.fromhex("080f0d03aa"), "of-gost": bytes.fromhex("080f0c02") + DIGEST}
+    "sha256": bytes.fromhex("080f0d02") + DIGEST,
+    "sha1": bytes.fromhex("080f0d01") + DIGEST[:20],
+    "gost": bytes.fromhex("080f0d03aa"),
+    "of-gost": bytes.fromhex("080f0c02") + DIGEST,
+}

@@ -67,7 +67,7 @@ class Targets(unittest.TestCase):
         self.assertEqual(needing, ["make install PREFIX=$HOME/.local"])
 
     def test_the_guards_build_nothing(self):
-        for target in ("check", "packages"):
+        for target in ("check", "packages", "lint"):
             with self.subTest(target):
                 self.assertEqual(self.make("--dry-run", target), [f"tools/{target}"])
 

@@ -5,7 +5,9 @@ import unittest
 
 from tool import PACKAGE, TOOLS
 
-SCRIPTS = ("pages", "faults", "examples", "as-json", "cases.py", "check", "packages", "does-not-compile", "wrong-bodies")
+SCRIPTS = (
+    "pages", "faults", "examples", "as-json", "cases.py", "check", "packages", "lint", "does-not-compile", "wrong-bodies"
+)
 FOLDERS = (PACKAGE, *(TOOLS / name for name in ("failing", "as_json", "checking", "wrong_bodies")))
 NAMES = [*SCRIPTS, *(str(path.relative_to(TOOLS)) for folder in FOLDERS for path in sorted(folder.rglob("*.py")))]
 # What each part imports besides itself; dnspython (`dns`), distributed and rich only where they're needed.
@@ -18,6 +20,7 @@ PARTS = {
     "as_json": {"as_json"},
     "check": {"checking", "dnssec_check_tools"},
     "packages": {"checking", "dnssec_check_tools"},
+    "lint": {"dnssec_check_tools"},
     "does-not-compile": {"dnssec_check_tools", "wrong_bodies"},
     "wrong-bodies": {"dnssec_check_tools", "wrong_bodies"},
     "dnssec_check_tools/verify.py": {"command", "verifying"},

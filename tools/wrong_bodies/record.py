@@ -1,5 +1,7 @@
-"""What was told of wrong bodies before: in a crate's file wrong-bodies/refused a line for each that was refused, with its name
-and the commit of the crates that it was refused over."""
+"""What was told of wrong bodies before: in a crate's file wrong-bodies/refused a line for each that was refused, with
+its name and the commit of the crates that it was refused over."""
+
+from __future__ import annotations
 
 from pathlib import Path
 
@@ -8,7 +10,7 @@ from .changed import Unknown, told
 FOLDERS = ("must-fail", "wrong-bodies")
 
 
-def commit_of(tree):
+def commit_of(tree: Path) -> str | None:
     """The last commit that changed the crates; `None` where there is none, or what they have isn't committed."""
     paths = ("--", "crates", ":(exclude,glob)crates/*/wrong-bodies/refused")
     try:
@@ -21,24 +23,24 @@ def commit_of(tree):
 class Record:
     """A crate's file, to which a run over the commit writes; it writes nothing where that is `None`."""
 
-    def __init__(self, tree, crate, commit):
+    def __init__(self, tree: Path, crate: str, commit: str | None) -> None:
         self.tree = tree
         self.folder = tree / "crates" / crate
         self.file = self.folder / "wrong-bodies" / "refused"
         self.commit = commit
 
-    def commits(self):
+    def commits(self) -> dict[str, str]:
         """The commit of each body that was refused, by the body's name."""
         lines = self.file.read_text().splitlines() if self.file.is_file() else []
         return dict(line.split() for line in lines)
 
-    def standing(self):
+    def standing(self) -> set[str]:
         """The names of those whose edits are what they were when they were refused."""
         commits = self.commits()
         changed = {commit: self.changed_since(commit) for commit in set(commits.values())}
         return {name for name, commit in commits.items() if name not in changed[commit]}
 
-    def changed_since(self, commit):
+    def changed_since(self, commit: str) -> set[str]:
         folders = [str(self.folder / name) for name in FOLDERS]
         try:
             # An edit that only moved, as from one folder to the other, is what it was.
@@ -48,7 +50,7 @@ class Record:
             # Of a commit that isn't here nobody knows what the edits were.
             return set(self.commits())
 
-    def note(self, name, is_refused):
+    def note(self, name: str, is_refused: bool) -> None:
         """Writes what is told of a body now, and takes those out that are no more."""
         if not self.commit:
             return
@@ -58,5 +60,5 @@ class Record:
         self.file.parent.mkdir(exist_ok=True)
         self.file.write_text("".join(f"{name} {commit}\n" for name, commit in sorted(commits.items())))
 
-    def has(self, name):
+    def has(self, name: str) -> bool:
         return any((self.folder / folder / f"{name}.edit").is_file() for folder in FOLDERS)

@@ -38,7 +38,8 @@ class WrongBodies(Room):
         super().setUp()
         (self.room / "tools").mkdir()
         shutil.copy(TOOLS / "wrong-bodies", self.room / "tools")
-        shutil.copytree(TOOLS / "wrong_bodies", self.room / "tools/wrong_bodies")
+        for package in ("wrong_bodies", "dnssec_check_tools"):
+            shutil.copytree(TOOLS / package, self.room / "tools" / package)
         (self.room / "rt").write_text(RT)
         (self.room / "rt").chmod(0o755)
         (self.room / "HANDLES").write_text("Handles allowed: none.\n")
@@ -104,7 +105,7 @@ class WrongBodies(Room):
             self.assertEqual(self.told("lower")[1][-1], "0 passed, 0 failed")
         with mock.patch.dict(os.environ, SINCE="none"):
             status, lines, errors = self.told()
-        self.assertEqual((status, lines, errors[:18]), (2, [], "SINCE=none: fatal:"))
+        self.assertEqual((status, lines, errors[:32]), (2, [], "wrong-bodies: SINCE=none: fatal:"))
 
     def test_those_alone_of_which_nothing_is_told(self):
         self.add("lower", "must-fail", "wrong", "fine")
@@ -130,10 +131,12 @@ class WrongBodies(Room):
     def test_the_crate_itself_has_to_be_proved(self):
         self.add("upper", "must-fail", "wrong")
         (self.room / "crates/upper/unproved").touch()
-        self.assertEqual(self.told(), (1, [], "upper isn't proved as it is\n"))
+        self.assertEqual(self.told(), (1, [], "wrong-bodies: upper isn't proved as it is\n"))
 
     def test_a_crate_that_is_not_there(self):
-        self.assertEqual(self.told("middle"), (2, [], "there is no crate middle\n"))
+        status, lines, errors = self.told("middle")
+        self.assertEqual((status, lines), (2, []))
+        self.assertTrue(errors.endswith("error: there is no crate middle\n"), errors)
 
 
 if __name__ == "__main__":

@@ -1,0 +1,1 @@
+"""What tools/wrong-bodies and tools/does-not-compile do with the edits of crates."""
