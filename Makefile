@@ -24,11 +24,11 @@ try:
 
 # The gate: every proof from nothing, the edits that must be refused, every test and the program. And then the guards.
 test:
-	tools/check --gate
+	$(PYTHON) tools/check --gate
 
 # The guards: what is shown by running, of the program as it is built, the tools and the pages. The last line counts all.
 check:
-	tools/check
+	$(PYTHON) tools/check
 
 # Debian's packages that the tools, their tests and the guards need.
 packages:
@@ -36,7 +36,7 @@ packages:
 
 # What black, pylint and mypy say of the Python.
 lint:
-	tools/lint
+	$(PYTHON) tools/lint
 
 # What each signature of a message that a real name server sent signs.
 demo: | $(program)

@@ -251,9 +251,7 @@ def question(scene: Scene, line: Line) -> None:
 
 def cut(scene: Scene, line: Line) -> None:
     """A delegation of which nothing proves that it is unsigned, as an empty box with its name."""
-    box = scene.chain.add(
-        (line["word"], line["name"]), line["zone"], (ABSENT[line["word"]], line["name"]), MISSING
-    )
+    box = scene.chain.add((line["word"], line["name"]), line["zone"], (ABSENT[line["word"]], line["name"]), MISSING)
     scene.lead(box, MISSING)
 
 
