@@ -36,7 +36,7 @@ packages:
 
 # What black, pylint and mypy say of the Python.
 lint:
-	tools/lint
+	$(PYTHON) tools/lint
 
 # What each signature of a message that a real name server sent signs.
 demo: | $(program)
