@@ -37,18 +37,24 @@ def source(fields: Fields) -> tuple[Members, list[str]]:
 def sourced(fields: Fields) -> Members:
     said, rest = source(fields)
     words = dict(zip(rest[::2], rest[1::2]))
-    for word, key in (("role", "role"), ("name", "name"), ("rrset", "rrset"), ("record", "record"), ("holds", "held")):
+    for word, member in (
+        ("role", "role"),
+        ("name", "name"),
+        ("rrset", "rrset"),
+        ("record", "record"),
+        ("holds", "held"),
+    ):
         if word in words:
-            said[key] = words[word] if word in ("role", "name") else int(words[word])
+            said[member] = words[word] if word in ("role", "name") else int(words[word])
     return said
 
 
 def of_signature(fields: Fields) -> Members:
     said, rest = signature(fields)
     words = dict(zip(rest[::2], rest[1::2]))
-    for word, key in (("from", "inception"), ("to", "expiration"), ("by", "by")):
+    for word, member in (("from", "inception"), ("to", "expiration"), ("by", "by")):
         if word in words:
-            said[key] = int(words[word])
+            said[member] = int(words[word])
     return said | ({"name": words["name"]} if "name" in words else {})
 
 

@@ -25,8 +25,8 @@ def part(fields: Fields) -> Members:
     role, relation, name, *rest = fields
     said = {"role": role, "relation": relation, "name": name}
     if rest:
-        _, owner, rtype, _, rrset, _, place = rest
-        said |= {"owner": owner, **numbers((rtype, rrset, place), "type", "rrset", "record")}
+        _, owner, rtype, _, rrset, _, number = rest
+        said |= {"owner": owner, **numbers((rtype, rrset, number), "type", "rrset", "record")}
     return said
 
 
@@ -36,11 +36,11 @@ def case(fields: Fields) -> Members:
 
 
 def unusable(fields: Fields) -> Members:
-    why, owner, _, rrset, _, place, _, tag, algorithm, _, digest = fields
+    cause, owner, _, rrset, _, number, _, tag, algorithm, _, digest = fields
     return {
-        "why": why,
+        "why": cause,
         "owner": owner,
-        **numbers((rrset, place, tag, algorithm, digest), "rrset", "record", "tag", "algorithm", "digest_type"),
+        **numbers((rrset, number, tag, algorithm, digest), "rrset", "record", "tag", "algorithm", "digest_type"),
     }
 
 

@@ -47,7 +47,7 @@ def interrupt(process):
     for _ in range(12):
         process.send_signal(signal.SIGINT)
         try:
-            return process.communicate(timeout=5)
+            return process.communicate(timeout=20)
         except subprocess.TimeoutExpired:
             pass
     raise AssertionError("it doesn't end")

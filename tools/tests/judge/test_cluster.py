@@ -4,7 +4,6 @@ import shutil
 import socket
 import subprocess
 import sys
-import time
 
 from tool import run_program
 
@@ -12,6 +11,8 @@ from .helper import ANCHORS, JUDGE, NOON, Judging, capture_of, needs, needs_dns
 
 COUNT = 60
 START = "import sys; from distributed.cli.dask_{0} import main; sys.exit(main())"
+# However busy the machine is, the scheduler and so many workers are there behind this.
+WAIT = "import sys; from distributed import Client; Client(sys.argv[1], timeout=300).wait_for_workers(int(sys.argv[2]), 300)"
 
 
 def free_port():
@@ -37,7 +38,6 @@ class Cluster(Judging):
         (self.room / "path" / "dnssec_check").symlink_to(self.program)
         self.address = f"tcp://127.0.0.1:{free_port()}"
         self.start("scheduler", "--host", self.address, "--no-dashboard")
-        time.sleep(2)
 
     def worker(self):
         return self.start("worker", self.address, "--no-nanny", "--no-dashboard", "--nthreads", "1")
@@ -50,6 +50,7 @@ class Cluster(Judging):
         words = ["--at", NOON, "--anchors", ANCHORS, "--tsv", self.room / "captures", "www.bind.test/A", "nosuch.bind.test/A"]
         wanted = self.judge(*words)
         lost, kept = self.worker(), self.worker()
+        subprocess.run([sys.executable, "-c", WAIT, self.address, "2"], check=True, capture_output=True)
         judge = subprocess.Popen([str(word) for word in (*JUDGE, "--scheduler", self.address, *words)],
                                  stdout=subprocess.PIPE, stderr=subprocess.PIPE, bufsize=0)
         first = judge.stdout.readline() + judge.stdout.readline()

@@ -33,7 +33,7 @@ class Files(Desk):
         return path
 
     def ended(self, *words):
-        done = subprocess.run([PROGRAM, *map(str, words)], capture_output=True, timeout=60)
+        done = subprocess.run([PROGRAM, *map(str, words)], capture_output=True, timeout=300)
         return done.returncode, done.stdout.decode(), done.stderr.decode()
 
     def checked(self, files, name="host.example."):
@@ -124,7 +124,7 @@ class Streams(Desk):
     def ended(self, *words, **streams):
         with open("/dev/full", "wb") as full:
             given = {"stdout": subprocess.PIPE, "stderr": subprocess.PIPE, **dict.fromkeys(streams, full)}
-            done = subprocess.run([PROGRAM, *map(str, words)], timeout=60, **given)
+            done = subprocess.run([PROGRAM, *map(str, words)], timeout=300, **given)
         return done.returncode, done.stdout, done.stderr
 
     def words(self):
