@@ -24,11 +24,11 @@ try:
 
 # The gate: every proof from nothing, the edits that must be refused, every test and the program. And then the guards.
 test:
-	$(PYTHON) tools/check --gate
+	tools/check --gate
 
 # The guards: what is shown by running, of the program as it is built, the tools and the pages. The last line counts all.
 check:
-	$(PYTHON) tools/check
+	tools/check
 
 # Debian's packages that the tools, their tests and the guards need.
 packages:

@@ -67,9 +67,10 @@ class Targets(unittest.TestCase):
         self.assertEqual(needing, ["make install PREFIX=$HOME/.local"])
 
     def test_the_guards_build_nothing(self):
-        for target in ("check", "packages", "lint"):
+        # The linters are Debian's, so its Python runs them.
+        for target, python in (("check", ""), ("packages", ""), ("lint", "/usr/bin/python3 ")):
             with self.subTest(target):
-                self.assertEqual(self.make("--dry-run", target), [f"tools/{target}"])
+                self.assertEqual(self.make("--dry-run", target), [f"{python}tools/{target}"])
 
     def test_the_gate_comes_with_the_guards(self):
         self.assertEqual(self.make("--dry-run", "test"), ["tools/check --gate"])
