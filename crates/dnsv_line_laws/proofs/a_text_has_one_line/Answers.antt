@@ -1,0 +1,6 @@
+use Rattle.dnsv_line_laws.proofs.Parting
+use Rattle.dnsv_line_laws.proofs.Marks
+use Rattle.dnsv_line_laws.proofs.a_text_has_one_line.Goals as goal
+
+pub returns : goal.returns
+returns c = ?
