@@ -1,2 +1,5 @@
+mod Forms
 mod Marks
 mod Parting
+mod Rows
+mod Tables

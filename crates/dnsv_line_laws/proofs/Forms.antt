@@ -1,0 +1,161 @@
+-- What each kind of line says: its fields in their order, by the line's first words.
+use Rattle.std.proofs.Common.{◌≡◌, ℕ, Bool, true, false, cond, List, [], ◌∷◌, ◌++◌, ◌||◌, ◌&&◌, Option, Some, None, codes, get_or, map, not, nat_lt, ◌==◌}
+use Rattle.std.specs.Fmt.{decimal}
+use Rattle.std.specs.List.{flat_map}
+use Rattle.dnsv_lines.specs.Json.{name_json, quoted}
+use Rattle.dnsv_lines.specs.Salt.{salt_text}
+use Rattle.dnsv_lines.specs.Sentence.{Said, Name, Number, Rrset, Word, Salt, Nothing, SaidField, SaidSentence, lower_text, plain}
+use Rattle.dnsv_line_laws.proofs.Marks.{Mark, Absent, Bare, Labelled, apart, piece, same, stands, words}
+
+-- ---- values as they are written
+
+abbrev pub text_value : Said → Option (List ℕ)
+text_value (Name name) = Some (lower_text name)
+text_value (Number number) = Some (decimal number)
+text_value (Rrset number) = Some (decimal number)
+text_value (Word word) = Some word
+text_value (Salt salt) = Some (salt_text salt)
+text_value Nothing = None
+
+abbrev pub json_value : Said → Option (List ℕ)
+json_value (Name name) = Some (name_json name)
+json_value (Number number) = Some (decimal number)
+json_value (Rrset number) = Some (decimal number)
+json_value (Word word) = Some (quoted word)
+json_value (Salt salt) = Some (quoted (salt_text salt))
+json_value Nothing = None
+
+-- a sentence's fields in the text's order, and in that of JSON, its first word as one of them
+abbrev pub text_fields : SaidSentence → List SaidField
+text_fields s = plain (codes "line") (Word s.line) ∷ plain (codes "ede") s.error ∷ plain (codes "word") s.word ∷ s.fields
+
+abbrev pub json_fields : SaidSentence → List SaidField
+json_fields s = plain (codes "line") (Word s.line) ∷ plain (codes "word") s.word ∷ plain (codes "ede") s.error ∷ s.fields
+
+abbrev pub mark_of : Option (List ℕ) → Mark
+mark_of None = Bare
+mark_of (Some label) = Labelled label
+
+abbrev pub text_piece : SaidField → List (List ℕ)
+text_piece field = piece (mark_of field.label) (text_value field.said)
+
+abbrev pub json_piece : SaidField → List (List ℕ)
+json_piece field = piece (Labelled (quoted field.key)) (json_value field.said)
+
+abbrev pub text_words : SaidSentence → List (List ℕ)
+text_words s = flat_map text_piece (text_fields s)
+
+abbrev pub json_words : SaidSentence → List (List ℕ)
+json_words s = flat_map json_piece (json_fields s)
+
+-- ---- forms
+
+-- what a field says
+pub data Kind : Type 0 where
+  AName : Kind
+  ANumber : Kind
+  AnRrset : Kind
+  AWord : Kind
+  ASalt : Kind
+
+-- an octet that stands for itself in a text and in a string of JSON
+abbrev pub is_clean : ℕ → Bool
+is_clean c = not (c == 32 || c == 34 || c == 92)
+
+abbrev pub clean : List ℕ → Bool
+clean [] = true
+clean (c ∷ word) = is_clean c && clean word
+
+abbrev pub of_kind : Kind → Said → Bool
+of_kind AName (Name name) = true
+of_kind ANumber (Number number) = true
+of_kind AnRrset (Rrset number) = true
+of_kind AWord (Word word) = clean word
+of_kind ASalt (Salt salt) = true
+of_kind kind Nothing = true
+of_kind _ _ = false
+
+-- a place of a form: what stands before its value, its key, and what its value is
+pub record Slot : Type 0 where
+  pub mark : Mark
+  pub key : List ℕ
+  pub kind : Kind
+
+abbrev pub bare : Kind → List ℕ → Slot
+bare kind key = record { mark = Bare; key = key; kind = kind }
+
+abbrev pub own : Kind → List ℕ → Slot
+own kind key = record { mark = Labelled key; key = key; kind = kind }
+
+abbrev pub behind : Kind → List ℕ → List ℕ → Slot
+behind kind label key = record { mark = Labelled label; key = key; kind = kind }
+
+-- a form: whether there are the number and the word of what fails, and the fields
+pub record Form : Type 0 where
+  pub error : Mark
+  pub word : Mark
+  pub slots : List Slot
+
+abbrev pub plain_form : List Slot → Form
+plain_form slots = record { error = Absent; word = Absent; slots = slots }
+
+abbrev pub reason_form : List Slot → Form
+reason_form slots = record { error = Bare; word = Bare; slots = slots }
+
+abbrev pub text_marks : Form → List Mark
+text_marks form = Bare ∷ form.error ∷ form.word ∷ map (λ slot. slot.mark) form.slots
+
+-- in JSON each stands behind its key
+abbrev pub keyed : Mark → List ℕ → Mark
+keyed Absent key = Absent
+keyed Bare key = Labelled (quoted key)
+keyed (Labelled label) key = Labelled (quoted key)
+
+abbrev pub json_marks : Form → List Mark
+json_marks form = Labelled (quoted (codes "line")) ∷ keyed form.word (codes "word") ∷ keyed form.error (codes "ede")
+    ∷ map (λ slot. keyed slot.mark slot.key) form.slots
+
+abbrev pub label_of : Mark → Option (List ℕ)
+label_of Absent = None
+label_of Bare = None
+label_of (Labelled label) = Some label
+
+-- the fields of a form with what they say
+abbrev pub laid : List Slot → List Said → List SaidField
+laid [] saids = []
+laid (slot ∷ slots) [] = []
+laid (slot ∷ slots) (said ∷ saids) = record { label = label_of slot.mark; key = slot.key; said = said } ∷ laid slots saids
+
+abbrev pub kinds : List Slot → List Said → Bool
+kinds [] [] = true
+kinds (slot ∷ slots) (said ∷ saids) = of_kind slot.kind said && kinds slots saids
+kinds _ _ = false
+
+abbrev pub clean_marks : List Mark → Bool
+clean_marks [] = true
+clean_marks (Absent ∷ marks) = clean_marks marks
+clean_marks (Bare ∷ marks) = clean_marks marks
+clean_marks (Labelled label ∷ marks) = clean label && clean_marks marks
+
+abbrev pub clean_keys : List Slot → Bool
+clean_keys [] = true
+clean_keys (slot ∷ slots) = clean slot.key && clean_keys slots
+
+-- a form that can be told from its words
+abbrev pub is_good : Form → Bool
+is_good form = apart (text_marks form) && apart (json_marks form) && clean_marks (text_marks form) && clean_keys form.slots
+
+abbrev pub saids : SaidSentence → List Said
+saids s = map (λ field. field.said) s.fields
+
+abbrev pub text_values : SaidSentence → List (Option (List ℕ))
+text_values s = map (λ field. text_value field.said) (text_fields s)
+
+abbrev pub json_values : SaidSentence → List (Option (List ℕ))
+json_values s = map (λ field. json_value field.said) (json_fields s)
+
+-- the sentence says what the form has
+abbrev pub fits : Form → SaidSentence → Bool
+fits form s =
+    clean s.line && of_kind ANumber s.error && of_kind AWord s.word && kinds form.slots (saids s)
+    && stands true (text_marks form) (text_values s) && stands true (json_marks form) (json_values s)
