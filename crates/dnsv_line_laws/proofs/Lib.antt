@@ -1,3 +1,4 @@
+mod Digits
 mod Forms
 mod Marks
 mod Parting
