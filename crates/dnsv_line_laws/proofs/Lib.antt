@@ -2,5 +2,6 @@ mod Digits
 mod Forms
 mod Marks
 mod Parting
+mod Reasons
 mod Rows
 mod Tables

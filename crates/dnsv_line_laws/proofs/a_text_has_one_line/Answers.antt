@@ -1,5 +1,6 @@
 use Rattle.dnsv_line_laws.proofs.Parting
 use Rattle.dnsv_line_laws.proofs.Marks
+use Rattle.dnsv_line_laws.proofs.Reasons
 use Rattle.dnsv_line_laws.proofs.Digits
 use Rattle.dnsv_line_laws.proofs.Rows
 use Rattle.dnsv_line_laws.proofs.Forms
