@@ -92,18 +92,32 @@ behind kind label key = record { mark = Labelled label; key = key; kind = kind }
 
 -- a form: whether there are the number and the word of what fails, and the fields
 pub record Form : Type 0 where
-  pub error : Mark
-  pub word : Mark
+  pub error : Bool
+  pub word : Bool
   pub slots : List Slot
 
 abbrev pub plain_form : List Slot → Form
-plain_form slots = record { error = Absent; word = Absent; slots = slots }
+plain_form slots = record { error = false; word = false; slots = slots }
 
 abbrev pub reason_form : List Slot → Form
-reason_form slots = record { error = Bare; word = Bare; slots = slots }
+reason_form slots = record { error = true; word = true; slots = slots }
 
-abbrev pub text_marks : Form → List Mark
-text_marks form = Bare ∷ form.error ∷ form.word ∷ map (λ slot. slot.mark) form.slots
+abbrev pub mark_if : Bool → Mark
+mark_if false = Absent
+mark_if true = Bare
+
+abbrev pub if_there : Bool → Kind → List ℕ → Slot
+if_there there kind key = record { mark = mark_if there; key = key; kind = kind }
+
+-- all fields in the text's order, and in that of JSON
+abbrev pub text_slots : Form → List Slot
+text_slots form = bare AWord (codes "line") ∷ if_there form.error ANumber (codes "ede") ∷ if_there form.word AWord (codes "word") ∷ form.slots
+
+abbrev pub json_slots : Form → List Slot
+json_slots form = bare AWord (codes "line") ∷ if_there form.word AWord (codes "word") ∷ if_there form.error ANumber (codes "ede") ∷ form.slots
+
+abbrev pub text_marks : List Slot → List Mark
+text_marks slots = map (λ slot. slot.mark) slots
 
 -- in JSON each stands behind its key
 abbrev pub keyed : Mark → List ℕ → Mark
@@ -111,9 +125,8 @@ keyed Absent key = Absent
 keyed Bare key = Labelled (quoted key)
 keyed (Labelled label) key = Labelled (quoted key)
 
-abbrev pub json_marks : Form → List Mark
-json_marks form = Labelled (quoted (codes "line")) ∷ keyed form.word (codes "word") ∷ keyed form.error (codes "ede")
-    ∷ map (λ slot. keyed slot.mark slot.key) form.slots
+abbrev pub json_marks : List Slot → List Mark
+json_marks slots = map (λ slot. keyed slot.mark slot.key) slots
 
 abbrev pub label_of : Mark → Option (List ℕ)
 label_of Absent = None
@@ -131,31 +144,32 @@ kinds [] [] = true
 kinds (slot ∷ slots) (said ∷ saids) = of_kind slot.kind said && kinds slots saids
 kinds _ _ = false
 
-abbrev pub clean_marks : List Mark → Bool
-clean_marks [] = true
-clean_marks (Absent ∷ marks) = clean_marks marks
-clean_marks (Bare ∷ marks) = clean_marks marks
-clean_marks (Labelled label ∷ marks) = clean label && clean_marks marks
+abbrev pub clean_mark : Mark → Bool
+clean_mark Absent = true
+clean_mark Bare = true
+clean_mark (Labelled label) = clean label
 
-abbrev pub clean_keys : List Slot → Bool
-clean_keys [] = true
-clean_keys (slot ∷ slots) = clean slot.key && clean_keys slots
+abbrev pub clean_slots : List Slot → Bool
+clean_slots [] = true
+clean_slots (slot ∷ slots) = clean_mark slot.mark && clean slot.key && clean_slots slots
 
 -- a form that can be told from its words
 abbrev pub is_good : Form → Bool
-is_good form = apart (text_marks form) && apart (json_marks form) && clean_marks (text_marks form) && clean_keys form.slots
+is_good form =
+    apart (text_marks (text_slots form)) && apart (json_marks (json_slots form))
+    && clean_slots (text_slots form) && clean_slots (json_slots form)
 
-abbrev pub saids : SaidSentence → List Said
-saids s = map (λ field. field.said) s.fields
+abbrev pub saids : List SaidField → List Said
+saids fields = map (λ field. field.said) fields
 
-abbrev pub text_values : SaidSentence → List (Option (List ℕ))
-text_values s = map (λ field. text_value field.said) (text_fields s)
-
-abbrev pub json_values : SaidSentence → List (Option (List ℕ))
-json_values s = map (λ field. json_value field.said) (json_fields s)
+abbrev pub is_small : Said → Bool
+is_small (Number number) = nat_lt number 64
+is_small said = true
 
 -- the sentence says what the form has
 abbrev pub fits : Form → SaidSentence → Bool
 fits form s =
-    clean s.line && of_kind ANumber s.error && of_kind AWord s.word && kinds form.slots (saids s)
-    && stands true (text_marks form) (text_values s) && stands true (json_marks form) (json_values s)
+    kinds (text_slots form) (saids (text_fields s)) && kinds (json_slots form) (saids (json_fields s))
+    && stands true (text_marks (text_slots form)) (map text_value (saids (text_fields s)))
+    && stands true (json_marks (json_slots form)) (map json_value (saids (json_fields s)))
+    && is_small s.error

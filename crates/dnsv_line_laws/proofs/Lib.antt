@@ -1,7 +1,9 @@
 mod Digits
 mod Forms
+mod Lines
 mod Marks
 mod Parting
+mod Passing
 mod Reasons
 mod Rows
 mod Tables

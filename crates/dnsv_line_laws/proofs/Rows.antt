@@ -137,16 +137,16 @@ key_told x = key_with x x.signature x.anchor x.ds
 
 -- records of a zone prove a denial
 proof_with : (x : Proof) (given : Option Labels) → Told proof_form (proof_row (record x { encloser = given }))
-proof_with x None = (refl, rw (form_clean x.form, chain_clean x.chain), refl, refl, refl)
-proof_with x (Some name) = (refl, rw (form_clean x.form, chain_clean x.chain), refl, refl, refl)
+proof_with x None = (refl, refl, rw (form_clean x.form, chain_clean x.chain), refl, refl)
+proof_with x (Some name) = (refl, refl, rw (form_clean x.form, chain_clean x.chain), refl, refl)
 
 pub proof_told : (x : Proof) → Told proof_form (proof_row x)
 proof_told x = proof_with x x.encloser
 
 -- one part of it, and the record that says it, where one is needed
 part_with : (x : Part) (given : Option RecordPlace) → Told part_form (part_row (record x { by = given }))
-part_with x None = (refl, rw (role_clean x.role, relation_clean x.relation), refl, refl, refl)
-part_with x (Some place) = (refl, rw (role_clean x.role, relation_clean x.relation), refl, refl, refl)
+part_with x None = (refl, refl, rw (role_clean x.role, relation_clean x.relation), refl, refl)
+part_with x (Some place) = (refl, refl, rw (role_clean x.role, relation_clean x.relation), refl, refl)
 
 pub part_told : (x : Part) → Told part_form (part_row x)
 part_told x = part_with x x.by

@@ -2,8 +2,8 @@
 use Rattle.std.proofs.Common.{◌≡◌, ℕ, Bool, true, false, cond, List, [], ◌∷◌, ◌++◌, ◌||◌, codes, get_or, map, nat_lt, refl}
 use Rattle.dnsv_lines.specs.Json.{quoted}
 use Rattle.dnsv_lines.specs.Sentence.{SaidSentence}
-use Rattle.dnsv_line_laws.proofs.Forms.{Form, Slot, AName, ANumber, AnRrset, AWord, ASalt, bare, behind, fits, is_good, json_words, laid, own, plain_form, reason_form, saids, text_words}
-use Rattle.dnsv_line_laws.proofs.Marks.{Absent, Bare, same}
+use Rattle.dnsv_line_laws.proofs.Forms.{Form, Slot, AName, ANumber, AnRrset, AWord, ASalt, bare, behind, fits, is_good, json_fields, json_slots, json_words, laid, own, plain_form, reason_form, saids, text_fields, text_slots, text_words}
+use Rattle.dnsv_line_laws.proofs.Marks.{same}
 
 -- ---- the forms
 
@@ -62,7 +62,7 @@ shown_slots more =
     ∷ more
 
 abbrev pub follows_form : Form
-follows_form = record { error = Absent; word = Bare; slots = shown_slots [] }
+follows_form = record { error = false; word = true; slots = shown_slots [] }
 
 abbrev pub signature_form : Form
 signature_form = reason_form (shown_slots (
@@ -175,7 +175,21 @@ form_by_json told = form_by quoted (get_or told 1 []) (get_or told 3 []) (same (
 
 -- ---- a sentence that its words tell
 
+-- its fields are those of the form, and its words tell the form
 abbrev pub Told : Form → SaidSentence → Type 0
 Told form s =
-    (s.fields ≡ laid form.slots (saids s)) × (fits form s ≡ true) × (form_by_text (text_words s) ≡ form) × (form_by_json (json_words s) ≡ form)
-    × (is_good form ≡ true)
+    (text_fields s ≡ laid (text_slots form) (saids (text_fields s))) × (json_fields s ≡ laid (json_slots form) (saids (json_fields s)))
+    × (fits form s ≡ true) × (form_by_text (text_words s) ≡ form) × (form_by_json (json_words s) ≡ form)
+
+-- some good form tells it
+pub record IsTold (s : SaidSentence) : Type 0 where
+  pub form : Form
+  pub good : is_good form ≡ true
+  pub text : text_fields s ≡ laid (text_slots form) (saids (text_fields s))
+  pub json : json_fields s ≡ laid (json_slots form) (saids (json_fields s))
+  pub fits : fits form s ≡ true
+  pub by_text : form_by_text (text_words s) ≡ form
+  pub by_json : form_by_json (json_words s) ≡ form
+
+pub is_told : (form : Form) (s : SaidSentence) → is_good form ≡ true → Told form s → IsTold s
+is_told form s good told = record { form = form; good = good; text = told.0; json = told.1; fits = told.2; by_text = told.3; by_json = told.4 }

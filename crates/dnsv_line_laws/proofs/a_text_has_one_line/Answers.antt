@@ -1,5 +1,7 @@
 use Rattle.dnsv_line_laws.proofs.Parting
 use Rattle.dnsv_line_laws.proofs.Marks
+use Rattle.dnsv_line_laws.proofs.Passing
+use Rattle.dnsv_line_laws.proofs.Lines
 use Rattle.dnsv_line_laws.proofs.Reasons
 use Rattle.dnsv_line_laws.proofs.Digits
 use Rattle.dnsv_line_laws.proofs.Rows
