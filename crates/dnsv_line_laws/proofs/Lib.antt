@@ -6,4 +6,5 @@ mod Parting
 mod Passing
 mod Reasons
 mod Rows
+mod Splitting
 mod Tables

@@ -62,11 +62,11 @@ or_so : (a b : Bool) → b ≡ true → (a || b) ≡ true
 or_so true b is = refl
 or_so false b is = is
 
-both_first : (a b : Bool) → (a && b) ≡ true → a ≡ true
+pub both_first : (a b : Bool) → (a && b) ≡ true → a ≡ true
 both_first true b is = refl
 both_first false b is = cc
 
-both_then : (a b : Bool) → (a && b) ≡ true → b ≡ true
+pub both_then : (a b : Bool) → (a && b) ≡ true → b ≡ true
 both_then true b is = is
 both_then false b is = cc
 
