@@ -2,6 +2,7 @@ mod Digits
 mod Forms
 mod Lines
 mod Marks
+mod Meaning
 mod Parting
 mod Passing
 mod Reasons

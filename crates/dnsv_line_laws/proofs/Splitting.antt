@@ -10,7 +10,7 @@ use Rattle.dnsv_lines.specs.Json.{member, parted, quoted}
 use Rattle.dnsv_lines.specs.Salt.{salt_text}
 use Rattle.dnsv_lines.specs.Sentence.{Said, Name, Number, Rrset, Word, Salt, Nothing, SaidField, field_members, field_text, keyed_members, label_text, labelled_text, lower_text}
 use Rattle.dnsv_line_laws.proofs.Forms.{AName, ANumber, AnRrset, AWord, ASalt, Kind, Slot, clean, clean_mark, clean_slots, json_marks, json_piece, json_value, keyed, kinds, label_of, laid, mark_of, of_kind, text_marks, text_piece, text_value}
-use Rattle.dnsv_line_laws.proofs.Marks.{Mark, Absent, Bare, Labelled, both_first, both_then, piece, words}
+use Rattle.dnsv_line_laws.proofs.Marks.{Mark, Absent, Bare, Labelled, both_first, both_then, piece, stands, words}
 use Rattle.dnsv_line_laws.proofs.Parting.{Mode, Words, Outside, Passes, is_cut, one_part, split}
 use Rattle.dnsv_line_laws.proofs.Passing.{clean_inside, clean_words, decimal_outside, decimal_words, name_words, quoted_outside, salt_clean, string_outside}
 
@@ -140,3 +140,30 @@ text_by_marks (slot ∷ slots) [] = refl
 text_by_marks (slot ∷ slots) (x ∷ xs) =
     ap (λ p. p ++ flat_map text_piece (laid slots xs)) (text_piece_by_mark slot.mark (text_value x))
     ∙ ap (λ ws. piece slot.mark (text_value x) ++ ws) (text_by_marks slots xs)
+
+-- in JSON a field that is absent has no value
+json_piece_by_mark : (mark : Mark) (key : List ℕ) (value : Option (List ℕ)) (there : Bool) (marks : List Mark) (values : List (Option (List ℕ)))
+    → stands there (keyed mark key ∷ marks) (value ∷ values) ≡ true → piece (Labelled (quoted key)) value ≡ piece (keyed mark key) value
+json_piece_by_mark Absent key None there marks values is = refl
+json_piece_by_mark Absent key (Some value) there marks values is = cc
+json_piece_by_mark Bare key value there marks values is = refl
+json_piece_by_mark (Labelled label) key value there marks values is = refl
+
+-- what stands behind a value is known to stand, behind a value or not
+stands_on : (mark : Mark) (key : List ℕ) (value : Option (List ℕ)) (there : Bool) (marks : List Mark) (values : List (Option (List ℕ)))
+    → stands there (keyed mark key ∷ marks) (value ∷ values) ≡ true → (on : Bool) × (stands on marks values ≡ true)
+stands_on Absent key None there marks values is = (there, is)
+stands_on Absent key (Some value) there marks values is = cc
+stands_on Bare key None there marks values is = (false, is)
+stands_on Bare key (Some value) there marks values is = (true, is)
+stands_on (Labelled label) key None there marks values is = (false, is)
+stands_on (Labelled label) key (Some value) there marks values is = (true, is)
+
+pub json_by_marks : (slots : List Slot) (xs : List Said) (there : Bool) → stands there (json_marks slots) (map json_value xs) ≡ true
+    → flat_map json_piece (laid slots xs) ≡ words (json_marks slots) (map json_value xs)
+json_by_marks [] xs there is = refl
+json_by_marks (slot ∷ slots) [] there is = refl
+json_by_marks (slot ∷ slots) (x ∷ xs) there is =
+    let on = stands_on slot.mark slot.key (json_value x) there (json_marks slots) (map json_value xs) is in
+    ap (λ p. p ++ flat_map json_piece (laid slots xs)) (json_piece_by_mark slot.mark slot.key (json_value x) there (json_marks slots) (map json_value xs) is)
+    ∙ ap (λ ws. piece (keyed slot.mark slot.key) (json_value x) ++ ws) (json_by_marks slots xs on.0 on.1)

@@ -1,5 +1,6 @@
 use Rattle.dnsv_line_laws.proofs.Parting
 use Rattle.dnsv_line_laws.proofs.Marks
+use Rattle.dnsv_line_laws.proofs.Meaning
 use Rattle.dnsv_line_laws.proofs.Splitting
 use Rattle.dnsv_line_laws.proofs.Passing
 use Rattle.dnsv_line_laws.proofs.Lines
