@@ -153,11 +153,15 @@ abbrev pub clean_slots : List Slot → Bool
 clean_slots [] = true
 clean_slots (slot ∷ slots) = clean_mark slot.mark && clean slot.key && clean_slots slots
 
--- a form that can be told from its words
+-- a form that can be told from its words: labels are apart, and what stands before values isn't parted
+abbrev pub text_good : Form → Bool
+text_good form = apart (text_marks (text_slots form)) && clean_slots (text_slots form)
+
+abbrev pub json_good : Form → Bool
+json_good form = apart (json_marks (json_slots form)) && clean_slots (json_slots form)
+
 abbrev pub is_good : Form → Bool
-is_good form =
-    apart (text_marks (text_slots form)) && apart (json_marks (json_slots form))
-    && clean_slots (text_slots form) && clean_slots (json_slots form)
+is_good form = text_good form && json_good form
 
 abbrev pub saids : List SaidField → List Said
 saids fields = map (λ field. field.said) fields
@@ -167,9 +171,13 @@ is_small (Number number) = nat_lt number 64
 is_small said = true
 
 -- the sentence says what the form has
+abbrev pub text_fits : Form → SaidSentence → Bool
+text_fits form s =
+    kinds (text_slots form) (saids (text_fields s)) && stands true (text_marks (text_slots form)) (map text_value (saids (text_fields s)))
+
+abbrev pub json_fits : Form → SaidSentence → Bool
+json_fits form s =
+    kinds (json_slots form) (saids (json_fields s)) && stands true (json_marks (json_slots form)) (map json_value (saids (json_fields s)))
+
 abbrev pub fits : Form → SaidSentence → Bool
-fits form s =
-    kinds (text_slots form) (saids (text_fields s)) && kinds (json_slots form) (saids (json_fields s))
-    && stands true (text_marks (text_slots form)) (map text_value (saids (text_fields s)))
-    && stands true (json_marks (json_slots form)) (map json_value (saids (json_fields s)))
-    && is_small s.error
+fits form s = is_small s.error && (text_fits form s && json_fits form s)

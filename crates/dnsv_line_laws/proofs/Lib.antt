@@ -1,5 +1,6 @@
 mod Digits
 mod Forms
+mod Laws
 mod Lines
 mod Marks
 mod Meaning

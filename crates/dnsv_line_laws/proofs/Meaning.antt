@@ -97,32 +97,45 @@ inside {x} {y} is = cc
 pub text_alike : (kind : Kind) (x y : Said) → of_kind kind x ≡ true → of_kind kind y ≡ true → IsOfItsType x → IsOfItsType y
     → text_value x ≡ text_value y → SayAlike x y
 text_alike AName (Name a) (Name b) p q so too is = same_text a b so too (inside is)
-text_alike AName (Name a) Nothing p q so too is = cc
 text_alike AName (Name a) y p q so too is = cc
-text_alike AName Nothing (Name b) p q so too is = cc
 text_alike AName Nothing Nothing p q so too is = tt
 text_alike AName x y p q so too is = cc
 text_alike ANumber (Number a) (Number b) p q so too is = decimal_injective a b so too (inside is)
-text_alike ANumber (Number a) Nothing p q so too is = cc
 text_alike ANumber (Number a) y p q so too is = cc
-text_alike ANumber Nothing (Number b) p q so too is = cc
 text_alike ANumber Nothing Nothing p q so too is = tt
 text_alike ANumber x y p q so too is = cc
 text_alike AnRrset (Rrset a) (Rrset b) p q so too is = decimal_injective a b so too (inside is)
-text_alike AnRrset (Rrset a) Nothing p q so too is = cc
 text_alike AnRrset (Rrset a) y p q so too is = cc
-text_alike AnRrset Nothing (Rrset b) p q so too is = cc
 text_alike AnRrset Nothing Nothing p q so too is = tt
 text_alike AnRrset x y p q so too is = cc
 text_alike AWord (Word a) (Word b) p q so too is = inside is
-text_alike AWord (Word a) Nothing p q so too is = cc
 text_alike AWord (Word a) y p q so too is = cc
-text_alike AWord Nothing (Word b) p q so too is = cc
 text_alike AWord Nothing Nothing p q so too is = tt
 text_alike AWord x y p q so too is = cc
 text_alike ASalt (Salt a) (Salt b) p q so too is = same_salt a b (inside is)
-text_alike ASalt (Salt a) Nothing p q so too is = cc
 text_alike ASalt (Salt a) y p q so too is = cc
-text_alike ASalt Nothing (Salt b) p q so too is = cc
 text_alike ASalt Nothing Nothing p q so too is = tt
 text_alike ASalt x y p q so too is = cc
+
+-- values of one JSON have one text
+pub json_alike : (kind : Kind) (x y : Said) → of_kind kind x ≡ true → of_kind kind y ≡ true → json_value x ≡ json_value y → text_value x ≡ text_value y
+json_alike AName (Name a) (Name b) p q is = ap Some (same_name_json a b (inside is))
+json_alike AName (Name a) y p q is = cc
+json_alike AName Nothing Nothing p q is = refl
+json_alike AName x y p q is = cc
+json_alike ANumber (Number a) (Number b) p q is = is
+json_alike ANumber (Number a) y p q is = cc
+json_alike ANumber Nothing Nothing p q is = refl
+json_alike ANumber x y p q is = cc
+json_alike AnRrset (Rrset a) (Rrset b) p q is = is
+json_alike AnRrset (Rrset a) y p q is = cc
+json_alike AnRrset Nothing Nothing p q is = refl
+json_alike AnRrset x y p q is = cc
+json_alike AWord (Word a) (Word b) p q is = ap Some (same_quoted a b (inside is))
+json_alike AWord (Word a) y p q is = cc
+json_alike AWord Nothing Nothing p q is = refl
+json_alike AWord x y p q is = cc
+json_alike ASalt (Salt a) (Salt b) p q is = ap Some (same_quoted (salt_text a) (salt_text b) (inside is))
+json_alike ASalt (Salt a) y p q is = cc
+json_alike ASalt Nothing Nothing p q is = refl
+json_alike ASalt x y p q is = cc

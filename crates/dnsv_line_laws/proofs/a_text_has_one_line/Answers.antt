@@ -1,14 +1,7 @@
-use Rattle.dnsv_line_laws.proofs.Parting
-use Rattle.dnsv_line_laws.proofs.Marks
-use Rattle.dnsv_line_laws.proofs.Meaning
-use Rattle.dnsv_line_laws.proofs.Splitting
-use Rattle.dnsv_line_laws.proofs.Passing
-use Rattle.dnsv_line_laws.proofs.Lines
-use Rattle.dnsv_line_laws.proofs.Reasons
-use Rattle.dnsv_line_laws.proofs.Digits
-use Rattle.dnsv_line_laws.proofs.Rows
-use Rattle.dnsv_line_laws.proofs.Forms
+use Rattle.dnsv_line_laws.proofs.Laws.{one_text}
+use Rattle.dnsv_line_laws.proofs.Lines.{line_told}
+use Rattle.dnsv_lines.specs.Rows.{sentence_of}
 use Rattle.dnsv_line_laws.proofs.a_text_has_one_line.Goals as goal
 
 pub returns : goal.returns
-returns c = ?
+returns c = λ of_a of_b is. one_text (sentence_of c.args.a.now) (sentence_of c.args.b.now) (line_told c.args.a.now) (line_told c.args.b.now) of_a of_b is

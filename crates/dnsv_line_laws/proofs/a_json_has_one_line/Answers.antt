@@ -1,0 +1,7 @@
+use Rattle.dnsv_line_laws.proofs.Laws.{one_json}
+use Rattle.dnsv_line_laws.proofs.Lines.{line_told}
+use Rattle.dnsv_lines.specs.Rows.{sentence_of}
+use Rattle.dnsv_line_laws.proofs.a_json_has_one_line.Goals as goal
+
+pub returns : goal.returns
+returns c = λ of_a of_b is. one_json (sentence_of c.args.a.now) (sentence_of c.args.b.now) (line_told c.args.a.now) (line_told c.args.b.now) of_a of_b is
