@@ -10,3 +10,4 @@ mod Reasons
 mod Rows
 mod Splitting
 mod Tables
+mod Types
