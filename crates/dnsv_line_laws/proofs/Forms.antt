@@ -1,11 +1,11 @@
 -- What each kind of line says: its fields in their order, by the line's first words.
-use Rattle.std.proofs.Common.{◌≡◌, ℕ, Bool, true, false, cond, List, [], ◌∷◌, ◌++◌, ◌||◌, ◌&&◌, Option, Some, None, codes, get_or, map, not, nat_lt, ◌==◌}
+use Rattle.std.proofs.Common.{ℕ, Bool, true, false, List, [], ◌∷◌, ◌||◌, ◌&&◌, Option, Some, None, codes, map, not, nat_lt, ◌==◌}
 use Rattle.std.specs.Fmt.{decimal}
 use Rattle.std.specs.List.{flat_map}
 use Rattle.dnsv_lines.specs.Json.{name_json, quoted}
 use Rattle.dnsv_lines.specs.Salt.{salt_text}
 use Rattle.dnsv_lines.specs.Sentence.{Said, Name, Number, Rrset, Word, Salt, Nothing, SaidField, SaidSentence, lower_text, plain}
-use Rattle.dnsv_line_laws.proofs.Marks.{Mark, Absent, Bare, Labelled, apart, piece, same, stands, words}
+use Rattle.dnsv_line_laws.proofs.Marks.{Mark, Absent, Bare, Labelled, apart, piece, stands}
 
 -- ---- values as they are written
 

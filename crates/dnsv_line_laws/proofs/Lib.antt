@@ -1,9 +1,9 @@
 mod Digits
 mod Forms
-mod Laws
 mod Lines
 mod Marks
 mod Meaning
+mod OneLine
 mod Parting
 mod Passing
 mod Reasons

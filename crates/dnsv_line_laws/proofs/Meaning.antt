@@ -1,15 +1,15 @@
 -- What is written for a value determines what is said.
-use Rattle.std.proofs.Common.{◌≡◌, ℕ, ◌<◌, ◌≤◌, ◌^◌, ◌+◌, ◌-◌, ◌*◌, ◌/◌, ◌%◌, ◌==◌, ◌||◌, Bool, true, false, cond, List, [], ◌∷◌, ◌++◌, Option, Some, None, nat_lt, arith, codes, refl, sym, ap, subst, ◌∙◌}
+use Rattle.std.proofs.Common.{◌≡◌, ℕ, ◌+◌, ◌-◌, ◌*◌, ◌/◌, ◌%◌, ◌==◌, ◌||◌, Bool, true, false, cond, List, [], ◌∷◌, ◌++◌, Some, nat_lt, arith, refl, sym, ap, subst, ◌∙◌}
 use Rattle.std.proofs.lemmas.Bool.Decides.{nat_tests}
 use Rattle.std.proofs.lemmas.Fmt.{decimal_injective}
 use Rattle.std.proofs.lemmas.List.{append_cancel_right}
-use Rattle.std.specs.Fmt.{decimal, digit_glyph}
-use Rattle.std.specs.List.{AllByRecursion, flat_map}
+use Rattle.std.specs.Fmt.{digit_glyph}
+use Rattle.std.specs.List.{flat_map}
 use Rattle.dnsv_names.proofs.OneReading.{one_name}
 use Rattle.dnsv_names.proofs.TextLemmas.{text_of_spells}
 use Rattle.dnsv_names.specs.Name.WireLaws.{IsName-lower_case}
 use Rattle.dnsv_names.specs.Name.{IsName, Labels, SameName, lower_case}
-use Rattle.dnsv_names.specs.Text.{IsTextOf, text_of}
+use Rattle.dnsv_names.specs.Text.{IsTextOf}
 use Rattle.dnsv_lines.specs.Json.{escaped, name_json, quoted}
 use Rattle.dnsv_lines.specs.Salt.{octet_text, salt_text}
 use Rattle.dnsv_lines.specs.Sentence.{Said, Name, Number, Rrset, Word, Salt, Nothing, lower_text}

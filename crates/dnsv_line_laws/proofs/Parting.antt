@@ -1,5 +1,5 @@
 -- Texts are parted where the machine below says so: a line's text at its spaces, JSON at commas and colons outside of strings.
-use Rattle.std.proofs.Common.{◌≡◌, ℕ, Bool, true, false, cond, List, [], ◌∷◌, ◌++◌, ◌==◌, ◌||◌, refl, sym, ap, subst, ◌∙◌}
+use Rattle.std.proofs.Common.{◌≡◌, ℕ, Bool, true, false, cond, List, [], ◌∷◌, ◌++◌, ◌==◌, ◌||◌, sym, ap, subst, ◌∙◌}
 use Rattle.std.proofs.lemmas.List.{append-nil}
 
 -- where one stands: in a line's text; in JSON outside of strings, inside of one, or there behind a backslash

@@ -1,5 +1,5 @@
 -- What is written for a value is not parted: a line's text stands in one word, and JSON in one value.
-use Rattle.std.proofs.Common.{◌≡◌, ℕ, ◌<◌, ◌≤◌, ◌+◌, ◌/◌, ◌%◌, ◌==◌, ◌||◌, ◌&&◌, not, Bool, true, false, cond, List, [], ◌∷◌, ◌++◌, nat_lt, arith, codes, refl, sym, ap, subst, ◌∙◌}
+use Rattle.std.proofs.Common.{◌≡◌, ℕ, ◌<◌, ◌≤◌, ◌+◌, ◌/◌, ◌%◌, ◌==◌, ◌||◌, ◌&&◌, Bool, true, false, cond, List, [], ◌∷◌, ◌++◌, nat_lt, arith, refl, sym, ap, subst, ◌∙◌}
 use Rattle.std.proofs.lemmas.Bool.Decides.{nat_tests}
 use Rattle.std.specs.Char.{is_ascii_graphic}
 use Rattle.std.specs.Fmt.{decimal, digit_glyph}
@@ -8,7 +8,7 @@ use Rattle.dnsv_names.specs.Name.{Labels}
 use Rattle.dnsv_names.specs.Text.{label_text, octet_text, text_of}
 use Rattle.dnsv_lines.specs.Json.{escaped, quoted, string_json}
 use Rattle.dnsv_lines.specs.Salt as salt
-use Rattle.dnsv_line_laws.proofs.Digits.{AreDigits, IsDigit, decimal_digits}
+use Rattle.dnsv_line_laws.proofs.Digits.{AreDigits, decimal_digits}
 use Rattle.dnsv_line_laws.proofs.Forms.{clean, is_clean}
 use Rattle.dnsv_line_laws.proofs.Marks.{both_first, both_then}
 use Rattle.dnsv_line_laws.proofs.Parting.{Mode, Words, Outside, Inside, Behind, Passes, next, passes-append}

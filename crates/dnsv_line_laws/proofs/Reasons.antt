@@ -1,14 +1,12 @@
 -- Each line that says what fails is told by its words.
-use Rattle.std.proofs.Common.{◌≡◌, ℕ, true, cond, Option, Some, None, refl, ap}
+use Rattle.std.proofs.Common.{ℕ, cond, Option, Some, None, refl, ap}
 use Rattle.dnsv_records.specs.declared.nsec3.Nsec3Parameters.{Nsec3Parameters}
 use Rattle.dnsv_records.specs.declared.number.DigestType.{DigestType}
-use Rattle.dnsv_canonical.specs.declared.number.RecordNumber.{RecordNumber}
 use Rattle.dnsv_names.specs.Name.{Labels}
 use Rattle.dnsv_lines.specs.Rows.{closer_row, denial_unproved_row, dname_row, ds_unproved_row, entry_fault_row, missing_answer_row, not_self_signed_row, not_vouched_row, nsec3_row, signature_fault_row, source_fault_row, unsigned_row, zone_fault_row}
 use Rattle.dnsv_lines.specs.declared.line.fault.denial.DenialUnproved.{DenialUnproved}
 use Rattle.dnsv_lines.specs.declared.line.fault.denial.DnameAbove.{DnameAbove}
 use Rattle.dnsv_lines.specs.declared.line.fault.denial.MissingAnswer.{MissingAnswer}
-use Rattle.dnsv_lines.specs.declared.line.fault.denial.Source.{Source}
 use Rattle.dnsv_lines.specs.declared.line.fault.denial.SourceFault.{SourceFault}
 use Rattle.dnsv_lines.specs.declared.line.fault.denial.UnusableNsec3.{UnusableNsec3}
 use Rattle.dnsv_lines.specs.declared.line.fault.denial.WhyNsec3.{WhyNsec3}
@@ -21,7 +19,6 @@ use Rattle.dnsv_lines.specs.declared.line.fault.signature.UnsignedRrset.{Unsigne
 use Rattle.dnsv_lines.specs.declared.line.fault.signature.WhySignature.{WhySignature}
 use Rattle.dnsv_lines.specs.declared.line.fault.signature.WhySignature.TheVariants as signature
 use Rattle.dnsv_lines.specs.declared.line.fault.zone.DsUnproved.{DsUnproved}
-use Rattle.dnsv_lines.specs.declared.line.fault.zone.Entry.{Entry}
 use Rattle.dnsv_lines.specs.declared.line.fault.zone.EntryFault.{EntryFault}
 use Rattle.dnsv_lines.specs.declared.line.fault.zone.EntryNumber.{EntryNumber}
 use Rattle.dnsv_lines.specs.declared.line.fault.zone.EntryNumber.TheVariants as number

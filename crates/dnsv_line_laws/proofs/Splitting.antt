@@ -1,5 +1,5 @@
 -- The text and the JSON of fields are parted into their words.
-use Rattle.std.proofs.Common.{◌≡◌, ℕ, ◌||◌, ◌==◌, ◌&&◌, Bool, true, false, List, [], ◌∷◌, ◌++◌, Option, Some, None, append_assoc, codes, map, refl, sym, ap, subst, ◌∙◌}
+use Rattle.std.proofs.Common.{◌≡◌, ℕ, ◌&&◌, Bool, true, false, List, [], ◌∷◌, ◌++◌, Option, Some, None, append_assoc, codes, map, refl, sym, ap, subst, ◌∙◌}
 use Rattle.std.proofs.lemmas.List.{append-nil}
 use Rattle.std.specs.Fmt.{decimal}
 use Rattle.std.specs.List.{flat_map}
@@ -8,7 +8,7 @@ use Rattle.dnsv_names.specs.Text.{text_of}
 use Rattle.dnsv_lines.proofs.JsonLemmas.{parted_behind}
 use Rattle.dnsv_lines.specs.Json.{member, parted, quoted}
 use Rattle.dnsv_lines.specs.Salt.{salt_text}
-use Rattle.dnsv_lines.specs.Sentence.{Said, Name, Number, Rrset, Word, Salt, Nothing, SaidField, field_members, field_text, keyed_members, label_text, labelled_text, lower_text}
+use Rattle.dnsv_lines.specs.Sentence.{Said, Name, Number, Rrset, Word, Salt, Nothing, field_members, field_text, keyed_members, label_text, labelled_text, lower_text}
 use Rattle.dnsv_line_laws.proofs.Forms.{AName, ANumber, AnRrset, AWord, ASalt, Kind, Slot, clean, clean_mark, clean_slots, json_marks, json_piece, json_value, keyed, kinds, label_of, laid, mark_of, of_kind, text_marks, text_piece, text_value}
 use Rattle.dnsv_line_laws.proofs.Marks.{Mark, Absent, Bare, Labelled, both_first, both_then, piece, stands, words}
 use Rattle.dnsv_line_laws.proofs.Parting.{Mode, Words, Outside, Passes, is_cut, one_part, split}

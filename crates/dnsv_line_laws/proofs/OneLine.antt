@@ -1,11 +1,11 @@
 -- One text, and one object of JSON, is of lines that say the same.
-use Rattle.std.proofs.Common.{◌≡◌, ℕ, ◌<◌, ◌^◌, ◌&&◌, Bool, true, false, List, [], ◌∷◌, ◌++◌, Option, Some, None, nat_lt, drop, map, arith, codes, refl, sym, ap, subst, ◌∙◌}
+use Rattle.std.proofs.Common.{◌≡◌, ℕ, ◌<◌, ◌^◌, ◌&&◌, true, false, List, [], ◌∷◌, ◌++◌, Option, nat_lt, drop, map, arith, codes, refl, sym, ap, subst, ◌∙◌}
 use Rattle.std.proofs.lemmas.Bool.Decides.{nat_tests}
 use Rattle.std.proofs.lemmas.List.{append_cancel_right}
 use Rattle.std.specs.List.{AllByRecursion, flat_map}
-use Rattle.dnsv_lines.specs.Json.{member, parted, quoted}
+use Rattle.dnsv_lines.specs.Json.{parted}
 use Rattle.dnsv_lines.specs.Sentence.{Said, Name, Number, Rrset, Word, Salt, Nothing, SaidField, SaidSentence, field_members, field_text, json_of_sentence, text_of_sentence}
-use Rattle.dnsv_line_laws.specs.Alike.{AreAlike, AreFieldsAlike, AreOfTheirTypes, IsFieldAlike, IsOfItsType}
+use Rattle.dnsv_line_laws.specs.Alike.{AreAlike, AreFieldsAlike, AreOfTheirTypes, IsOfItsType}
 use Rattle.dnsv_line_laws.proofs.Forms.{ANumber, AWord, Form, Kind, Slot, clean, clean_slots, fits, if_there, is_small, json_fits, json_good, json_fields, json_marks, json_piece, json_slots, json_value, json_words, kinds, laid, of_kind, saids, text_fields, text_fits, text_good, text_marks, text_piece, text_slots, text_value, text_words}
 use Rattle.dnsv_line_laws.proofs.Marks.{Mark, apart, both_first, both_then, same_values, stands, words}
 use Rattle.dnsv_line_laws.proofs.Meaning.{json_alike, text_alike}
@@ -26,9 +26,10 @@ alike_laid value one (slot ∷ slots) (x ∷ xs) (y ∷ ys) p q so too is =
     let of_x : of_kind slot.kind x ≡ true = both_first (of_kind slot.kind x) (kinds slots xs) p in
     let of_y : of_kind slot.kind y ≡ true = both_first (of_kind slot.kind y) (kinds slots ys) q in
     let first : value x ≡ value y = cc in
-    let rest : map value xs ≡ map value ys = cc in
-    (record { label = refl; key = refl; said = text_alike slot.kind x y of_x of_y so.0 too.0 (one slot.kind x y of_x of_y first) },
-    alike_laid value one slots xs ys (both_then (of_kind slot.kind x) (kinds slots xs) p) (both_then (of_kind slot.kind y) (kinds slots ys) q) so.1 too.1 rest)
+    let rest : map value xs ≡ map value ys = cc in (
+      record { label = refl; key = refl; said = text_alike slot.kind x y of_x of_y so.0 too.0 (one slot.kind x y of_x of_y first) },
+      alike_laid value one slots xs ys (both_then (of_kind slot.kind x) (kinds slots xs) p) (both_then (of_kind slot.kind y) (kinds slots ys) q) so.1 too.1 rest,
+    )
 
 -- what is known of the fields of a line, in the text's order or in that of JSON
 record Known (value : Said → Option (List ℕ)) (marks : List Mark) (slots : List Slot) (fields : List SaidField) : Type 0 where
@@ -83,9 +84,10 @@ heads_of_types form s fit =
     let behind_line : kinds (if_there form.error ANumber (codes "ede") ∷ if_there form.word AWord (codes "word") ∷ form.slots) (s.error ∷ s.word ∷ saids s.fields) ≡ true =
     both_then (clean s.line) (kinds (if_there form.error ANumber (codes "ede") ∷ if_there form.word AWord (codes "word") ∷ form.slots) (s.error ∷ s.word ∷ saids s.fields)) kind in
     let behind_error : kinds (if_there form.word AWord (codes "word") ∷ form.slots) (s.word ∷ saids s.fields) ≡ true =
-    both_then (of_kind ANumber s.error) (kinds (if_there form.word AWord (codes "word") ∷ form.slots) (s.word ∷ saids s.fields)) behind_line in
-    (number_type s.error (both_first (of_kind ANumber s.error) (kinds (if_there form.word AWord (codes "word") ∷ form.slots) (s.word ∷ saids s.fields)) behind_line) small,
-    word_type s.word (both_first (of_kind AWord s.word) (kinds form.slots (saids s.fields)) behind_error))
+    both_then (of_kind ANumber s.error) (kinds (if_there form.word AWord (codes "word") ∷ form.slots) (s.word ∷ saids s.fields)) behind_line in (
+      number_type s.error (both_first (of_kind ANumber s.error) (kinds (if_there form.word AWord (codes "word") ∷ form.slots) (s.word ∷ saids s.fields)) behind_line) small,
+      word_type s.word (both_first (of_kind AWord s.word) (kinds form.slots (saids s.fields)) behind_error),
+    )
 
 -- its fields and its words in the text's order
 record InText (form : Form) (s : SaidSentence) : Type 0 where

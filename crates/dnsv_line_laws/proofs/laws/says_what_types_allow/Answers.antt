@@ -1,6 +1,6 @@
 use Rattle.dnsv_lines.specs.Rows.{sentence_of}
 use Rattle.dnsv_line_laws.proofs.Types.{sentence_said}
-use Rattle.dnsv_line_laws.proofs.says_what_types_allow.Goals as goal
+use Rattle.dnsv_line_laws.proofs.laws.says_what_types_allow.Goals as goal
 
 pub returns : goal.returns
 returns c =
