@@ -1,0 +1,13 @@
+mod Digits
+mod Forms
+mod Lines
+mod Marks
+mod Meaning
+mod OneLine
+mod Parting
+mod Passing
+mod Reasons
+mod Rows
+mod Splitting
+mod Tables
+mod Types
