@@ -67,10 +67,13 @@ class Targets(unittest.TestCase):
         self.assertEqual(needing, ["make install PREFIX=$HOME/.local"])
 
     def test_the_guards_build_nothing(self):
-        # The linters are Debian's, so its Python runs them.
-        for target, python in (("check", ""), ("packages", ""), ("lint", "/usr/bin/python3 ")):
+        for target, line in (
+            ("check", "tools/check"),
+            ("packages", "tools/packages"),
+            ("lint", "/usr/bin/python3 tools/lint"),
+        ):
             with self.subTest(target):
-                self.assertEqual(self.make("--dry-run", target), [f"{python}tools/{target}"])
+                self.assertEqual(self.make("--dry-run", target, "PYTHON=/usr/bin/python3"), [line])
 
     def test_the_gate_comes_with_the_guards(self):
         self.assertEqual(self.make("--dry-run", "test"), ["tools/check --gate"])
