@@ -4,6 +4,7 @@ import json
 import os
 import pathlib
 import shutil
+import signal
 import subprocess
 from dataclasses import dataclass
 from typing import Any, Dict, Iterable, List, NamedTuple, Optional
@@ -43,6 +44,14 @@ class Told(NamedTuple):
     said: str
 
 
+class Unlisted(Exception):
+    """LIST failed, by what it says of each question of the capture."""
+
+    def __init__(self, told: Told) -> None:
+        super().__init__(told)
+        self.told = told
+
+
 @dataclass(frozen=True)
 class Program:
     """The program by its path. It's run in a folder, whose files have the names of the options that name them."""
@@ -59,30 +68,52 @@ class Program:
         return Run(done.returncode, done.stdout.decode(), done.stderr.decode("utf-8", "replace"))
 
     def todo(self, folder: str, moment: int) -> List[str]:
-        """The lines that a verifier has to answer at the moment; none where the capture is refused."""
+        """The lines that a verifier has to answer at the moment; none where something is refused, which whatever is
+        asked then says too."""
         done = self.run([LIST, *named(["capture"]), f"--moment={moment}"], folder)
-        return done.output.splitlines() if done.status == 0 else []
+        if done.status == SECURE:
+            return done.output.splitlines()
+        told = told_without_verdict(done, LIST)
+        if told.word != "refused":
+            raise Unlisted(told)
+        return []
 
     def told(self, subcommand: str, folder: str, files: Iterable[str], moment: int, question: Question) -> Told:
         """What CHECK or EXPLAIN says of the question; the folder has these files."""
         name, kind = f"--name={question.name[:NAME_MOST]}", f"--type={question.kind}"
-        return told_by(self.run([subcommand, *named(files), f"--moment={moment}", name, kind, "--json"], folder))
+        done = self.run([subcommand, *named(files), f"--moment={moment}", name, kind, "--json"], folder)
+        return told_by(done, subcommand)
 
 
 def named(files: Iterable[str]) -> List[str]:
     return [f"--{name}={name}" for name in files]
 
 
-def told_by(done: Run) -> Told:
+def told_by(done: Run, subcommand: str) -> Told:
     """What a run with `--json` says."""
     if done.status in VERDICTS and done.output:
         value = json.loads(done.output)
         return Told(done.status, value["verdict"], value, "")
-    first = (done.errors.splitlines() or [f"status {done.status}"])[0]
+    return told_without_verdict(done, subcommand)
+
+
+def told_without_verdict(done: Run, subcommand: str) -> Told:
+    """What a run says that has no verdict: its line of what is refused or failed, or else how it ended."""
+    first = (done.errors.splitlines() or [f"{NAME} {subcommand} {ending(done.status)}"])[0]
     word, _, rest = first.partition(" ")
     if word in ("refused", "fault") and done.status in (REFUSED, FAILED):
         return Told(done.status, word, None, rest)
     return Told(FAILED, "fault", None, f"- {first}")
+
+
+def ending(status: int) -> str:
+    """How a process ended, by its status, which is below 0 where a signal ended it."""
+    if status >= 0:
+        return f"ended with status {status}"
+    try:
+        return f"was ended by {signal.Signals(-status).name}"
+    except ValueError:  # a signal without a name
+        return f"was ended by signal {-status}"
 
 
 def program_of(given: Optional[str], tool: str) -> Program:

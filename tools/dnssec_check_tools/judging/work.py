@@ -4,7 +4,7 @@ import tempfile
 from typing import Dict, Iterable, List, NamedTuple, Optional, Tuple
 
 from ..asking.questions import Question
-from ..program import EXPLAIN, Json, Program, Told
+from ..program import EXPLAIN, Json, Program, Told, Unlisted
 from ..verifying.entries import Lacking, Refusal, entry_of, statement_of
 
 from .evidence import Evidence
@@ -63,9 +63,13 @@ def judged(octets: bytes, questions: List[Question], common: Common, program: Pr
         given = {"capture": octets, "keys": common.keys, "macs": common.macs}
         files = {name: content for name, content in given.items() if content is not None}
         write_files(folder, files)
-        todo = dict.fromkeys(line for moment in common.moments for line in program.todo(folder, moment))
+        view = View(octets)
+        try:
+            todo = dict.fromkeys(line for moment in common.moments for line in program.todo(folder, moment))
+        except Unlisted as fault:
+            return view.same(fault.told, questions, common.moments)
         statements, notes = statements_of(todo)
-        files["statements"], view = "".join(statements).encode(), View(octets)
+        files["statements"] = "".join(statements).encode()
         rows: List[Row] = []
         write_files(folder, {"statements": files["statements"]})
         for moment in common.moments:
@@ -99,6 +103,10 @@ class View:
         evidence = {"aliases": [self.of_alias(each) for each in aliases]} if aliases else {}
         evidence.update(self.evidence_of(told.value))
         return Row(moment, question, told.status, told.word, evidence, told.value)
+
+    def same(self, told: Told, questions: List[Question], moments: List[int]) -> Judged:
+        """The rows where the same is said of each question."""
+        return Judged([self.row(moment, question, told) for moment in moments for question in questions], [])
 
     def evidence_of(self, value: Json) -> Json:
         """What carries the verdict, besides the aliases."""
