@@ -33,6 +33,7 @@ wrong, and nothing was judged; 130, it was interrupted.
 import argparse
 import os
 import sys
+from contextlib import closing
 from typing import Any, Dict, Iterable, Iterator, List, Optional, Tuple
 
 from .asking.anchors import ROOT, anchors_of
@@ -46,7 +47,7 @@ from .judging.cluster import by_workers
 from .judging.page import Page
 from .judging.progress import progress
 from .judging.records import lines_of
-from .judging.spread import Task, in_processes, of_unread, one_by_one
+from .judging.spread import Results, Task, in_processes, of_unread
 from .judging.text import Lines, json_line, tsv_head, tsv_line
 from .judging.work import Common, Judged, Row
 from .program import FAILED, FROM_BEST, NAME, REFUSED, WRONG, program_of
@@ -182,13 +183,11 @@ def paths_of(options: argparse.Namespace) -> Dict[str, str]:
     return {name: path for name, path in paths.items() if path}
 
 
-def results_of(
-    tasks: Iterable[Task], common: Common, options: argparse.Namespace, count: int
-) -> Iterator[Tuple[int, Judged]]:
+def results_of(tasks: Iterable[Task], common: Common, options: argparse.Namespace, count: int) -> Results:
     if options.scheduler:
         return by_workers(tasks, common, once(options.scheduler))
     program, jobs = program_of(once(options.program), sys.argv[0]), min(options.jobs or processors(), count)
-    return in_processes(tasks, common, program, jobs) if jobs > 1 else one_by_one(tasks, common, program)
+    return in_processes(tasks, common, program, jobs)
 
 
 def judge(options: argparse.Namespace) -> int:
@@ -204,8 +203,9 @@ def judge(options: argparse.Namespace) -> int:
     report = Report(options, asked, common, page)
     if options.tsv:
         write("-", (tsv_head() + "\n").encode())
-    with progress(len(asked)) as advance:
-        for number, found in results_of(readable(tasks_of(asked, page), report, common), common, options, len(asked)):
+    tasks = readable(tasks_of(asked, page), report, common)
+    with progress(len(asked)) as advance, closing(results_of(tasks, common, options, len(asked))) as results:
+        for number, found in results:
             report.take(number, found)
             advance()
     if page:

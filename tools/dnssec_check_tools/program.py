@@ -7,7 +7,7 @@ import shutil
 import signal
 import subprocess
 from dataclasses import dataclass
-from typing import Any, Dict, Iterable, List, NamedTuple, Optional
+from typing import Any, Dict, Iterable, List, NamedTuple, Optional, Sequence
 
 from .asking.faults import Failure
 from .asking.questions import Question
@@ -22,6 +22,8 @@ SECURE, INSECURE, PENDING, BOGUS, INDETERMINATE, REFUSED, FAILED, WRONG = 0, 3, 
 VERDICTS = (SECURE, INSECURE, PENDING, BOGUS, INDETERMINATE)
 FROM_BEST = (*VERDICTS, REFUSED, FAILED)
 LIST, CHECK, EXPLAIN = "list", "check", "explain"
+
+OPEN = "/proc/self/fd"  # where a process finds the files that it has open
 
 Json = Dict[str, Any]
 
@@ -45,11 +47,11 @@ class Told(NamedTuple):
 
 
 class Unlisted(Exception):
-    """LIST failed, by what it says of each question of the capture."""
+    """LIST failed; `said` is the words behind `fault`."""
 
-    def __init__(self, told: Told) -> None:
-        super().__init__(told)
-        self.told = told
+    def __init__(self, said: str) -> None:
+        super().__init__(said)
+        self.said = said
 
 
 @dataclass(frozen=True)
@@ -58,10 +60,16 @@ class Program:
 
     path: str
 
-    def run(self, words: List[str], folder: str) -> Run:
+    def run(self, words: List[str], folder: str, kept: Sequence[int] = ()) -> Run:
+        """A run to which the files that are open under these numbers are kept open."""
         try:
             done = subprocess.run(
-                [self.path, *words], cwd=folder, stdin=subprocess.DEVNULL, capture_output=True, check=False
+                [self.path, *words],
+                cwd=folder,
+                stdin=subprocess.DEVNULL,
+                capture_output=True,
+                check=False,
+                pass_fds=kept,
             )
         except OSError as fault:
             raise Failure(f"{self.path}: {fault.strerror}") from fault
@@ -75,13 +83,24 @@ class Program:
             return done.output.splitlines()
         told = told_without_verdict(done, LIST)
         if told.word != "refused":
-            raise Unlisted(told)
+            raise Unlisted(told.said)
         return []
 
-    def told(self, subcommand: str, folder: str, files: Iterable[str], moment: int, question: Question) -> Told:
-        """What CHECK or EXPLAIN says of the question; the folder has these files."""
+    def told(
+        self,
+        subcommand: str,
+        folder: str,
+        files: Iterable[str],
+        moment: int,
+        question: Question,
+        keys: Optional[int] = None,
+    ) -> Told:
+        """What CHECK or EXPLAIN says of the question; the folder has these files, and the keys of TSIG are open under
+        a number, where there are some."""
         name, kind = f"--name={question.name[:NAME_MOST]}", f"--type={question.kind}"
-        done = self.run([subcommand, *named(files), f"--moment={moment}", name, kind, "--json"], folder)
+        kept = [] if keys is None else [keys]
+        paths = [*named(files), *(f"--keys={OPEN}/{number}" for number in kept)]
+        done = self.run([subcommand, *paths, f"--moment={moment}", name, kind, "--json"], folder, kept)
         return told_by(done, subcommand)
 
 

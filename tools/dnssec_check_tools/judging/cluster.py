@@ -5,13 +5,13 @@ import shutil
 import tempfile
 import uuid
 import zipfile
-from typing import Any, Callable, Dict, Iterable, Iterator, List, Optional, Tuple, Type
+from typing import Any, Callable, Dict, Iterable, List, Optional, Tuple, Type
 
 from ..asking.faults import Failure, lacking
 from ..asking.questions import Question
 from ..program import NAME, PACKAGE, Program
 
-from .spread import Result, Task
+from .spread import Result, Results, Task
 from .work import Common, Judged, judged
 
 MODULES = f"{PACKAGE.name}.zip"
@@ -82,7 +82,7 @@ class Run:
             raise Failure(f"a worker failed: {type(fault).__name__}: {fault}") from fault
 
 
-def by_workers(tasks: Iterable[Task], common: Common, address: str) -> Iterator[Result]:
+def by_workers(tasks: Iterable[Task], common: Common, address: str) -> Results:
     """Each capture's number with its verdicts, as they are done."""
     dask = library()
     with client_of(dask, address) as client:

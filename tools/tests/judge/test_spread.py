@@ -1,12 +1,12 @@
 """Tests of tools/judging where the program fails, or a process that judges is ended: one capture's fault is no other's."""
 import os
 import shutil
-import signal
 import unittest
-from concurrent.futures import Future
 from unittest import mock
 
+from dnssec_check_tools.asking.questions import Question
 from dnssec_check_tools.judging import spread
+from dnssec_check_tools.judging.work import Common, Row
 
 from .helper import Judging, capture_of, needs_dns
 
@@ -46,27 +46,51 @@ class Listing(Judging):
         self.assertEqual((status, [line.split("\t")[5] for line in lines[1:]]), (1, ["SecureAnswer", "fault", "SecureAnswer"]))
 
 
-class Pool:
-    """One that is interrupted while it takes a task."""
+@needs_dns
+class Processes(Judging):
+    """Where a process that judges is ended, here by the program that it runs."""
 
-    def __init__(self):
-        self.done = []
+    def setUp(self):
+        super().setUp()
+        (self.room / "captures").mkdir()
+        for number in range(6):
+            shutil.copy(WWW, self.room / "captures" / f"{number}.cap")
+        with open(self.room / "captures" / "3.cap", "ab") as file:
+            file.write(WWW.read_bytes())
+        self.is_marked = f"[ $(stat -c %s capture) = {2 * WWW.stat().st_size} ]"
 
-    def submit(self, *_):
-        os.kill(os.getpid(), signal.SIGINT)
-        self.done.append("submitted")
-        return Future()
+    def rows(self, script):
+        """The status and what each capture's row has, and that no folder is left."""
+        (self.room / "temporary").mkdir()
+        self.program = self.stand_in(script)
+        with mock.patch.dict(os.environ, TMPDIR=str(self.room / "temporary")):
+            status, lines, errors = self.noon("--tsv", "--jobs", "2", self.room / "captures", "www.bind.test/A")
+        self.assertEqual((errors, list((self.room / "temporary").iterdir())), ("", []))
+        return status, [line.split("\t")[5:7] for line in lines[1:]]
 
-    def shutdown(self, **_):
-        self.done.append("shut down")
+    def test_a_capture_by_which_two_are_ended_is_named(self):
+        status, rows = self.rows(f"{self.is_marked} && kill -KILL $PPID")
+        self.assertEqual((status, [word for word, _ in rows]), (1, ["SecureAnswer"] * 3 + ["fault"] + ["SecureAnswer"] * 2))
+        self.assertEqual(rows[3][1], "said the process that judged it was ended by SIGKILL, the second that was lost by it")
+
+    def test_a_capture_by_which_one_is_ended_is_judged_by_another(self):
+        status, rows = self.rows(f"{self.is_marked} && mkdir {self.room}/once && kill -KILL $PPID")
+        self.assertEqual((status, [word for word, _ in rows]), (0, ["SecureAnswer"] * 6))
+        self.assertTrue((self.room / "once").exists())
+
+    def test_what_python_meets_is_told_too(self):
+        status, rows = self.rows(f"{self.is_marked} && [ $1 = explain ] && {{ echo no object; exit 5; }}")
+        self.assertEqual((status, [word for word, _ in rows].count("fault"), rows[3][0]), (1, 1, "fault"))
+        self.assertIn("JSONDecodeError", rows[3][1])
 
 
-class Interrupts(unittest.TestCase):
-    def test_an_interrupt_waits_until_a_task_is_taken(self):
-        pool = Pool()
-        with mock.patch.object(spread, "ProcessPoolExecutor", lambda *_, **__: pool), self.assertRaises(KeyboardInterrupt):
-            list(spread.in_processes([spread.Task(0, b"", None, [])], None, "program", 2))
-        self.assertEqual(pool.done, ["submitted", "shut down"])
+class Memory(unittest.TestCase):
+    def test_memory_that_runs_out_is_the_fault_of_its_capture(self):
+        question = Question("a.", 1)
+        common = Common({7: b""}, None, None, [7])
+        with mock.patch.object(spread, "judged", side_effect=MemoryError):
+            found = spread.answer(common, None, spread.Task(0, b"", None, [question]))
+        self.assertEqual(found.rows, [Row(7, question, 1, "fault", {"number": 90}, None)])
 
 
 if __name__ == "__main__":
