@@ -5,6 +5,8 @@ import signal
 import sys
 from typing import Any, Callable, List, NoReturn
 
+from .outputs import write_whole
+
 VERSION = "0.9"  # of the tools, and of the Debian package
 BY_SIGNAL = 128  # the status of a tool that a signal ends is so much more than the signal's number, as for shells
 ENDING = {signal.SIGINT: "interrupted", signal.SIGTERM: "terminated", signal.SIGHUP: "hung up"}
@@ -86,8 +88,7 @@ def read(path: str) -> bytes:
 def write(path: str, octets: bytes) -> None:
     """Writes it now, so that a fault is met here; what couldn't be written isn't tried again at the end."""
     if path != "-":
-        with open(path, "wb") as file:
-            file.write(octets)
+        write_whole(path, octets)
         return
     if sys.stdout is None:
         raise OSError("the standard output is closed")

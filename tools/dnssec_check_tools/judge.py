@@ -39,7 +39,7 @@ from typing import Any, Dict, Iterable, Iterator, List, Optional, Tuple
 from .asking.anchors import ROOT, anchors_of
 from .asking.captures import all_of, captures_of, octets_of, told_apart
 from .asking.faults import Failure, Refusal, WrongLine, escaped
-from .asking.questions import Question
+from .asking.questions import LIST, Question
 from .asking.kinds import table
 from .asking.moments import seconds_of
 from .command import parser_of, read, run, tell, write
@@ -50,6 +50,7 @@ from .judging.records import lines_of
 from .judging.spread import Results, Task, in_processes, of_unread
 from .judging.text import Lines, json_line, tsv_head, tsv_line
 from .judging.work import Common, Judged, Row
+from .outputs import is_same_output, overwritten
 from .program import FAILED, FROM_BEST, NAME, REFUSED, WRONG, program_of
 
 INPUTS = ("anchors", "keys", "macs", "questions")  # the options that name a file to read
@@ -213,6 +214,25 @@ def judge(options: argparse.Namespace) -> int:
     return report.worst
 
 
+def inputs_of(options: argparse.Namespace) -> List[str]:
+    """The files that are read, and the program."""
+    words, questions = told_apart(options.words)
+    paths = [each.path for each in captures_of(words)]
+    lists = [] if questions or options.questions else {os.path.join(os.path.dirname(path), LIST) for path in paths}
+    named = [path for name in (*INPUTS, "program") for path in getattr(options, name) or ()]
+    return [*paths, *lists, *named, *([] if options.anchors else [ROOT])]
+
+
+def refuse_overwriting(options: argparse.Namespace) -> None:
+    """Refuses what is read and would be written, or would be written twice, before anything is read."""
+    pages = options.html or []
+    clash = overwritten(["-", *pages], inputs_of(options))
+    if clash:
+        raise WrongLine(escaped(clash))
+    if any(page != "-" and is_same_output(page, "-") for page in pages):
+        raise WrongLine(f"--html and the standard output would both be {escaped(pages[0])}")
+
+
 def print_records(options: argparse.Namespace) -> int:
     paths, questions = told_apart(options.words)
     if not paths or questions:
@@ -239,6 +259,7 @@ def main(words: List[str]) -> int:
     if fault:
         parser.error(fault)
     try:
+        refuse_overwriting(options)
         return print_records(options) if options.records else judge(options)
     except WrongLine as fault:
         parser.error(str(fault))

@@ -27,6 +27,7 @@ command line is wrong; 130, it was interrupted, and nothing was written.
 """
 from typing import Iterator, List
 from .command import parser_of, read, run, shown, tell, write
+from .outputs import overwritten
 from .verifying.entries import Entry, Lacking, Refusal, entry_of, statement_of
 
 
@@ -59,6 +60,9 @@ def main(words: List[str]) -> int:
     )
     parser.add_argument("--from-check", action="store_true", help="pass over lines whose first word isn't `todo`")
     options = parser.parse_args(words)
+    clash = overwritten(["-"], options.files)
+    if clash:
+        parser.error(shown(clash))
     try:
         entries = [entry for path in options.files for entry in entries_of(path, options.from_check)]
         statements = list(statements_of(entries))
