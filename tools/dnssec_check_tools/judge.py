@@ -43,7 +43,7 @@ from .asking.questions import LIST, Question
 from .asking.kinds import table
 from .asking.moments import seconds_of
 from .command import parser_of, read, run, tell, write
-from .judging.cluster import by_workers
+from .judging.cluster import WAIT_SECONDS, by_workers
 from .judging.page import Page
 from .judging.progress import progress
 from .judging.records import lines_of
@@ -63,7 +63,7 @@ def processors() -> int:
     return len(os.sched_getaffinity(0)) if hasattr(os, "sched_getaffinity") else os.cpu_count() or 1
 
 
-def number_of_jobs(text: str) -> int:
+def whole_number(text: str) -> int:
     if text.isascii() and text.isdigit() and 0 < int(text) < 10000:
         return int(text)
     raise ValueError
@@ -103,8 +103,14 @@ def command_line() -> argparse.ArgumentParser:
         help="write a page with the sentences, a picture of each chain, and the records; needs Graphviz",
     )
     parser.add_argument("--records", action="store_true", help="print the records of the captures, with their numbers")
-    parser.add_argument("--jobs", type=number_of_jobs, metavar="N", help="captures at once; else as many as processors")
+    parser.add_argument("--jobs", type=whole_number, metavar="N", help="captures at once; else as many as processors")
     parser.add_argument("--scheduler", action="append", metavar="ADDRESS", help="the address of a Dask scheduler")
+    parser.add_argument(
+        "--wait",
+        type=whole_number,
+        metavar="SECONDS",
+        help=f"how long to wait for a scheduler, and for a worker of it; {WAIT_SECONDS} where it isn't given",
+    )
     parser.add_argument("--program", action="append", metavar="FILE", help=f"where {NAME} is, if not on the path")
     return parser
 
@@ -123,6 +129,8 @@ def fault_of(options: argparse.Namespace) -> Optional[str]:
         return "--macs needs --keys: without keys no MAC is checked"
     if options.scheduler and (options.program or options.jobs):
         return "--scheduler goes without --program and --jobs: its workers have their own"
+    if options.wait and not options.scheduler:
+        return "--wait goes with --scheduler"
     return None
 
 
@@ -186,7 +194,7 @@ def paths_of(options: argparse.Namespace) -> Dict[str, str]:
 
 def results_of(tasks: Iterable[Task], common: Common, options: argparse.Namespace, count: int) -> Results:
     if options.scheduler:
-        return by_workers(tasks, common, once(options.scheduler))
+        return by_workers(tasks, common, once(options.scheduler), options.wait or WAIT_SECONDS)
     program, jobs = program_of(once(options.program), sys.argv[0]), min(options.jobs or processors(), count)
     return in_processes(tasks, common, program, jobs)
 

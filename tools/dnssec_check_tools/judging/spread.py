@@ -13,6 +13,7 @@ MEMORY_OUT, OPEN_FAILED, READ_FAILED = 90, 811, 210
 
 Result = Tuple[int, Judged]  # by the number of the capture
 Results = Generator[Result, None, None]
+Answer = Union[Judged, Failure]
 
 
 class Task(NamedTuple):
@@ -36,7 +37,7 @@ def is_of_read(fault: OSError) -> bool:
     return isinstance(fault, IsADirectoryError) or (fault.errno is not None and fault.filename is None)
 
 
-def answer(common: Common, program: Program, task: Task) -> Union[Judged, Failure]:
+def answer(common: Common, program: Program, task: Task) -> Answer:
     """The verdicts, or what ends all. A fault that a capture leads to, of whatever kind, is no other capture's."""
     try:
         return judged(task.octets, task.questions, common, program)
@@ -46,6 +47,12 @@ def answer(common: Common, program: Program, task: Task) -> Union[Judged, Failur
         return without_verdicts(task.questions, common, {"number": MEMORY_OUT})
     except Exception as fault:  # pylint: disable=broad-exception-caught
         return without_verdicts(task.questions, common, {"said": f"{type(fault).__name__}: {fault}"})
+
+
+def answer_of(found: Answer) -> Judged:
+    if isinstance(found, Failure):
+        raise found
+    return found
 
 
 def in_processes(tasks: Iterable[Task], common: Common, program: Program, jobs: int) -> Results:
@@ -63,10 +70,8 @@ def in_processes(tasks: Iterable[Task], common: Common, program: Program, jobs: 
 def done_of(workers: Workers, lost: Set[int], common: Common) -> Iterator[Result]:
     """Those that are done. A capture by which a process is lost is given to another one, once."""
     for task, found in workers.done():
-        if isinstance(found, Failure):
-            raise found
         if not isinstance(found, Lost):
-            yield task.number, found
+            yield task.number, answer_of(found)
         elif task.number in lost:
             yield task.number, of_lost(task, common, found.how)
         else:
