@@ -36,7 +36,8 @@ before `.cap`, and the name and type of the question.
 exit status: 0, the files were written; 1, something was refused, which the standard error names, and nothing was
 written: a 65th message without --split, a stream that ends within a message or has one of length 0, a line that isn't
 hex, a file that can't be read, a MAC that isn't one of 32 octets, or that no answer was left; or writing failed; 2, the
-command line is wrong.
+command line is wrong, or an output is a file that is read; 130, 143, 129, it was interrupted, or ended by SIGTERM or
+SIGHUP.
 """
 import argparse
 import itertools

@@ -19,7 +19,8 @@ until, reason, ede; --jsonl has the same values by these names. The verdict is t
 
 With --scheduler, captures go as octets to the workers of a Dask scheduler. A worker needs Python with the packages
 distributed and cryptography, and `dnssec_check` on its own path; the tools' modules are sent to it. Captures of a
-worker that is lost are judged by others.
+worker that is lost are judged by others; one by which two are lost, as by which two processes are on this machine, has
+a row that says so. Keys of TSIG go to the scheduler's machine and the workers'.
 
 Types by mnemonic, zone files of anchors and --records need the package dnspython (Debian: python3-dnspython),
 signatures on curves cryptography (python3-cryptography), --scheduler distributed (python3-distributed), and the bar of
@@ -28,7 +29,8 @@ Graphviz (graphviz).
 
 exit status: that of the worst verdict, as `dnssec_check check` has it. From the best to the worst: 0, secure; 3,
 Insecure; 4, Pending; 5, Bogus; 6, Indeterminate; 7, an input is refused; 1, the machine failed. 2, the command line is
-wrong, and nothing was judged; 130, it was interrupted.
+wrong, or an output is a file that is read, and nothing was judged; 130, 143, 129, it was interrupted, or ended by
+SIGTERM or SIGHUP.
 """
 import argparse
 import os

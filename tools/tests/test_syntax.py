@@ -13,9 +13,10 @@ PARTS = {
     "pages": {"dnssec_check_tools"},
     "faults": {"dnssec_check_tools", "failing"},
     "failing": {"dnssec_check_tools", "messages", "zones"},  # the last two of rows
-    "dnssec_check_tools/verify.py": {"command", "verifying"},
-    "dnssec_check_tools/capture.py": {"command", "capturing"},
-    "dnssec_check_tools/judge.py": {"command", "asking", "judging", "program"},
+    "dnssec_check_tools/verify.py": {"command", "outputs", "verifying"},
+    "dnssec_check_tools/capture.py": {"command", "capturing", "outputs"},
+    "dnssec_check_tools/judge.py": {"command", "asking", "judging", "outputs", "program"},
+    "dnssec_check_tools/command.py": {"outputs"},
     "dnssec_check_tools/program.py": {"asking"},
     "dnssec_check_tools/verifying/curves.py": {"cryptography"},
     "dnssec_check_tools/capturing": {"command"},
@@ -25,6 +26,7 @@ PARTS = {
     "dnssec_check_tools/wire.py": {"dns"},
     "dnssec_check_tools/judging": {"asking", "capturing", "explaining", "program", "verifying", "dns"},
     "dnssec_check_tools/judging/cluster.py": {"asking", "distributed", "program"},
+    "dnssec_check_tools/judging/workers.py": {"command", "program"},
     "dnssec_check_tools/judging/progress.py": {"rich"},
 }
 

@@ -29,7 +29,6 @@ def library() -> Any:
         import distributed
     except ImportError as fault:
         raise lacking("distributed", "--scheduler", fault) from fault
-    logging.disable()  # what comes of a fault is told in a line
     return distributed
 
 
@@ -44,11 +43,12 @@ def modules() -> bytes:
 
 
 def at_worker(octets: bytes, questions: List[Question], common: Common) -> Answer:
-    """The verdicts on a capture, by the program on the worker's own path."""
+    """The verdicts on a capture, by the program on the worker's own path. Dask clears the folder of a worker that is
+    lost."""
     path = shutil.which(NAME)
     if path is None:
         return Failure(f"{NAME} isn't on the path of a worker")
-    return answer(common, Program(path), Task(0, octets, None, questions))
+    return answer(common, Program(path), Task(0, octets, None, questions), library().get_worker().local_directory)
 
 
 def send_modules(client: Any) -> None:
@@ -62,6 +62,7 @@ def send_modules(client: Any) -> None:
 def by_workers(tasks: Iterable[Task], common: Common, address: str, wait: int) -> Results:
     """Each capture's number with its verdicts, as they are done."""
     dask = library()
+    logging.disable()  # of this process: what comes of a fault is told in a line
     with client_of(dask, address, wait) as client:
         handed = HandedOut(dask, client, at_worker, common)
         watch = Watch(client, handed, address, wait)

@@ -37,10 +37,10 @@ def is_of_read(fault: OSError) -> bool:
     return isinstance(fault, IsADirectoryError) or (fault.errno is not None and fault.filename is None)
 
 
-def answer(common: Common, program: Program, task: Task) -> Answer:
+def answer(common: Common, program: Program, task: Task, place: Optional[str] = None) -> Answer:
     """The verdicts, or what ends all. A fault that a capture leads to, of whatever kind, is no other capture's."""
     try:
-        return judged(task.octets, task.questions, common, program)
+        return judged(task.octets, task.questions, common, program, place)
     except Failure as fault:
         return fault
     except MemoryError:

@@ -70,9 +70,11 @@ def statements_of(lines: Iterable[str]) -> Tuple[List[str], List[str]]:
     return statements, [f"{count} signatures aren't verified: {why}" for why, count in notes.items()]
 
 
-def judged(octets: bytes, questions: List[Question], common: Common, program: Program) -> Judged:
-    """The verdicts on the questions, by moment."""
-    with tempfile.TemporaryDirectory(prefix="dnssec_check-") as folder, in_memory(common.keys) as keys:
+def judged(
+    octets: bytes, questions: List[Question], common: Common, program: Program, place: Optional[str] = None
+) -> Judged:
+    """The verdicts on the questions, by moment. What is written for a time is at the place, where one is told."""
+    with tempfile.TemporaryDirectory(prefix="dnssec_check-", dir=place) as folder, in_memory(common.keys) as keys:
         given = {"capture": octets, "macs": common.macs}
         files = {name: content for name, content in given.items() if content is not None}
         write_files(folder, files)

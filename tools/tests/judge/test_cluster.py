@@ -39,7 +39,7 @@ def wait_for_port(port):
 @needs("distributed", "distributed")
 class Cluster(Judging):
     def start(self, name, *words):
-        environment = {**os.environ, "PATH": f"{self.room}/path:{os.environ['PATH']}"}
+        environment = {**os.environ, "PATH": f"{self.room}/path:{os.environ['PATH']}", "TMPDIR": f"{self.room}/temporary"}
         process = subprocess.Popen([sys.executable, "-c", START.format(name), *words], cwd=self.room, env=environment,
                                    stdout=subprocess.DEVNULL, stderr=subprocess.DEVNULL)
         self.addCleanup(process.wait)
@@ -48,7 +48,7 @@ class Cluster(Judging):
 
     def setUp(self):
         super().setUp()
-        for name in ("path", "captures"):
+        for name in ("path", "captures", "temporary"):
             (self.room / name).mkdir()
         self.at_workers(self.program)
         port = free_port()
@@ -110,6 +110,7 @@ class Cluster(Judging):
                          (1, ["SecureAnswer"] * 3 + ["fault"] + ["SecureAnswer"] * 8), errors)
         self.assertEqual(rows[3][1], "said the process that judged it was lost with its worker, the second that was lost by it")
         self.assertEqual([worker.poll() for worker in workers].count(-signal.SIGKILL), 2)
+        self.assertEqual(list((self.room / "temporary").glob("dnssec_check-*")), [])
 
     def test_no_scheduler(self):
         words = ("--scheduler", "tcp://127.0.0.1:1", "--wait", "1", "--at", NOON, "--anchors", ANCHORS, WWW, "www.bind.test/A")
