@@ -86,7 +86,7 @@ class Watch:
     def look(self) -> Iterator[Result]:
         if time.monotonic() < self.next:
             return
-        if self.client.status != RUNNING:
+        if self.client.status != RUNNING or self.handed.is_cut_off:
             self.wait_for_scheduler()
         with contextlib.suppress(OSError):  # the scheduler's, whose end the client will have met next time
             yield from self.handed.look()
@@ -103,6 +103,7 @@ class Watch:
             if time.monotonic() > last:
                 raise Failure(f"the scheduler at {self.address} was lost, and none answered for {self.wait} seconds")
             time.sleep(LOOK_SECONDS)
+        self.handed.take_back()
         send_modules(self.client)
         self.last = time.monotonic()
 

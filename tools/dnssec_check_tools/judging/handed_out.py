@@ -35,6 +35,7 @@ class HandedOut:
         self.lost: Set[int] = set()  # those by which a worker may have been lost
         self.threads: Dict[str, int] = {}
         self.finished: "queue.Queue[Any]" = queue.Queue()
+        self.is_cut_off = False  # from a scheduler that was lost
 
     def is_over(self) -> bool:
         return not self.handed and not self.again
@@ -87,7 +88,8 @@ class HandedOut:
         task, future, _ = handed
         try:
             found = answer_of(future.result(timeout=GATHER_SECONDS))
-        except self.dask.CancelledError:  # the scheduler is lost
+        except self.dask.CancelledError:
+            self.is_cut_off = True
             self.once_more(task)
         except self.dask.KilledWorker:
             yield from self.lose(handed)
@@ -107,10 +109,17 @@ class HandedOut:
         """Takes back what workers had that aren't there any more."""
         self.threads = self.client.nthreads()
         for key, handed in list(self.handed.items()):
-            if handed.worker not in self.threads:
+            if handed.worker not in self.threads and handed.future.status != "cancelled":
                 del self.handed[key]
                 handed.future.cancel()
                 yield from self.lose(handed)
+
+    def take_back(self) -> None:
+        """Takes back all of them, from a scheduler that was lost; that's no capture's fault."""
+        for handed in self.handed.values():
+            self.once_more(handed.task)
+        self.handed.clear()
+        self.is_cut_off = False
 
     def lose(self, handed: Handed) -> Iterator[Result]:
         task = handed.task

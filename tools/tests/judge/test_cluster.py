@@ -51,11 +51,15 @@ class Cluster(Judging):
         for name in ("path", "captures", "temporary"):
             (self.room / name).mkdir()
         self.at_workers(self.program)
-        port = free_port()
-        self.address = f"tcp://127.0.0.1:{port}"
-        self.scheduler = self.start("scheduler", "--host", self.address, "--no-dashboard")
-        wait_for_port(port)
+        self.port = free_port()
+        self.address = f"tcp://127.0.0.1:{self.port}"
+        self.scheduler = self.start_scheduler()
         self.words = ["--at", NOON, "--anchors", ANCHORS, "--tsv", self.room / "captures", "www.bind.test/A"]
+
+    def start_scheduler(self):
+        scheduler = self.start("scheduler", "--host", self.address, "--no-dashboard")
+        wait_for_port(self.port)
+        return scheduler
 
     def at_workers(self, program):
         path = self.room / "path" / "dnssec_check"
@@ -145,6 +149,16 @@ class Cluster(Judging):
         judge = self.begin_and_wait("--wait", "30")
         self.scheduler.kill()
         self.fails(judge, f"the scheduler at {self.address} was lost, and none answered for 30 seconds")
+
+    def test_another_scheduler_in_its_place(self):
+        judge = self.begin_and_wait("--wait", "300")
+        self.scheduler.kill()
+        self.scheduler.wait()
+        self.at_workers(self.program)
+        self.start_scheduler()
+        self.worker()
+        output, errors = judge.communicate(timeout=LIMIT)
+        self.assertEqual((judge.returncode, output.count(b"\tSecureAnswer\t"), errors), (0, 4, b""))
 
     def test_signals(self):
         judge = self.begin_and_wait()
