@@ -36,11 +36,11 @@ before `.cap`, and the name and type of the question.
 exit status: 0, the files were written; 1, something was refused, which the standard error names, and nothing was
 written: a 65th message without --split, a stream that ends within a message or has one of length 0, a line that isn't
 hex, a file that can't be read, a MAC that isn't one of 32 octets, or that no answer was left; or writing failed; 2, the
-command line is wrong.
+command line is wrong, or an output is a file that is read; 130, 143, 129, it was interrupted, or ended by SIGTERM or
+SIGHUP.
 """
 import argparse
 import itertools
-import os
 from typing import Any, Dict, Iterable, Iterator, List, Optional, Tuple
 
 from .capturing.entries import Entry, Message, Omission, PassedOver, Place, Refusal
@@ -51,6 +51,7 @@ from .capturing.requests import Requests
 from .capturing.sources import entries_of
 from .capturing.splitting import write_captures
 from .command import parser_of, run, shown, tell, write
+from .outputs import is_same_output, overwritten
 
 MESSAGES_MOST = 64
 MAC_SIZE = 32
@@ -177,16 +178,6 @@ def command_line() -> argparse.ArgumentParser:
     return parser
 
 
-def is_same_file(path: str, other: str) -> bool:
-    """Whether both names are those of one file; a device may be read and written."""
-    if "-" in (path, other):
-        return path == other
-    try:
-        return os.path.samefile(path, other) and os.path.isfile(path)
-    except OSError:
-        return os.path.realpath(path) == os.path.realpath(other)
-
-
 def output_of(options: argparse.Namespace) -> str:
     return "-" if options.output is None else options.output
 
@@ -200,13 +191,10 @@ def fault_of(options: argparse.Namespace) -> Optional[str]:
         return "the standard input is named twice"
     if options.split is not None and (options.output, options.macs) != (None, None):
         return "--split writes into its folder, and goes without --output and --macs"
-    if options.macs is not None and is_same_file(options.macs, output):
+    if options.macs is not None and is_same_output(options.macs, output):
         return f"--macs and --output would both be {'the standard output' if output == '-' else shown(output)}"
-    for written in (output, options.macs):
-        for path in paths:
-            if written not in (None, "-") and path != "-" and is_same_file(written, path):
-                return f"{shown(written)} is read, and would be written"
-    return None
+    clash = overwritten([output] if options.macs is None else [output, options.macs], paths)
+    return clash and shown(clash)
 
 
 def make(options: argparse.Namespace) -> str:

@@ -1,24 +1,44 @@
 """The command line of a tool, the files that it names, and how it ends; `-` is the standard input or output."""
 import argparse
 import os
+import signal
 import sys
 from typing import Any, Callable, List, NoReturn
 
+from .outputs import write_whole
+
 VERSION = "0.10.0"  # of the tools and of the Debian package, and the one that the program tells
-INTERRUPTED = 130
+BY_SIGNAL = 128  # the status of a tool that a signal ends is so much more than the signal's number, as for shells
+ENDING = {signal.SIGINT: "interrupted", signal.SIGTERM: "terminated", signal.SIGHUP: "hung up"}
+
+
+class Ended(KeyboardInterrupt):
+    """A signal ends the tool; what is open is closed, and what is for a time goes."""
+
+    def __init__(self, number: int) -> None:
+        super().__init__(number)
+        self.number = signal.Signals(number)
+
+
+def end(number: int, _: Any) -> NoReturn:
+    raise Ended(number)
 
 
 def run(main: Callable[[List[str]], int]) -> NoReturn:
-    """Ends with the status of `main`; an interrupt, or a fault of a file that `main` lets through, has one line."""
+    """Ends with the status of `main`; an end by a signal, or a fault of a file that `main` lets through, has one
+    line."""
     try:
+        for number in ENDING:
+            if signal.getsignal(number) is not signal.SIG_IGN:  # as nohup has it
+                signal.signal(number, end)
         try:
             status = main(sys.argv[1:])
         finally:
             if sys.stdout:
                 sys.stdout.flush()
-    except KeyboardInterrupt:
-        status = INTERRUPTED
-        tell("interrupted")
+    except Ended as ended:
+        status = BY_SIGNAL + ended.number
+        tell(ENDING[ended.number])
     except OSError as fault:
         status = 1
         close_output()
@@ -68,8 +88,7 @@ def read(path: str) -> bytes:
 def write(path: str, octets: bytes) -> None:
     """Writes it now, so that a fault is met here; what couldn't be written isn't tried again at the end."""
     if path != "-":
-        with open(path, "wb") as file:
-            file.write(octets)
+        write_whole(path, octets)
         return
     if sys.stdout is None:
         raise OSError("the standard output is closed")

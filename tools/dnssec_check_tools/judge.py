@@ -19,7 +19,8 @@ until, reason, ede; --jsonl has the same values by these names. The verdict is t
 
 With --scheduler, captures go as octets to the workers of a Dask scheduler. A worker needs Python with the packages
 distributed and cryptography, and `dnssec_check` on its own path; the tools' modules are sent to it. Captures of a
-worker that is lost are judged by others.
+worker that is lost are judged by others; one by which two are lost, as by which two processes are on this machine, has
+a row that says so. Keys of TSIG go to the scheduler's machine and the workers'.
 
 Types by mnemonic, zone files of anchors and --records need the package dnspython (Debian: python3-dnspython),
 signatures on curves cryptography (python3-cryptography), --scheduler distributed (python3-distributed), and the bar of
@@ -28,27 +29,30 @@ Graphviz (graphviz).
 
 exit status: that of the worst verdict, as `dnssec_check check` has it. From the best to the worst: 0, secure; 3,
 Insecure; 4, Pending; 5, Bogus; 6, Indeterminate; 7, an input is refused; 1, the machine failed. 2, the command line is
-wrong, and nothing was judged; 130, it was interrupted.
+wrong, or an output is a file that is read, and nothing was judged; 130, 143, 129, it was interrupted, or ended by
+SIGTERM or SIGHUP.
 """
 import argparse
 import os
 import sys
+from contextlib import closing
 from typing import Any, Dict, Iterable, Iterator, List, Optional, Tuple
 
 from .asking.anchors import ROOT, anchors_of
 from .asking.captures import all_of, captures_of, octets_of, told_apart
 from .asking.faults import Failure, Refusal, WrongLine, escaped
-from .asking.questions import Question
+from .asking.questions import LIST, Question
 from .asking.kinds import table
 from .asking.moments import seconds_of
 from .command import parser_of, read, run, tell, write
-from .judging.cluster import by_workers
+from .judging.cluster import WAIT_SECONDS, by_workers
 from .judging.page import Page
 from .judging.progress import progress
 from .judging.records import lines_of
-from .judging.spread import Task, in_processes, of_unread, one_by_one
+from .judging.spread import Results, Task, in_processes, of_unread
 from .judging.text import Lines, json_line, tsv_head, tsv_line
 from .judging.work import Common, Judged, Row
+from .outputs import is_same_output, overwritten
 from .program import FAILED, FROM_BEST, NAME, REFUSED, WRONG, program_of
 
 INPUTS = ("anchors", "keys", "macs", "questions")  # the options that name a file to read
@@ -61,7 +65,7 @@ def processors() -> int:
     return len(os.sched_getaffinity(0)) if hasattr(os, "sched_getaffinity") else os.cpu_count() or 1
 
 
-def number_of_jobs(text: str) -> int:
+def whole_number(text: str) -> int:
     if text.isascii() and text.isdigit() and 0 < int(text) < 10000:
         return int(text)
     raise ValueError
@@ -101,8 +105,14 @@ def command_line() -> argparse.ArgumentParser:
         help="write a page with the sentences, a picture of each chain, and the records; needs Graphviz",
     )
     parser.add_argument("--records", action="store_true", help="print the records of the captures, with their numbers")
-    parser.add_argument("--jobs", type=number_of_jobs, metavar="N", help="captures at once; else as many as processors")
+    parser.add_argument("--jobs", type=whole_number, metavar="N", help="captures at once; else as many as processors")
     parser.add_argument("--scheduler", action="append", metavar="ADDRESS", help="the address of a Dask scheduler")
+    parser.add_argument(
+        "--wait",
+        type=whole_number,
+        metavar="SECONDS",
+        help=f"how long to wait for a scheduler, and for a worker of it; {WAIT_SECONDS} where it isn't given",
+    )
     parser.add_argument("--program", action="append", metavar="FILE", help=f"where {NAME} is, if not on the path")
     return parser
 
@@ -121,6 +131,8 @@ def fault_of(options: argparse.Namespace) -> Optional[str]:
         return "--macs needs --keys: without keys no MAC is checked"
     if options.scheduler and (options.program or options.jobs):
         return "--scheduler goes without --program and --jobs: its workers have their own"
+    if options.wait and not options.scheduler:
+        return "--wait goes with --scheduler"
     return None
 
 
@@ -182,13 +194,11 @@ def paths_of(options: argparse.Namespace) -> Dict[str, str]:
     return {name: path for name, path in paths.items() if path}
 
 
-def results_of(
-    tasks: Iterable[Task], common: Common, options: argparse.Namespace, count: int
-) -> Iterator[Tuple[int, Judged]]:
+def results_of(tasks: Iterable[Task], common: Common, options: argparse.Namespace, count: int) -> Results:
     if options.scheduler:
-        return by_workers(tasks, common, once(options.scheduler))
+        return by_workers(tasks, common, once(options.scheduler), options.wait or WAIT_SECONDS)
     program, jobs = program_of(once(options.program), sys.argv[0]), min(options.jobs or processors(), count)
-    return in_processes(tasks, common, program, jobs) if jobs > 1 else one_by_one(tasks, common, program)
+    return in_processes(tasks, common, program, jobs)
 
 
 def judge(options: argparse.Namespace) -> int:
@@ -204,13 +214,33 @@ def judge(options: argparse.Namespace) -> int:
     report = Report(options, asked, common, page)
     if options.tsv:
         write("-", (tsv_head() + "\n").encode())
-    with progress(len(asked)) as advance:
-        for number, found in results_of(readable(tasks_of(asked, page), report, common), common, options, len(asked)):
+    tasks = readable(tasks_of(asked, page), report, common)
+    with progress(len(asked)) as advance, closing(results_of(tasks, common, options, len(asked))) as results:
+        for number, found in results:
             report.take(number, found)
             advance()
     if page:
         write(once(options.html), page.octets())
     return report.worst
+
+
+def inputs_of(options: argparse.Namespace) -> List[str]:
+    """The files that are read, and the program."""
+    words, questions = told_apart(options.words)
+    paths = [each.path for each in captures_of(words)]
+    lists = [] if questions or options.questions else {os.path.join(os.path.dirname(path), LIST) for path in paths}
+    named = [path for name in (*INPUTS, "program") for path in getattr(options, name) or ()]
+    return [*paths, *lists, *named, *([] if options.anchors else [ROOT])]
+
+
+def refuse_overwriting(options: argparse.Namespace) -> None:
+    """Refuses what is read and would be written, or would be written twice, before anything is read."""
+    pages = options.html or []
+    clash = overwritten(["-", *pages], inputs_of(options))
+    if clash:
+        raise WrongLine(escaped(clash))
+    if any(page != "-" and is_same_output(page, "-") for page in pages):
+        raise WrongLine(f"--html and the standard output would both be {escaped(pages[0])}")
 
 
 def print_records(options: argparse.Namespace) -> int:
@@ -239,6 +269,7 @@ def main(words: List[str]) -> int:
     if fault:
         parser.error(fault)
     try:
+        refuse_overwriting(options)
         return print_records(options) if options.records else judge(options)
     except WrongLine as fault:
         parser.error(str(fault))

@@ -4,9 +4,10 @@ import json
 import os
 import pathlib
 import shutil
+import signal
 import subprocess
 from dataclasses import dataclass
-from typing import Any, Dict, Iterable, List, NamedTuple, Optional
+from typing import Any, Dict, Iterable, List, NamedTuple, Optional, Sequence
 
 from .asking.faults import Failure
 from .asking.questions import Question
@@ -21,6 +22,8 @@ SECURE, INSECURE, PENDING, BOGUS, INDETERMINATE, REFUSED, FAILED, WRONG = 0, 3, 
 VERDICTS = (SECURE, INSECURE, PENDING, BOGUS, INDETERMINATE)
 FROM_BEST = (*VERDICTS, REFUSED, FAILED)
 LIST, CHECK, EXPLAIN = "list", "check", "explain"
+
+OPEN = "/proc/self/fd"  # where a process finds the files that it has open
 
 Json = Dict[str, Any]
 
@@ -43,46 +46,93 @@ class Told(NamedTuple):
     said: str
 
 
+class Unlisted(Exception):
+    """LIST failed; `said` is the words behind `fault`."""
+
+    def __init__(self, said: str) -> None:
+        super().__init__(said)
+        self.said = said
+
+
 @dataclass(frozen=True)
 class Program:
     """The program by its path. It's run in a folder, whose files have the names of the options that name them."""
 
     path: str
 
-    def run(self, words: List[str], folder: str) -> Run:
+    def run(self, words: List[str], folder: str, kept: Sequence[int] = ()) -> Run:
+        """A run to which the files that are open under these numbers are kept open."""
         try:
             done = subprocess.run(
-                [self.path, *words], cwd=folder, stdin=subprocess.DEVNULL, capture_output=True, check=False
+                [self.path, *words],
+                cwd=folder,
+                stdin=subprocess.DEVNULL,
+                capture_output=True,
+                check=False,
+                pass_fds=kept,
             )
         except OSError as fault:
             raise Failure(f"{self.path}: {fault.strerror}") from fault
         return Run(done.returncode, done.stdout.decode(), done.stderr.decode("utf-8", "replace"))
 
     def todo(self, folder: str, moment: int) -> List[str]:
-        """The lines that a verifier has to answer at the moment; none where the capture is refused."""
+        """The lines that a verifier has to answer at the moment; none where something is refused, which whatever is
+        asked then says too."""
         done = self.run([LIST, *named(["capture"]), f"--moment={moment}"], folder)
-        return done.output.splitlines() if done.status == 0 else []
+        if done.status == SECURE:
+            return done.output.splitlines()
+        told = told_without_verdict(done, LIST)
+        if told.word != "refused":
+            raise Unlisted(told.said)
+        return []
 
-    def told(self, subcommand: str, folder: str, files: Iterable[str], moment: int, question: Question) -> Told:
-        """What CHECK or EXPLAIN says of the question; the folder has these files."""
+    def told(
+        self,
+        subcommand: str,
+        folder: str,
+        files: Iterable[str],
+        moment: int,
+        question: Question,
+        keys: Optional[int] = None,
+    ) -> Told:
+        """What CHECK or EXPLAIN says of the question; the folder has these files, and the keys of TSIG are open under
+        a number, where there are some."""
         name, kind = f"--name={question.name[:NAME_MOST]}", f"--type={question.kind}"
-        return told_by(self.run([subcommand, *named(files), f"--moment={moment}", name, kind, "--json"], folder))
+        kept = [] if keys is None else [keys]
+        paths = [*named(files), *(f"--keys={OPEN}/{number}" for number in kept)]
+        done = self.run([subcommand, *paths, f"--moment={moment}", name, kind, "--json"], folder, kept)
+        return told_by(done, subcommand)
 
 
 def named(files: Iterable[str]) -> List[str]:
     return [f"--{name}={name}" for name in files]
 
 
-def told_by(done: Run) -> Told:
+def told_by(done: Run, subcommand: str) -> Told:
     """What a run with `--json` says."""
     if done.status in VERDICTS and done.output:
         value = json.loads(done.output)
         return Told(done.status, value["verdict"], value, "")
-    first = (done.errors.splitlines() or [f"status {done.status}"])[0]
+    return told_without_verdict(done, subcommand)
+
+
+def told_without_verdict(done: Run, subcommand: str) -> Told:
+    """What a run says that has no verdict: its line of what is refused or failed, or else how it ended."""
+    first = (done.errors.splitlines() or [f"{NAME} {subcommand} {ending(done.status)}"])[0]
     word, _, rest = first.partition(" ")
     if word in ("refused", "fault") and done.status in (REFUSED, FAILED):
         return Told(done.status, word, None, rest)
     return Told(FAILED, "fault", None, f"- {first}")
+
+
+def ending(status: int) -> str:
+    """How a process ended, by its status, which is below 0 where a signal ended it."""
+    if status >= 0:
+        return f"ended with status {status}"
+    try:
+        return f"was ended by {signal.Signals(-status).name}"
+    except ValueError:  # a signal without a name
+        return f"was ended by signal {-status}"
 
 
 def program_of(given: Optional[str], tool: str) -> Program:

@@ -23,10 +23,12 @@ algorithm are left out, each with a note on the standard error.
 
 exit status: 0, every line was answered, also where some are bad; 1, lines were left out, and all others were written;
 or a line was refused, which the standard error names, and nothing was written; or reading or writing failed; 2, the
-command line is wrong; 130, it was interrupted, and nothing was written.
+command line is wrong, or the standard output is a file that is read; 130, 143, 129, it was interrupted or ended by
+SIGTERM or SIGHUP, and nothing was written.
 """
 from typing import Iterator, List
 from .command import parser_of, read, run, shown, tell, write
+from .outputs import overwritten
 from .verifying.entries import Entry, Lacking, Refusal, entry_of, statement_of
 
 
@@ -59,6 +61,9 @@ def main(words: List[str]) -> int:
     )
     parser.add_argument("--from-check", action="store_true", help="pass over lines whose first word isn't `todo`")
     options = parser.parse_args(words)
+    clash = overwritten(["-"], options.files)
+    if clash:
+        parser.error(shown(clash))
     try:
         entries = [entry for path in options.files for entry in entries_of(path, options.from_check)]
         statements = list(statements_of(entries))

@@ -23,9 +23,10 @@ PARTS = {
     "lint": {"dnssec_check_tools"},
     "does-not-compile": {"dnssec_check_tools", "wrong_bodies"},
     "wrong-bodies": {"dnssec_check_tools", "wrong_bodies"},
-    "dnssec_check_tools/verify.py": {"command", "verifying"},
-    "dnssec_check_tools/capture.py": {"command", "capturing"},
-    "dnssec_check_tools/judge.py": {"command", "asking", "judging", "program"},
+    "dnssec_check_tools/verify.py": {"command", "outputs", "verifying"},
+    "dnssec_check_tools/capture.py": {"command", "capturing", "outputs"},
+    "dnssec_check_tools/judge.py": {"command", "asking", "judging", "outputs", "program"},
+    "dnssec_check_tools/command.py": {"outputs"},
     "dnssec_check_tools/program.py": {"asking"},
     "dnssec_check_tools/verifying/curves.py": {"cryptography"},
     "dnssec_check_tools/capturing": {"command"},
@@ -35,6 +36,7 @@ PARTS = {
     "dnssec_check_tools/wire.py": {"dns"},
     "dnssec_check_tools/judging": {"asking", "capturing", "explaining", "program", "verifying", "dns"},
     "dnssec_check_tools/judging/cluster.py": {"asking", "distributed", "program"},
+    "dnssec_check_tools/judging/workers.py": {"command", "program"},
     "dnssec_check_tools/judging/progress.py": {"rich"},
 }
 

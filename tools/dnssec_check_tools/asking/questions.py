@@ -8,6 +8,7 @@ from ..command import read, shown
 from .faults import Refusal, WrongLine
 from .kinds import type_of
 
+LIST = "questions"  # the file beside the captures of `capture --split` that lists what each may be asked
 LINE = re.compile(r"(.*)(?:/|[ \t])[ \t]*(\S+)", re.DOTALL)
 
 
@@ -67,7 +68,7 @@ def questions_of_file(path: str) -> List[Question]:
 
 def questions_of_split(folder: str) -> Dict[str, List[Question]]:
     """By the name of a capture its own questions, as `capture --split` lists them; none where there is no list."""
-    path = os.path.join(folder, "questions")
+    path = os.path.join(folder, LIST)
     questions: Dict[str, List[Question]] = {}
     if not os.path.isfile(path):
         return questions

@@ -1,23 +1,26 @@
 """Captures judged by the workers of a Dask scheduler. What a worker gets is octets, and the tools' own modules."""
+import contextlib
 import io
+import logging
 import os
 import shutil
 import tempfile
-import uuid
+import time
 import zipfile
-from typing import Any, Callable, Dict, Iterable, Iterator, List, Optional, Tuple, Type
+from typing import Any, Iterable, Iterator, List
 
 from ..asking.faults import Failure, lacking
 from ..asking.questions import Question
 from ..program import NAME, PACKAGE, Program
 
-from .spread import Result, Task
-from .work import Common, Judged, judged
+from .handed_out import LOOK_SECONDS, HandedOut
+from .spread import Answer, Result, Results, Task, answer
+from .work import Common
 
 MODULES = f"{PACKAGE.name}.zip"
-AHEAD = 8  # captures sent ahead for each thread of the workers
-LOST_MOST = 3  # how often a capture is handed out anew whose workers were lost again and again
 WAIT_SECONDS = 30
+SECONDS_TO_CLOSE = 1
+RUNNING = "running"  # what a client is that has its scheduler
 
 
 def library() -> Any:
@@ -39,12 +42,13 @@ def modules() -> bytes:
     return octets.getvalue()
 
 
-def at_worker(octets: bytes, questions: List[Question], common: Common) -> Judged:
-    """The verdicts on a capture, by the program on the worker's own path."""
+def at_worker(octets: bytes, questions: List[Question], common: Common) -> Answer:
+    """The verdicts on a capture, by the program on the worker's own path. Dask clears the folder of a worker that is
+    lost."""
     path = shutil.which(NAME)
     if path is None:
-        raise Failure(f"{NAME} isn't on the path of a worker")
-    return judged(octets, questions, common, Program(path))
+        return Failure(f"{NAME} isn't on the path of a worker")
+    return answer(common, Program(path), Task(0, octets, None, questions), library().get_worker().local_directory)
 
 
 def send_modules(client: Any) -> None:
@@ -55,65 +59,78 @@ def send_modules(client: Any) -> None:
         client.upload_file(path)
 
 
-class Run:
-    """The captures that are handed out; each has a key of this run and its number, so that none is taken twice."""
-
-    def __init__(self, client: Any, common: Common, lost: Type[Exception]) -> None:
-        self.client, self.common, self.lost, self.name = client, common, lost, uuid.uuid4().hex
-        self.tasks: Dict[str, Tuple[Task, int]] = {}
-
-    def submit(self, task: Task, count: int = 0) -> Any:
-        key = f"dnssec_check-{self.name}-{task.number}-{count}"
-        future = self.client.submit(at_worker, task.octets, task.questions, self.common, key=key, pure=False)
-        self.tasks[future.key] = task, count
-        return future
-
-    def result(self, future: Any, again: Callable[[Any], None]) -> Optional[Result]:
-        """The verdicts; None where the capture is handed out anew, since each worker that had it was lost."""
-        task, count = self.tasks.pop(future.key)
-        try:
-            return task.number, future.result()
-        except self.lost as fault:
-            if count == LOST_MOST:
-                raise Failure(f"each worker that had the capture was lost: {fault}") from fault
-            again(self.submit(task, count + 1))
-            return None
-        except Exception as fault:  # whatever a worker met: each would meet it
-            raise Failure(f"a worker failed: {type(fault).__name__}: {fault}") from fault
-
-
-def by_workers(tasks: Iterable[Task], common: Common, address: str) -> Iterator[Result]:
+def by_workers(tasks: Iterable[Task], common: Common, address: str, wait: int) -> Results:
     """Each capture's number with its verdicts, as they are done."""
     dask = library()
-    with client_of(dask, address) as client:
-        send_modules(client)
-        run, completed = Run(client, common, dask.KilledWorker), dask.as_completed()
-        most = AHEAD * max(1, sum(client.nthreads().values()))
+    logging.disable()  # of this process: what comes of a fault is told in a line
+    with client_of(dask, address, wait) as client:
+        handed = HandedOut(dask, client, at_worker, common)
+        watch = Watch(client, handed, address, wait)
         for task in tasks:
-            while completed.count() >= most:
-                yield from taken(run, completed)
-            completed.add(run.submit(task))
-        while completed.count():
-            yield from taken(run, completed)
+            yield from watch.look()
+            while not handed.give(task):
+                yield from handed.results()
+                yield from watch.look()
+        while not handed.is_over():
+            yield from handed.results()
+            yield from watch.look()
 
 
-def taken(run: Run, completed: Any) -> List[Result]:
-    """The next capture that is done, if it wasn't handed out anew."""
-    future = next(completed)
-    found = run.result(future, completed.add)
-    future.release()
-    return [found] if found else []
+class Watch:
+    """Looks now and then for workers and a scheduler, without which nothing would ever be done."""
+
+    def __init__(self, client: Any, handed: HandedOut, address: str, wait: int) -> None:
+        self.client, self.handed, self.address, self.wait = client, handed, address, wait
+        self.last, self.next = time.monotonic(), 0.0  # when a worker was there, and when to look again
+
+    def look(self) -> Iterator[Result]:
+        if time.monotonic() < self.next:
+            return
+        if self.client.status != RUNNING or self.handed.is_cut_off:
+            self.wait_for_scheduler()
+        with contextlib.suppress(OSError):  # the scheduler's, whose end the client will have met next time
+            yield from self.handed.look()
+            if self.handed.threads:
+                self.last = time.monotonic()
+        if time.monotonic() - self.last > self.wait:
+            raise Failure(without_worker(self.address, self.wait))
+        self.next = time.monotonic() + LOOK_SECONDS
+
+    def wait_for_scheduler(self) -> None:
+        """Waits for one in place of one that was lost; the client looks for it by itself."""
+        last = time.monotonic() + self.wait
+        while self.client.status != RUNNING:
+            if time.monotonic() > last:
+                raise Failure(f"the scheduler at {self.address} was lost, and none answered for {self.wait} seconds")
+            time.sleep(LOOK_SECONDS)
+        self.handed.take_back()
+        send_modules(self.client)
+        self.last = time.monotonic()
 
 
-def client_of(dask: Any, address: str) -> Any:
-    """A client of the scheduler, which has a worker."""
+def without_worker(address: str, wait: int) -> str:
+    return f"the scheduler at {address} has no worker, and got none for {wait} seconds"
+
+
+@contextlib.contextmanager
+def client_of(dask: Any, address: str, wait: int) -> Iterator[Any]:
+    """A client of the scheduler, which has a worker, with the tools sent to it."""
+    last = time.monotonic() + wait
     try:
-        client = dask.Client(address, timeout=WAIT_SECONDS)
-    except (OSError, ValueError, TimeoutError) as fault:
+        client = dask.Client(address, timeout=wait)
+    except (OSError, ValueError, dask.TimeoutError) as fault:
         raise Failure(f"no scheduler answers at {address}: {fault}") from fault
     try:
-        client.wait_for_workers(1, timeout=WAIT_SECONDS)
-    except TimeoutError as fault:
-        client.close()
-        raise Failure(f"the scheduler at {address} has no worker") from fault
-    return client
+        wait_for_worker(dask, client, last - time.monotonic(), without_worker(address, wait))
+        send_modules(client)
+        yield client
+    finally:
+        with contextlib.suppress(dask.TimeoutError):
+            client.close(timeout=SECONDS_TO_CLOSE)
+
+
+def wait_for_worker(dask: Any, client: Any, seconds: float, told: str) -> None:
+    try:
+        client.wait_for_workers(1, timeout=max(LOOK_SECONDS, seconds))
+    except dask.TimeoutError as fault:
+        raise Failure(told) from fault

@@ -1,20 +1,19 @@
-"""Captures judged one after the other, or several at once on this machine."""
-import contextlib
-import signal
-from concurrent.futures import FIRST_COMPLETED, BrokenExecutor, ProcessPoolExecutor, wait
-from typing import Any, Dict, Iterable, Iterator, List, NamedTuple, Optional, Tuple
+"""Captures judged several at once on this machine, each by a process of its own."""
+import functools
+from typing import Generator, Iterable, Iterator, List, NamedTuple, Optional, Set, Tuple, Union
 
 from ..asking.faults import Failure
 from ..asking.questions import Question
-from ..program import FAILED, Program
+from ..program import Program
 
-from .work import Common, Judged, Row, judged
+from .work import Common, Judged, judged, without_verdicts
+from .workers import Lost, Workers
 
-AHEAD = 4  # captures that are read ahead of each that is judged
-
-OPEN_FAILED, READ_FAILED = 811, 210
+MEMORY_OUT, OPEN_FAILED, READ_FAILED = 90, 811, 210
 
 Result = Tuple[int, Judged]  # by the number of the capture
+Results = Generator[Result, None, None]
+Answer = Union[Judged, Failure]
 
 
 class Task(NamedTuple):
@@ -29,15 +28,7 @@ class Task(NamedTuple):
 def of_unread(task: Task, fault: OSError, common: Common) -> Judged:
     """The verdicts of a capture that can't be read."""
     number = READ_FAILED if is_of_read(fault) else OPEN_FAILED
-    evidence = {"number": number, "file": "capture"}
-    return Judged(
-        [
-            Row(moment, question, FAILED, "fault", evidence, None)
-            for moment in common.moments
-            for question in task.questions
-        ],
-        [],
-    )
+    return without_verdicts(task.questions, common, {"number": number, "file": "capture"})
 
 
 def is_of_read(fault: OSError) -> bool:
@@ -46,46 +37,49 @@ def is_of_read(fault: OSError) -> bool:
     return isinstance(fault, IsADirectoryError) or (fault.errno is not None and fault.filename is None)
 
 
-def one_by_one(tasks: Iterable[Task], common: Common, program: Program) -> Iterator[Result]:
-    """Each capture's number with its verdicts."""
-    for task in tasks:
-        yield task.number, judged(task.octets, task.questions, common, program)
-
-
-def ignore_interrupts() -> None:
-    """An interrupt is the parent's to tell."""
-    signal.signal(signal.SIGINT, signal.SIG_IGN)
-
-
-@contextlib.contextmanager
-def uninterrupted() -> Iterator[None]:
-    """An interrupt waits: behind the start of a process, and before that of the thread which ends it, it would leave it
-    for ever, and this process waits for it."""
-    old = signal.pthread_sigmask(signal.SIG_BLOCK, {signal.SIGINT})
+def answer(common: Common, program: Program, task: Task, place: Optional[str] = None) -> Answer:
+    """The verdicts, or what ends all. A fault that a capture leads to, of whatever kind, is no other capture's."""
     try:
-        yield
-    finally:
-        signal.pthread_sigmask(signal.SIG_SETMASK, old)
+        return judged(task.octets, task.questions, common, program, place)
+    except Failure as fault:
+        return fault
+    except MemoryError:
+        return without_verdicts(task.questions, common, {"number": MEMORY_OUT})
+    except Exception as fault:  # pylint: disable=broad-exception-caught
+        return without_verdicts(task.questions, common, {"said": f"{type(fault).__name__}: {fault}"})
 
 
-def in_processes(tasks: Iterable[Task], common: Common, program: Program, jobs: int) -> Iterator[Result]:
-    """The same, several at once, as they are done."""
-    pool = ProcessPoolExecutor(jobs, initializer=ignore_interrupts)
-    waiting: Dict[Any, int] = {}
-    try:
+def answer_of(found: Answer) -> Judged:
+    if isinstance(found, Failure):
+        raise found
+    return found
+
+
+def in_processes(tasks: Iterable[Task], common: Common, program: Program, jobs: int) -> Results:
+    """Each capture's number with its verdicts, as they are done."""
+    lost: Set[int] = set()
+    with Workers(functools.partial(answer, common, program)) as workers:
         for task in tasks:
-            while len(waiting) >= AHEAD * jobs:
-                yield from done_of(waiting)
-            with uninterrupted():
-                waiting[pool.submit(judged, task.octets, task.questions, common, program)] = task.number
-        while waiting:
-            yield from done_of(waiting)
-    except BrokenExecutor as fault:
-        raise Failure(f"a process that judges was ended: {fault}") from fault
-    finally:
-        pool.shutdown(cancel_futures=True)
+            while len(workers.busy) >= jobs:
+                yield from done_of(workers, lost, common)
+            workers.give(task)
+        while workers.busy:
+            yield from done_of(workers, lost, common)
 
 
-def done_of(waiting: Dict[Any, int]) -> Iterator[Result]:
-    for future in wait(waiting, return_when=FIRST_COMPLETED).done:
-        yield waiting.pop(future), future.result()
+def done_of(workers: Workers, lost: Set[int], common: Common) -> Iterator[Result]:
+    """Those that are done. A capture by which a process is lost is given to another one, once."""
+    for task, found in workers.done():
+        if not isinstance(found, Lost):
+            yield task.number, answer_of(found)
+        elif task.number in lost:
+            yield task.number, of_lost(task, common, found.how)
+        else:
+            lost.add(task.number)
+            workers.give(task)
+
+
+def of_lost(task: Task, common: Common, how: str) -> Judged:
+    """The verdicts of a capture by which two processes were lost."""
+    said = f"the process that judged it {how}, the second that was lost by it"
+    return without_verdicts(task.questions, common, {"said": said})

@@ -1,10 +1,11 @@
 """A capture judged: verified once, and asked each question at each moment. All that it reads is octets."""
+import contextlib
 import os
 import tempfile
-from typing import Dict, Iterable, List, NamedTuple, Optional, Tuple
+from typing import Dict, Iterable, Iterator, List, NamedTuple, Optional, Tuple
 
 from ..asking.questions import Question
-from ..program import EXPLAIN, Json, Program, Told
+from ..program import EXPLAIN, FAILED, Json, Program, Told, Unlisted
 from ..verifying.entries import Lacking, Refusal, entry_of, statement_of
 
 from .evidence import Evidence
@@ -45,6 +46,18 @@ def write_files(folder: str, files: Dict[str, bytes]) -> None:
             file.write(octets)
 
 
+@contextlib.contextmanager
+def in_memory(octets: Optional[bytes]) -> Iterator[Optional[int]]:
+    """The number of an open file that has no name and no place on a disk, and is gone with whoever has it open."""
+    if octets is None:
+        yield None
+        return
+    with open(os.memfd_create("dnssec_check"), "wb") as file:
+        file.write(octets)
+        file.flush()
+        yield file.fileno()
+
+
 def statements_of(lines: Iterable[str]) -> Tuple[List[str], List[str]]:
     """The statements that answer the lines, and why the others can't be answered here."""
     statements: List[str] = []
@@ -57,13 +70,18 @@ def statements_of(lines: Iterable[str]) -> Tuple[List[str], List[str]]:
     return statements, [f"{count} signatures aren't verified: {why}" for why, count in notes.items()]
 
 
-def judged(octets: bytes, questions: List[Question], common: Common, program: Program) -> Judged:
-    """The verdicts on the questions, by moment."""
-    with tempfile.TemporaryDirectory(prefix="dnssec_check-") as folder:
-        given = {"capture": octets, "keys": common.keys, "macs": common.macs}
+def judged(
+    octets: bytes, questions: List[Question], common: Common, program: Program, place: Optional[str] = None
+) -> Judged:
+    """The verdicts on the questions, by moment. What is written for a time is at the place, where one is told."""
+    with tempfile.TemporaryDirectory(prefix="dnssec_check-", dir=place) as folder, in_memory(common.keys) as keys:
+        given = {"capture": octets, "macs": common.macs}
         files = {name: content for name, content in given.items() if content is not None}
         write_files(folder, files)
-        todo = dict.fromkeys(line for moment in common.moments for line in program.todo(folder, moment))
+        try:
+            todo = dict.fromkeys(line for moment in common.moments for line in program.todo(folder, moment))
+        except Unlisted as fault:
+            return without_verdicts(questions, common, of_fault(fault.said))
         statements, notes = statements_of(todo)
         files["statements"], view = "".join(statements).encode(), View(octets)
         rows: List[Row] = []
@@ -72,7 +90,7 @@ def judged(octets: bytes, questions: List[Question], common: Common, program: Pr
             files["anchors"] = common.anchors[moment]
             write_files(folder, {"anchors": files["anchors"]})
             rows += [
-                view.row(moment, question, program.told(EXPLAIN, folder, files, moment, question))
+                view.row(moment, question, program.told(EXPLAIN, folder, files, moment, question, keys))
                 for question in questions
             ]
     return Judged(rows, notes)
@@ -121,6 +139,14 @@ class View:
         target = self.evidence.target(alias["rrset"])
         found = {"name": alias["name"], **self.of_signature(alias["rrset"], alias["signature"])}
         return {**found, "target": target} if target else found
+
+
+def without_verdicts(questions: List[Question], common: Common, evidence: Json) -> Judged:
+    """The rows of a capture that a fault, which the evidence tells, leaves without verdicts."""
+    return Judged(
+        [Row(moment, question, FAILED, "fault", evidence, None) for moment in common.moments for question in questions],
+        [],
+    )
 
 
 def of_fault(line: str) -> Json:

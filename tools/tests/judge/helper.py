@@ -3,6 +3,7 @@ import functools
 import importlib.util
 import json
 import pathlib
+import shlex
 import sys
 import tempfile
 import unittest
@@ -105,6 +106,13 @@ class Judging(unittest.TestCase):
         (self.room / "bin" / "index").write_text(json.dumps(index()))
         values = {"INDEX": str(self.room / "bin" / "index"), "BOGUS": BOGUS, "MISSING": MISSING}
         path.write_text(functools.reduce(lambda text, name: text.replace(name, repr(values[name])), values, DOUBLE))
+        path.chmod(0o755)
+        return path
+
+    def stand_in(self, script):
+        """A program that runs the lines of a shell, and then is the program."""
+        path = self.room / "stand-in"
+        path.write_text(f'#!/bin/sh\n{script}\nexec {shlex.quote(str(self.program))} "$@"\n')
         path.chmod(0o755)
         return path
 

@@ -195,6 +195,7 @@ class Ends(Judging):
         self.assertIn("exclude each other", self.wrong(WWW, "a.test/A", "--tsv", "--jsonl"))
         self.assertIn("--macs needs --keys", self.wrong(WWW, "a.test/A", "--macs", ANCHORS))
         self.assertIn("--html is given twice", self.wrong(WWW, "a.test/A", "--html", "a", "--html", "b"))
+        self.assertIn("--wait goes with --scheduler", self.wrong(WWW, "a.test/A", "--wait", "5"))
 
     def test_the_standard_input_is_read_once(self):
         keys = ("--keys", ANCHORS)
