@@ -7,6 +7,7 @@ mod OneLine
 mod Parting
 mod Passing
 mod Reasons
+mod Reading
 mod Rows
 mod Splitting
 mod Tables

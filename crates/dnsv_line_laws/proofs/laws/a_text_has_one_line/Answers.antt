@@ -1,3 +1,5 @@
+use Rattle.dnsv_line_laws.proofs.Reading
+use Rattle.dnsv_line_laws.specs.Lower
 use Rattle.dnsv_line_laws.proofs.OneLine.{one_text}
 use Rattle.dnsv_line_laws.proofs.Lines.{line_told}
 use Rattle.dnsv_lines.specs.Rows.{sentence_of}
