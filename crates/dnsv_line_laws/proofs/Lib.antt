@@ -7,8 +7,11 @@ mod OneLine
 mod Parting
 mod Passing
 mod Reasons
+mod ReadReasons
+mod ReadRows
 mod Reading
 mod Rows
+mod SameLines
 mod Splitting
 mod Tables
 mod Types

@@ -1,3 +1,4 @@
+use Rattle.dnsv_line_laws.proofs.SameLines
 use Rattle.dnsv_line_laws.proofs.Reading
 use Rattle.dnsv_line_laws.specs.Lower
 use Rattle.dnsv_line_laws.proofs.OneLine.{one_text}
