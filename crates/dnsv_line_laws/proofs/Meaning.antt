@@ -13,8 +13,9 @@ use Rattle.dnsv_names.specs.Text.{IsTextOf}
 use Rattle.dnsv_lines.specs.Json.{escaped, name_json, quoted}
 use Rattle.dnsv_lines.specs.Salt.{octet_text, salt_text}
 use Rattle.dnsv_lines.specs.Sentence.{Said, Name, Number, Rrset, Word, Salt, Nothing, lower_text}
-use Rattle.dnsv_line_laws.specs.Alike.{IsOfItsType, SayAlike}
-use Rattle.dnsv_line_laws.proofs.Forms.{AName, ANumber, AnRrset, AWord, ASalt, Kind, json_value, of_kind, text_value}
+use Rattle.dnsv_line_laws.specs.Types.{IsOfItsType}
+use Rattle.dnsv_line_laws.proofs.Alike.{SayAlike}
+use Rattle.dnsv_line_laws.proofs.told.Forms.{AName, ANumber, AnRrset, AWord, ASalt, Kind, json_value, of_kind, text_value}
 
 -- ---- names
 

@@ -5,13 +5,14 @@ use Rattle.std.proofs.lemmas.List.{append_cancel_right}
 use Rattle.std.specs.List.{AllByRecursion, flat_map}
 use Rattle.dnsv_lines.specs.Json.{parted}
 use Rattle.dnsv_lines.specs.Sentence.{Said, Name, Number, Rrset, Word, Salt, Nothing, SaidField, SaidSentence, field_members, field_text, json_of_sentence, text_of_sentence}
-use Rattle.dnsv_line_laws.specs.Alike.{AreAlike, AreFieldsAlike, AreOfTheirTypes, IsOfItsType}
-use Rattle.dnsv_line_laws.proofs.Forms.{ANumber, AWord, Form, Kind, Slot, clean, clean_slots, fits, if_there, is_small, json_fits, json_good, json_fields, json_marks, json_piece, json_slots, json_value, json_words, kinds, laid, of_kind, saids, text_fields, text_fits, text_good, text_marks, text_piece, text_slots, text_value, text_words}
-use Rattle.dnsv_line_laws.proofs.Marks.{Mark, apart, both_first, both_then, same_values, stands, words}
+use Rattle.dnsv_line_laws.specs.Types.{AreOfTheirTypes, IsOfItsType}
+use Rattle.dnsv_line_laws.proofs.Alike.{AreAlike, AreFieldsAlike}
+use Rattle.dnsv_line_laws.proofs.told.Forms.{ANumber, AWord, Form, Kind, Slot, clean, clean_slots, fits, if_there, is_small, json_fits, json_good, json_fields, json_marks, json_piece, json_slots, json_value, json_words, kinds, laid, of_kind, saids, text_fields, text_fits, text_good, text_marks, text_piece, text_slots, text_value, text_words}
+use Rattle.dnsv_line_laws.proofs.parts.Marks.{Mark, apart, both_first, both_then, same_values, stands, words}
 use Rattle.dnsv_line_laws.proofs.Meaning.{json_alike, text_alike}
-use Rattle.dnsv_line_laws.proofs.Parting.{Outside, Words, split}
-use Rattle.dnsv_line_laws.proofs.Splitting.{IsParted, all_parted, json_by_marks, json_laid, text_by_marks, text_laid}
-use Rattle.dnsv_line_laws.proofs.Tables.{IsTold, form_by_json, form_by_text}
+use Rattle.dnsv_line_laws.proofs.parts.Parting.{Outside, Words, split}
+use Rattle.dnsv_line_laws.proofs.parts.Splitting.{IsParted, all_parted, json_by_marks, json_laid, text_by_marks, text_laid}
+use Rattle.dnsv_line_laws.proofs.told.Tables.{IsTold, form_by_json, form_by_text}
 
 -- ---- fields
 

@@ -29,9 +29,9 @@ use Rattle.dnsv_lines.specs.declared.line.fault.zone.WhyEntry.TheVariants as ent
 use Rattle.dnsv_lines.specs.declared.line.fault.zone.WhyZone.{WhyZone}
 use Rattle.dnsv_lines.specs.declared.line.fault.zone.WhyZone.TheVariants as zone
 use Rattle.dnsv_lines.specs.declared.line.fault.zone.ZoneFault.{ZoneFault}
-use Rattle.dnsv_line_laws.proofs.Digits.{no_letter}
-use Rattle.dnsv_line_laws.proofs.Rows.{role_clean}
-use Rattle.dnsv_line_laws.proofs.Tables.{Told, closer_form, denial_form, dname_form, ds_unproved_form, entry_form, not_self_signed_form, not_vouched_form, nsec3_form, signature_form, source_form, unsigned_form, zone_form}
+use Rattle.dnsv_line_laws.proofs.parts.Digits.{no_letter}
+use Rattle.dnsv_line_laws.proofs.told.Rows.{role_clean}
+use Rattle.dnsv_line_laws.proofs.told.Tables.{Told, closer_form, denial_form, dname_form, ds_unproved_form, entry_form, not_self_signed_form, not_vouched_form, nsec3_form, signature_form, source_form, unsigned_form, zone_form}
 
 -- the name that would have to be covered
 pub closer_told : (x : CloserName) → Told closer_form (closer_row x)

@@ -1,7 +1,6 @@
--- When two lines say the same.
-use Rattle.std.specs.Prelude.{◌≡◌, ◌<◌, ◌^◌, List, [], ◌∷◌}
-use Rattle.std.specs.List.{AllByRecursion}
-use Rattle.dnsv_names.specs.Name.{IsName, SameName}
+-- When two sentences say the same.
+use Rattle.std.specs.Prelude.{◌≡◌, List, [], ◌∷◌}
+use Rattle.dnsv_names.specs.Name.{SameName}
 use Rattle.dnsv_lines.specs.Sentence.{Said, Name, Number, Rrset, Word, Salt, Nothing, SaidField, SaidSentence}
 
 -- two fields say the same: numbers, words and salts that are equal, names that are equal but for the case of their letters,
@@ -33,14 +32,3 @@ pub record AreAlike (a b : SaidSentence) : Type 0 where
   pub word : SayAlike a.word b.word
   pub error : SayAlike a.error b.error
   pub fields : AreFieldsAlike a.fields b.fields
-
--- what Rust's types say of what is said: a name is one, and a number has at most 64 bits
-abbrev pub IsOfItsType : Said → Type 0
-IsOfItsType (Name name) = IsName name
-IsOfItsType (Number number) = number < 2 ^ 64
-IsOfItsType (Rrset number) = number < 2 ^ 64
-IsOfItsType _ = Unit {0}
-
--- so of each field
-abbrev pub AreOfTheirTypes : SaidSentence → Type 0
-AreOfTheirTypes sentence = AllByRecursion (λ field. IsOfItsType field.said) sentence.fields

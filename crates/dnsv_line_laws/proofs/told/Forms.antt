@@ -5,7 +5,7 @@ use Rattle.std.specs.List.{flat_map}
 use Rattle.dnsv_lines.specs.Json.{name_json, quoted}
 use Rattle.dnsv_lines.specs.Salt.{salt_text}
 use Rattle.dnsv_lines.specs.Sentence.{Said, Name, Number, Rrset, Word, Salt, Nothing, SaidField, SaidSentence, lower_text, plain}
-use Rattle.dnsv_line_laws.proofs.Marks.{Mark, Absent, Bare, Labelled, apart, piece, stands}
+use Rattle.dnsv_line_laws.proofs.parts.Marks.{Mark, Absent, Bare, Labelled, apart, piece, stands}
 
 -- ---- values as they are written
 

@@ -2,8 +2,8 @@
 use Rattle.std.proofs.Common.{◌≡◌, ℕ, Bool, true, false, cond, List, [], ◌∷◌, ◌||◌, codes, get_or, nat_lt}
 use Rattle.dnsv_lines.specs.Json.{quoted}
 use Rattle.dnsv_lines.specs.Sentence.{SaidSentence}
-use Rattle.dnsv_line_laws.proofs.Forms.{Form, Slot, AName, ANumber, AnRrset, AWord, ASalt, bare, behind, fits, is_good, json_fields, json_slots, json_words, laid, own, plain_form, reason_form, saids, text_fields, text_slots, text_words}
-use Rattle.dnsv_line_laws.proofs.Marks.{same}
+use Rattle.dnsv_line_laws.proofs.told.Forms.{Form, Slot, AName, ANumber, AnRrset, AWord, ASalt, bare, behind, fits, is_good, json_fields, json_slots, json_words, laid, own, plain_form, reason_form, saids, text_fields, text_slots, text_words}
+use Rattle.dnsv_line_laws.proofs.parts.Marks.{same}
 
 -- ---- the forms
 

@@ -9,10 +9,10 @@ use Rattle.dnsv_lines.proofs.JsonLemmas.{parted_behind}
 use Rattle.dnsv_lines.specs.Json.{member, parted, quoted}
 use Rattle.dnsv_lines.specs.Salt.{salt_text}
 use Rattle.dnsv_lines.specs.Sentence.{Said, Name, Number, Rrset, Word, Salt, Nothing, field_members, field_text, keyed_members, label_text, labelled_text, lower_text}
-use Rattle.dnsv_line_laws.proofs.Forms.{AName, ANumber, AnRrset, AWord, ASalt, Kind, Slot, clean, clean_mark, clean_slots, json_marks, json_piece, json_value, keyed, kinds, label_of, laid, mark_of, of_kind, text_marks, text_piece, text_value}
-use Rattle.dnsv_line_laws.proofs.Marks.{Mark, Absent, Bare, Labelled, both_first, both_then, piece, stands, words}
-use Rattle.dnsv_line_laws.proofs.Parting.{Mode, Words, Outside, Passes, is_cut, one_part, split}
-use Rattle.dnsv_line_laws.proofs.Passing.{clean_inside, clean_words, decimal_outside, decimal_words, name_words, quoted_outside, salt_clean, string_outside}
+use Rattle.dnsv_line_laws.proofs.told.Forms.{AName, ANumber, AnRrset, AWord, ASalt, Kind, Slot, clean, clean_mark, clean_slots, json_marks, json_piece, json_value, keyed, kinds, label_of, laid, mark_of, of_kind, text_marks, text_piece, text_value}
+use Rattle.dnsv_line_laws.proofs.parts.Marks.{Mark, Absent, Bare, Labelled, both_first, both_then, piece, stands, words}
+use Rattle.dnsv_line_laws.proofs.parts.Parting.{Mode, Words, Outside, Passes, is_cut, one_part, split}
+use Rattle.dnsv_line_laws.proofs.parts.Passing.{clean_inside, clean_words, decimal_outside, decimal_words, name_words, quoted_outside, salt_clean, string_outside}
 
 -- a text that is parted into these, whatever is parted behind it
 pub record IsParted (mode : Mode) (text : List ℕ) (parts : List (List ℕ)) : Type 0 where

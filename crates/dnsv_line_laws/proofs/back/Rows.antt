@@ -36,7 +36,7 @@ use Rattle.dnsv_lines.specs.declared.line.fault.signature.UntrustedSigner.{Untru
 use Rattle.dnsv_lines.specs.declared.line.interval.Interval.{Interval}
 use Rattle.dnsv_lines.specs.declared.line.place.RrsetPlace.{RrsetPlace}
 use Rattle.dnsv_line_laws.specs.Lower.{lower_line}
-use Rattle.dnsv_line_laws.proofs.Reading.{case_in, chain_in, form_in, lower_sentence, read, relation_in, role_in, section_in, unusable_in}
+use Rattle.dnsv_line_laws.proofs.back.Reading.{case_in, chain_in, form_in, lower_sentence, read, relation_in, role_in, section_in, unusable_in}
 
 -- the line is read back
 abbrev IsRead : Line → Type 0

@@ -4,11 +4,11 @@ use Rattle.dnsv_lines.specs.Rows.{sentence_of}
 use Rattle.dnsv_lines.specs.Sentence.{Said, Name, Number, Rrset, Word, Salt, Nothing, SaidField, SaidSentence}
 use Rattle.dnsv_lines.specs.declared.line.Line.{Line}
 use Rattle.dnsv_lines.specs.declared.line.Line.TheVariants as line
-use Rattle.dnsv_line_laws.specs.Alike.{AreAlike, AreFieldsAlike, IsFieldAlike, SayAlike}
+use Rattle.dnsv_line_laws.proofs.Alike.{AreAlike, AreFieldsAlike, IsFieldAlike, SayAlike}
 use Rattle.dnsv_line_laws.specs.Lower.{SameLine, lower_line}
-use Rattle.dnsv_line_laws.proofs.ReadReasons.{reason_read}
-use Rattle.dnsv_line_laws.proofs.ReadRows.{case_read, follows_read, holds_read, hope_read, key_read, part_read, proof_read, rrset_read, signed_read, trusted_read, unusable_read}
-use Rattle.dnsv_line_laws.proofs.Reading.{lower_field, lower_said, lower_sentence, read}
+use Rattle.dnsv_line_laws.proofs.back.Reasons.{reason_read}
+use Rattle.dnsv_line_laws.proofs.back.Rows.{case_read, follows_read, holds_read, hope_read, key_read, part_read, proof_read, rrset_read, signed_read, trusted_read, unusable_read}
+use Rattle.dnsv_line_laws.proofs.back.Reading.{lower_field, lower_said, lower_sentence, read}
 
 -- each line is read back
 line_read : (x : Line) → read (lower_sentence (sentence_of x)) ≡ lower_line x

@@ -52,7 +52,7 @@ use Rattle.dnsv_lines.specs.declared.line.fault.zone.WhyZone.{WhyZone}
 use Rattle.dnsv_lines.specs.declared.line.fault.zone.WhyZone.TheVariants as zone
 use Rattle.dnsv_lines.specs.declared.line.interval.Interval.{Interval}
 use Rattle.dnsv_lines.specs.declared.line.place.RrsetPlace.{RrsetPlace}
-use Rattle.dnsv_line_laws.proofs.Marks.{same}
+use Rattle.dnsv_line_laws.proofs.parts.Marks.{same}
 
 -- ---- a sentence with its names in lower case
 

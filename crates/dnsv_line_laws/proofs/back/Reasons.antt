@@ -37,8 +37,8 @@ use Rattle.dnsv_lines.specs.declared.line.fault.zone.WhyZone.{WhyZone}
 use Rattle.dnsv_lines.specs.declared.line.fault.zone.WhyZone.TheVariants as zone
 use Rattle.dnsv_lines.specs.declared.line.fault.zone.ZoneFault.{ZoneFault}
 use Rattle.dnsv_line_laws.specs.Lower.{lower_line}
-use Rattle.dnsv_line_laws.proofs.ReadRows.{role_read}
-use Rattle.dnsv_line_laws.proofs.Reading.{lower_sentence, read}
+use Rattle.dnsv_line_laws.proofs.back.Rows.{role_read}
+use Rattle.dnsv_line_laws.proofs.back.Reading.{lower_sentence, read}
 
 -- the reason is read back
 abbrev IsRead : Reason → Type 0

@@ -5,9 +5,9 @@ use Rattle.dnsv_lines.specs.declared.line.Line.{Line}
 use Rattle.dnsv_lines.specs.declared.line.Line.TheVariants as line
 use Rattle.dnsv_lines.specs.declared.line.fault.Reason.{Reason}
 use Rattle.dnsv_lines.specs.declared.line.fault.Reason.TheVariants as why
-use Rattle.dnsv_line_laws.proofs.Reasons.{answer_told, closer_told, denial_told, dname_told, ds_unproved_told, entry_told, not_self_signed_told, not_vouched_told, nsec3_told, signature_told, source_told, unsigned_told, zone_told}
-use Rattle.dnsv_line_laws.proofs.Rows.{case_told, follows_told, holds_told, hope_told, key_told, part_told, proof_told, rrset_told, signed_told, trusted_told, unusable_told}
-use Rattle.dnsv_line_laws.proofs.Tables.{IsTold, is_told, case_form, closer_form, denial_form, dname_form, ds_unproved_form, entry_form, follows_form, holds_form, hope_form, key_form, not_self_signed_form, not_vouched_form, nsec3_form, part_form, proof_form, rrset_form, signature_form, signed_form, source_form, trusted_form, unsigned_form, unusable_form, zone_form}
+use Rattle.dnsv_line_laws.proofs.told.Reasons.{answer_told, closer_told, denial_told, dname_told, ds_unproved_told, entry_told, not_self_signed_told, not_vouched_told, nsec3_told, signature_told, source_told, unsigned_told, zone_told}
+use Rattle.dnsv_line_laws.proofs.told.Rows.{case_told, follows_told, holds_told, hope_told, key_told, part_told, proof_told, rrset_told, signed_told, trusted_told, unusable_told}
+use Rattle.dnsv_line_laws.proofs.told.Tables.{IsTold, is_told, case_form, closer_form, denial_form, dname_form, ds_unproved_form, entry_form, follows_form, holds_form, hope_form, key_form, not_self_signed_form, not_vouched_form, nsec3_form, part_form, proof_form, rrset_form, signature_form, signed_form, source_form, trusted_form, unsigned_form, unusable_form, zone_form}
 
 pub reason_told : (x : Reason) → IsTold (reason_row x)
 reason_told (why.Zone x) = is_told zone_form _ refl (zone_told x)

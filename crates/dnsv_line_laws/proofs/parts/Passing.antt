@@ -8,10 +8,10 @@ use Rattle.dnsv_names.specs.Name.{Labels}
 use Rattle.dnsv_names.specs.Text.{label_text, octet_text, text_of}
 use Rattle.dnsv_lines.specs.Json.{escaped, quoted, string_json}
 use Rattle.dnsv_lines.specs.Salt as salt
-use Rattle.dnsv_line_laws.proofs.Digits.{AreDigits, decimal_digits}
-use Rattle.dnsv_line_laws.proofs.Forms.{clean, is_clean}
-use Rattle.dnsv_line_laws.proofs.Marks.{both_first, both_then}
-use Rattle.dnsv_line_laws.proofs.Parting.{Mode, Words, Outside, Inside, Behind, Passes, next, passes-append}
+use Rattle.dnsv_line_laws.proofs.parts.Digits.{AreDigits, decimal_digits}
+use Rattle.dnsv_line_laws.proofs.told.Forms.{clean, is_clean}
+use Rattle.dnsv_line_laws.proofs.parts.Marks.{both_first, both_then}
+use Rattle.dnsv_line_laws.proofs.parts.Parting.{Mode, Words, Outside, Inside, Behind, Passes, next, passes-append}
 
 -- ---- octets
 

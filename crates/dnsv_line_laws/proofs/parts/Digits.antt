@@ -2,7 +2,7 @@
 use Rattle.std.proofs.Common.{◌≡◌, ℕ, suc, zero, ◌<◌, ◌≤◌, ◌+◌, ◌/◌, ◌%◌, ◌==◌, Bool, true, false, cond, List, [], ◌∷◌, nat_lt, arith, refl, sym, subst}
 use Rattle.std.proofs.lemmas.Bool.Decides.{nat_tests}
 use Rattle.std.specs.Fmt.{decimal, digit_glyph, digits, digits_onto}
-use Rattle.dnsv_line_laws.proofs.Tables.{begins_letter}
+use Rattle.dnsv_line_laws.proofs.told.Tables.{begins_letter}
 
 -- each octet is a digit
 pub record IsDigit (c : ℕ) : Type 0 where

@@ -1,0 +1,5 @@
+-- Back from a sentence to its line.
+pub mod Lines
+pub mod Reading
+pub mod Reasons
+pub mod Rows
