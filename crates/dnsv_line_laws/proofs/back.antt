@@ -3,3 +3,4 @@ pub mod Lines
 pub mod Reading
 pub mod Reasons
 pub mod Rows
+pub mod Texts
