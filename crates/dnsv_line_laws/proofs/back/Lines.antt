@@ -1,5 +1,5 @@
 -- Sentences that are alike are of the same line.
-use Rattle.std.proofs.Common.{◌≡◌, ℕ, List, [], ◌∷◌, map, refl, sym, ap, ◌∙◌}
+use Rattle.std.proofs.Common.{◌≡◌, List, [], ◌∷◌, map, refl, sym, ap, ◌∙◌}
 use Rattle.dnsv_lines.specs.Rows.{sentence_of}
 use Rattle.dnsv_lines.specs.Sentence.{Said, Name, Number, Rrset, Word, Salt, Nothing, SaidField, SaidSentence}
 use Rattle.dnsv_lines.specs.declared.line.Line.{Line}

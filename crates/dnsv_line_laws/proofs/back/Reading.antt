@@ -1,5 +1,5 @@
 -- A line is read back from its sentence.
-use Rattle.std.proofs.Common.{◌≡◌, ℕ, ◌==◌, ◌+◌, ◌||◌, ◌&&◌, Bool, true, false, cond, List, [], ◌∷◌, Option, Some, None, codes, get_or, map}
+use Rattle.std.proofs.Common.{ℕ, ◌==◌, ◌+◌, ◌||◌, ◌&&◌, Bool, false, cond, List, [], ◌∷◌, Option, Some, None, codes, get_or, map}
 use Rattle.dnsv_names.specs.Name.{Labels, lower_case}
 use Rattle.dnsv_message.specs.declared.record.Section.{Section}
 use Rattle.dnsv_message.specs.declared.record.Section.TheVariants as section
@@ -11,26 +11,20 @@ use Rattle.dnsv_lines.specs.declared.line.Kind.{Kind}
 use Rattle.dnsv_lines.specs.declared.line.Kind.TheVariants as kind
 use Rattle.dnsv_lines.specs.declared.line.Line.{Line}
 use Rattle.dnsv_lines.specs.declared.line.Line.TheVariants as line
-use Rattle.dnsv_lines.specs.declared.line.cut.Cut.{Cut}
 use Rattle.dnsv_lines.specs.declared.line.cut.InsecureCase.{InsecureCase}
 use Rattle.dnsv_lines.specs.declared.line.cut.InsecureCase.TheVariants as case
-use Rattle.dnsv_lines.specs.declared.line.cut.UnusableDs.{UnusableDs}
 use Rattle.dnsv_lines.specs.declared.line.cut.WhyUnusable.{WhyUnusable}
 use Rattle.dnsv_lines.specs.declared.line.cut.WhyUnusable.TheVariants as unusable
 use Rattle.dnsv_lines.specs.declared.line.denial.Chain.{Chain}
 use Rattle.dnsv_lines.specs.declared.line.denial.Chain.TheVariants as chain
 use Rattle.dnsv_lines.specs.declared.line.denial.Form.{Form}
 use Rattle.dnsv_lines.specs.declared.line.denial.Form.TheVariants as form
-use Rattle.dnsv_lines.specs.declared.line.denial.Part.{Part}
-use Rattle.dnsv_lines.specs.declared.line.denial.Proof.{Proof}
 use Rattle.dnsv_lines.specs.declared.line.denial.RecordPlace.{RecordPlace}
 use Rattle.dnsv_lines.specs.declared.line.denial.Relation.{Relation}
 use Rattle.dnsv_lines.specs.declared.line.denial.Relation.TheVariants as relation
 use Rattle.dnsv_lines.specs.declared.line.denial.Role.{Role}
 use Rattle.dnsv_lines.specs.declared.line.denial.Role.TheVariants as role
 use Rattle.dnsv_lines.specs.declared.line.derivation.KeyName.{KeyName}
-use Rattle.dnsv_lines.specs.declared.line.derivation.SignedRrset.{SignedRrset}
-use Rattle.dnsv_lines.specs.declared.line.derivation.TrustedKeys.{TrustedKeys}
 use Rattle.dnsv_lines.specs.declared.line.derivation.Voucher.{Voucher}
 use Rattle.dnsv_lines.specs.declared.line.derivation.Voucher.TheVariants as voucher
 use Rattle.dnsv_lines.specs.declared.line.fault.Reason.{Reason}
@@ -39,7 +33,6 @@ use Rattle.dnsv_lines.specs.declared.line.fault.denial.WhyNsec3.{WhyNsec3}
 use Rattle.dnsv_lines.specs.declared.line.fault.denial.WhyNsec3.TheVariants as nsec3
 use Rattle.dnsv_lines.specs.declared.line.fault.denial.WhySource.{WhySource}
 use Rattle.dnsv_lines.specs.declared.line.fault.denial.WhySource.TheVariants as source
-use Rattle.dnsv_lines.specs.declared.line.fault.key.ShownKey.{ShownKey}
 use Rattle.dnsv_lines.specs.declared.line.fault.signature.ShownSignature.{ShownSignature}
 use Rattle.dnsv_lines.specs.declared.line.fault.signature.SignatureTimes.{SignatureTimes}
 use Rattle.dnsv_lines.specs.declared.line.fault.signature.WhySignature.{WhySignature}
@@ -50,8 +43,6 @@ use Rattle.dnsv_lines.specs.declared.line.fault.zone.WhyEntry.{WhyEntry}
 use Rattle.dnsv_lines.specs.declared.line.fault.zone.WhyEntry.TheVariants as entry
 use Rattle.dnsv_lines.specs.declared.line.fault.zone.WhyZone.{WhyZone}
 use Rattle.dnsv_lines.specs.declared.line.fault.zone.WhyZone.TheVariants as zone
-use Rattle.dnsv_lines.specs.declared.line.interval.Interval.{Interval}
-use Rattle.dnsv_lines.specs.declared.line.place.RrsetPlace.{RrsetPlace}
 use Rattle.dnsv_line_laws.proofs.parts.Marks.{same}
 
 -- ---- a sentence with its names in lower case

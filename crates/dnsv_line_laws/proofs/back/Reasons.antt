@@ -1,36 +1,26 @@
 -- Each line that says what fails is read back.
-use Rattle.std.proofs.Common.{◌≡◌, ℕ, Option, Some, None, refl, ap}
+use Rattle.std.proofs.Common.{◌≡◌, ℕ, Option, Some, None, refl}
 use Rattle.dnsv_records.specs.declared.nsec3.Nsec3Parameters.{Nsec3Parameters}
 use Rattle.dnsv_records.specs.declared.number.DigestType.{DigestType}
-use Rattle.dnsv_canonical.specs.declared.number.RecordNumber.{RecordNumber}
 use Rattle.dnsv_names.specs.Name.{Labels}
 use Rattle.dnsv_lines.specs.Rows.{sentence_of}
-use Rattle.dnsv_lines.specs.declared.line.Line.{Line}
 use Rattle.dnsv_lines.specs.declared.line.Line.TheVariants as line
 use Rattle.dnsv_lines.specs.declared.line.fault.Reason.{Reason}
 use Rattle.dnsv_lines.specs.declared.line.fault.Reason.TheVariants as why
-use Rattle.dnsv_lines.specs.declared.line.fault.denial.DenialUnproved.{DenialUnproved}
 use Rattle.dnsv_lines.specs.declared.line.fault.denial.DnameAbove.{DnameAbove}
 use Rattle.dnsv_lines.specs.declared.line.fault.denial.MissingAnswer.{MissingAnswer}
-use Rattle.dnsv_lines.specs.declared.line.fault.denial.Source.{Source}
 use Rattle.dnsv_lines.specs.declared.line.fault.denial.SourceFault.{SourceFault}
 use Rattle.dnsv_lines.specs.declared.line.fault.denial.UnusableNsec3.{UnusableNsec3}
 use Rattle.dnsv_lines.specs.declared.line.fault.denial.WhyNsec3.{WhyNsec3}
 use Rattle.dnsv_lines.specs.declared.line.fault.denial.WhyNsec3.TheVariants as nsec3
 use Rattle.dnsv_lines.specs.declared.line.fault.denial.WhySource.{WhySource}
 use Rattle.dnsv_lines.specs.declared.line.fault.denial.WhySource.TheVariants as source
-use Rattle.dnsv_lines.specs.declared.line.fault.signature.CloserName.{CloserName}
 use Rattle.dnsv_lines.specs.declared.line.fault.signature.SignatureFault.{SignatureFault}
-use Rattle.dnsv_lines.specs.declared.line.fault.signature.UnsignedRrset.{UnsignedRrset}
 use Rattle.dnsv_lines.specs.declared.line.fault.signature.WhySignature.{WhySignature}
 use Rattle.dnsv_lines.specs.declared.line.fault.signature.WhySignature.TheVariants as signature
-use Rattle.dnsv_lines.specs.declared.line.fault.zone.DsUnproved.{DsUnproved}
-use Rattle.dnsv_lines.specs.declared.line.fault.zone.Entry.{Entry}
 use Rattle.dnsv_lines.specs.declared.line.fault.zone.EntryFault.{EntryFault}
 use Rattle.dnsv_lines.specs.declared.line.fault.zone.EntryNumber.{EntryNumber}
 use Rattle.dnsv_lines.specs.declared.line.fault.zone.EntryNumber.TheVariants as number
-use Rattle.dnsv_lines.specs.declared.line.fault.zone.KeyWithoutSignature.{KeyWithoutSignature}
-use Rattle.dnsv_lines.specs.declared.line.fault.zone.KeysNotVouched.{KeysNotVouched}
 use Rattle.dnsv_lines.specs.declared.line.fault.zone.WhyEntry.{WhyEntry}
 use Rattle.dnsv_lines.specs.declared.line.fault.zone.WhyEntry.TheVariants as entry
 use Rattle.dnsv_lines.specs.declared.line.fault.zone.WhyZone.{WhyZone}

@@ -5,7 +5,7 @@ use Rattle.dnsv_message.specs.declared.record.Section.TheVariants as section
 use Rattle.dnsv_canonical.specs.declared.number.RecordNumber.{RecordNumber}
 use Rattle.dnsv_names.specs.Name.{Labels, lower_case}
 use Rattle.dnsv_lines.specs.Rows.{sentence_of}
-use Rattle.dnsv_lines.specs.Words.{case_number, chain_word, form_word, relation_word, role_word, section_number, why_word}
+use Rattle.dnsv_lines.specs.Words.{chain_word, form_word, relation_word, role_word, section_number}
 use Rattle.dnsv_lines.specs.declared.line.Kind.{Kind}
 use Rattle.dnsv_lines.specs.declared.line.Kind.TheVariants as kind
 use Rattle.dnsv_lines.specs.declared.line.Line.{Line}
@@ -36,7 +36,7 @@ use Rattle.dnsv_lines.specs.declared.line.fault.signature.UntrustedSigner.{Untru
 use Rattle.dnsv_lines.specs.declared.line.interval.Interval.{Interval}
 use Rattle.dnsv_lines.specs.declared.line.place.RrsetPlace.{RrsetPlace}
 use Rattle.dnsv_line_laws.specs.Lower.{lower_line}
-use Rattle.dnsv_line_laws.proofs.back.Reading.{case_in, chain_in, form_in, lower_sentence, read, relation_in, role_in, section_in, unusable_in}
+use Rattle.dnsv_line_laws.proofs.back.Reading.{chain_in, form_in, lower_sentence, read, relation_in, role_in, section_in}
 
 -- the line is read back
 abbrev IsRead : Line → Type 0

@@ -1,12 +1,12 @@
 -- Lines that are the same have one text, and one object of JSON.
-use Rattle.std.proofs.Common.{◌≡◌, ℕ, false, List, [], ◌∷◌, ◌++◌, Option, Some, None, codes, map, refl, sym, ap, ap₂, ◌∙◌}
+use Rattle.std.proofs.Common.{◌≡◌, ℕ, List, [], ◌∷◌, ◌++◌, Option, Some, None, codes, map, refl, sym, ap, ap₂, ◌∙◌}
 use Rattle.std.proofs.lemmas.Str.Ascii.{lowercase-lowercase}
 use Rattle.std.specs.Char.{to_ascii_lowercase}
 use Rattle.std.specs.List.{flat_map}
 use Rattle.dnsv_names.specs.Name.{Labels, lower_case}
-use Rattle.dnsv_lines.specs.Json.{member, name_json, object, quoted}
+use Rattle.dnsv_lines.specs.Json.{member, object, quoted}
 use Rattle.dnsv_lines.specs.Rows.{line_json, line_text, sentence_of}
-use Rattle.dnsv_lines.specs.Sentence.{Said, Name, Number, Rrset, Word, Salt, Nothing, SaidField, SaidSentence, field_members, field_text, json_of_sentence, keyed_members, labelled_text, lower_text, plain, text_of_sentence}
+use Rattle.dnsv_lines.specs.Sentence.{Said, Name, Number, Rrset, Word, Salt, Nothing, SaidField, SaidSentence, field_members, field_text, json_of_sentence, keyed_members, labelled_text, plain, text_of_sentence}
 use Rattle.dnsv_lines.specs.declared.line.Line.{Line}
 use Rattle.dnsv_lines.specs.declared.line.Line.TheVariants as line
 use Rattle.dnsv_lines.specs.declared.line.denial.Part.{Part}
@@ -16,7 +16,7 @@ use Rattle.dnsv_lines.specs.declared.line.cut.Cut.{Cut}
 use Rattle.dnsv_lines.specs.declared.line.fault.Reason.{Reason}
 use Rattle.dnsv_lines.specs.declared.line.fault.Reason.TheVariants as why
 use Rattle.dnsv_lines.specs.declared.line.fault.denial.MissingAnswer.{MissingAnswer}
-use Rattle.dnsv_line_laws.specs.Lower.{SameLine, lower_line, lower_reason}
+use Rattle.dnsv_line_laws.specs.Lower.{SameLine, lower_line}
 use Rattle.dnsv_line_laws.proofs.back.Reading.{lower_field, lower_said, lower_sentence}
 
 -- ---- names
