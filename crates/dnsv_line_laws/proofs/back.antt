@@ -1,6 +1,4 @@
 -- Back from a sentence to its line.
 pub mod Lines
 pub mod Reading
-pub mod Reasons
-pub mod Rows
 pub mod Texts

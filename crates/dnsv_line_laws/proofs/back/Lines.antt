@@ -6,24 +6,8 @@ use Rattle.dnsv_lines.specs.declared.line.Line.{Line}
 use Rattle.dnsv_lines.specs.declared.line.Line.TheVariants as line
 use Rattle.dnsv_line_laws.proofs.Alike.{AreAlike, AreFieldsAlike, IsFieldAlike, SayAlike}
 use Rattle.dnsv_line_laws.specs.Lower.{SameLine, lower_line}
-use Rattle.dnsv_line_laws.proofs.back.Reasons.{reason_read}
-use Rattle.dnsv_line_laws.proofs.back.Rows.{case_read, follows_read, holds_read, hope_read, key_read, part_read, proof_read, rrset_read, signed_read, trusted_read, unusable_read}
+use Rattle.dnsv_line_laws.proofs.told.Lines.{line_told}
 use Rattle.dnsv_line_laws.proofs.back.Reading.{lower_field, lower_said, lower_sentence, read}
-
--- each line is read back
-line_read : (x : Line) → read (lower_sentence (sentence_of x)) ≡ lower_line x
-line_read (line.Trusted x) = trusted_read x
-line_read (line.Signed x) = signed_read x
-line_read (line.Proof x) = proof_read x
-line_read (line.Part x) = part_read x
-line_read (line.Case x) = case_read x
-line_read (line.Unusable x) = unusable_read x
-line_read (line.Hope x) = hope_read x
-line_read (line.Holds x) = holds_read x
-line_read (line.Reason x) = reason_read x
-line_read (line.Follows x) = follows_read x
-line_read (line.Key x) = key_read x
-line_read (line.Rrset x) = rrset_read x
 
 -- what is alike is the same with names in lower case
 same_said : (x y : Said) → SayAlike x y → lower_said x ≡ lower_said y
@@ -54,4 +38,4 @@ same_sentence a b is = λ i. record {
 
 -- lines whose sentences are alike are the same
 pub same_line : (a b : Line) → AreAlike (sentence_of a) (sentence_of b) → SameLine a b
-same_line a b is = sym (line_read a) ∙ ap read (same_sentence (sentence_of a) (sentence_of b) is) ∙ line_read b
+same_line a b is = sym ((line_told a).back) ∙ ap read (same_sentence (sentence_of a) (sentence_of b) is) ∙ (line_told b).back
