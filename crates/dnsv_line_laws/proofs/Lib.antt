@@ -1,7 +1,7 @@
-mod Alike
 mod Meaning
 mod OneLine
+mod Reading
+mod Texts
 mod Types
-mod back
 mod parts
 mod told

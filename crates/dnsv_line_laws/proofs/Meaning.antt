@@ -14,7 +14,7 @@ use Rattle.dnsv_lines.specs.Json.{escaped, name_json, quoted}
 use Rattle.dnsv_lines.specs.Salt.{octet_text, salt_text}
 use Rattle.dnsv_lines.specs.Sentence.{Said, Name, Number, Rrset, Word, Salt, Nothing, lower_text}
 use Rattle.dnsv_line_laws.specs.Types.{IsOfItsType}
-use Rattle.dnsv_line_laws.proofs.Alike.{SayAlike}
+use Rattle.dnsv_line_laws.proofs.Reading.{lower_said}
 use Rattle.dnsv_line_laws.proofs.told.Forms.{AName, ANumber, AnRrset, AWord, ASalt, Kind, json_value, of_kind, text_value}
 
 -- ---- names
@@ -96,26 +96,26 @@ inside : {x y : List ℕ} → Some x ≡ Some y → x ≡ y
 inside {x} {y} is = cc
 
 pub text_alike : (kind : Kind) (x y : Said) → of_kind kind x ≡ true → of_kind kind y ≡ true → IsOfItsType x → IsOfItsType y
-    → text_value x ≡ text_value y → SayAlike x y
-text_alike AName (Name a) (Name b) p q so too is = same_text a b so too (inside is)
+    → text_value x ≡ text_value y → lower_said x ≡ lower_said y
+text_alike AName (Name a) (Name b) p q so too is = ap Name (same_text a b so too (inside is))
 text_alike AName (Name a) y p q so too is = cc
-text_alike AName Nothing Nothing p q so too is = tt
+text_alike AName Nothing Nothing p q so too is = refl
 text_alike AName x y p q so too is = cc
-text_alike ANumber (Number a) (Number b) p q so too is = decimal_injective a b so too (inside is)
+text_alike ANumber (Number a) (Number b) p q so too is = ap Number (decimal_injective a b so too (inside is))
 text_alike ANumber (Number a) y p q so too is = cc
-text_alike ANumber Nothing Nothing p q so too is = tt
+text_alike ANumber Nothing Nothing p q so too is = refl
 text_alike ANumber x y p q so too is = cc
-text_alike AnRrset (Rrset a) (Rrset b) p q so too is = decimal_injective a b so too (inside is)
+text_alike AnRrset (Rrset a) (Rrset b) p q so too is = ap Rrset (decimal_injective a b so too (inside is))
 text_alike AnRrset (Rrset a) y p q so too is = cc
-text_alike AnRrset Nothing Nothing p q so too is = tt
+text_alike AnRrset Nothing Nothing p q so too is = refl
 text_alike AnRrset x y p q so too is = cc
-text_alike AWord (Word a) (Word b) p q so too is = inside is
+text_alike AWord (Word a) (Word b) p q so too is = ap Word (inside is)
 text_alike AWord (Word a) y p q so too is = cc
-text_alike AWord Nothing Nothing p q so too is = tt
+text_alike AWord Nothing Nothing p q so too is = refl
 text_alike AWord x y p q so too is = cc
-text_alike ASalt (Salt a) (Salt b) p q so too is = same_salt a b (inside is)
+text_alike ASalt (Salt a) (Salt b) p q so too is = ap Salt (same_salt a b (inside is))
 text_alike ASalt (Salt a) y p q so too is = cc
-text_alike ASalt Nothing Nothing p q so too is = tt
+text_alike ASalt Nothing Nothing p q so too is = refl
 text_alike ASalt x y p q so too is = cc
 
 -- values of one JSON have one text

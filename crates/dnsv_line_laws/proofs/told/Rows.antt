@@ -33,7 +33,7 @@ use Rattle.dnsv_lines.specs.declared.line.fault.key.ShownKey.{ShownKey}
 use Rattle.dnsv_lines.specs.declared.line.fault.signature.UntrustedSigner.{UntrustedSigner}
 use Rattle.dnsv_lines.specs.declared.line.interval.Interval.{Interval}
 use Rattle.dnsv_lines.specs.declared.line.place.RrsetPlace.{RrsetPlace}
-use Rattle.dnsv_line_laws.proofs.back.Reading.{case_in, chain_in, form_in, relation_in, role_in, section_in}
+use Rattle.dnsv_line_laws.proofs.Reading.{case_in, chain_in, form_in, relation_in, role_in, section_in}
 use Rattle.dnsv_line_laws.proofs.told.Forms.{clean}
 use Rattle.dnsv_line_laws.proofs.told.Tables.{Told, case_form, follows_form, holds_form, hope_form, key_form, part_form, proof_form, rrset_form, signed_form, trusted_form, unusable_form}
 

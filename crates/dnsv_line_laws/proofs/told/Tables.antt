@@ -5,7 +5,7 @@ use Rattle.dnsv_lines.specs.Rows.{sentence_of}
 use Rattle.dnsv_lines.specs.Sentence.{SaidSentence}
 use Rattle.dnsv_lines.specs.declared.line.Line.{Line}
 use Rattle.dnsv_line_laws.specs.Lower.{lower_line}
-use Rattle.dnsv_line_laws.proofs.back.Reading.{lower_sentence, read}
+use Rattle.dnsv_line_laws.proofs.Reading.{lower_sentence, read}
 use Rattle.dnsv_line_laws.proofs.told.Forms.{Form, Slot, AName, ANumber, AnRrset, AWord, ASalt, bare, behind, fits, is_good, json_fields, json_slots, json_words, laid, own, plain_form, reason_form, saids, text_fields, text_slots, text_words}
 use Rattle.dnsv_line_laws.proofs.parts.Marks.{same}
 

@@ -17,7 +17,7 @@ use Rattle.dnsv_lines.specs.declared.line.fault.Reason.{Reason}
 use Rattle.dnsv_lines.specs.declared.line.fault.Reason.TheVariants as why
 use Rattle.dnsv_lines.specs.declared.line.fault.denial.MissingAnswer.{MissingAnswer}
 use Rattle.dnsv_line_laws.specs.Lower.{SameLine, lower_line}
-use Rattle.dnsv_line_laws.proofs.back.Reading.{lower_field, lower_said, lower_sentence}
+use Rattle.dnsv_line_laws.proofs.Reading.{lower_field, lower_said, lower_sentence}
 
 -- ---- names
 
