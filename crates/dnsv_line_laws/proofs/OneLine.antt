@@ -56,10 +56,12 @@ alike_known value marks slots xs ys one differ a b is =
 
 -- ---- what a line's form gives
 
+-- by what is said
 types_of : (fields : List SaidField) → AllByRecursion (λ field. IsOfItsType field.said) fields → AllByRecursion IsOfItsType (saids fields)
 types_of [] are = tt
 types_of (field ∷ fields) are = (are.0, types_of fields are.1)
 
+-- of a word or nothing no more is known
 word_type : (x : Said) → of_kind AWord x ≡ true → IsOfItsType x
 word_type (Name name) is = cc
 word_type (Number number) is = cc
@@ -68,9 +70,11 @@ word_type (Word word) is = tt
 word_type (Salt salt) is = tt
 word_type Nothing is = tt
 
+-- small numbers have at most 64 bits
 less : (n : ℕ) → nat_lt n 64 ≡ true → n < 2 ^ 64
 less n is = let small : n < 64 = grind (arith, nat_tests) in omega arith
 
+-- a small number, or nothing
 number_type : (x : Said) → of_kind ANumber x ≡ true → is_small x ≡ true → IsOfItsType x
 number_type (Name name) is small = cc
 number_type (Number number) is small = less number small

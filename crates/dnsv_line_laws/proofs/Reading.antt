@@ -63,9 +63,11 @@ lower_sentence s = record { line = s.line; word = lower_said s.word; error = low
 
 -- ---- what a field says
 
+-- what the field at this place says
 abbrev pub at : List SaidField → ℕ → Said
 at fields i = get_or (map (λ field. field.said) fields) i Nothing
 
+-- a name or a number, where there is one
 abbrev pub name_if : Said → Option Labels
 name_if (Name name) = Some name
 name_if _ = None
@@ -75,6 +77,7 @@ number_if (Number number) = Some number
 number_if (Rrset number) = Some number
 number_if _ = None
 
+-- a name, a number, a word or a salt, by a default where there is none
 abbrev pub name_in : Said → Labels
 name_in (Name name) = name
 name_in _ = []
@@ -189,12 +192,14 @@ section_in number = cond (number == 1) section.Answer (cond (number == 2) sectio
 
 -- ---- parts of several fields
 
+-- a key by its tag and its algorithm, and a record by its RRset and its place
 abbrev pub key_at : List SaidField → ℕ → KeyName
 key_at fields i = record { tag = record { 0 = number_in (at fields i) }; algorithm = record { 0 = number_in (at fields (i + 1)) } }
 
 abbrev pub record_at : List SaidField → ℕ → RecordNumber
 record_at fields i = record { rrset = number_in (at fields i); place = number_in (at fields (i + 1)) }
 
+-- what a line may have or not
 abbrev pub digest_if : Option ℕ → Option DigestType
 digest_if None = None
 digest_if (Some digest) = Some (record { 0 = digest })
@@ -207,6 +212,7 @@ abbrev pub place_if : Option Labels → ℕ → RecordNumber → Option RecordPl
 place_if None rtype number = None
 place_if (Some owner) rtype number = Some (record { owner = owner; rtype = record { 0 = rtype }; number = number })
 
+-- what matches a key, and the entry that matches none
 abbrev pub voucher_in : Option ℕ → RecordNumber → Option ℕ → Voucher
 voucher_in (Some anchor) ds None = voucher.KeyAnchor anchor
 voucher_in (Some anchor) ds (Some digest) = voucher.DsAnchor anchor (record { 0 = digest })
@@ -221,6 +227,7 @@ abbrev pub parameters_if : Option ℕ → List ℕ → Option Nsec3Parameters
 parameters_if None salt = None
 parameters_if (Some count) salt = Some (record { iterations = record { 0 = count }; salt = salt })
 
+-- a signature with the key that it names
 abbrev pub shown_in : List SaidField → ShownSignature
 shown_in fields = record {
   owner = name_in (at fields 0);
@@ -232,14 +239,17 @@ shown_in fields = record {
 
 -- ---- reasons
 
+-- the word is one of these
 abbrev pub one_of : List ℕ → List (List ℕ) → Bool
 one_of word [] = false
 one_of word (other ∷ others) = same word other || one_of word others
 
+-- the key of the first field
 abbrev pub first_key : List SaidField → List ℕ
 first_key [] = []
 first_key (field ∷ fields) = field.key
 
+-- by the word of what fails
 abbrev pub read_reason : List ℕ → List SaidField → Reason
 read_reason word fields =
     cond (one_of word (codes "no-anchor" ∷ codes "dnskey-missing" ∷ codes "ds-missing" ∷ []))
@@ -285,6 +295,7 @@ read_reason word fields =
 
 -- ---- lines
 
+-- by the first word
 abbrev pub read_fields : List ℕ → List ℕ → List SaidField → Line
 read_fields first word fields =
     cond (same first (codes "trusted")) (line.Trusted (record {
@@ -345,5 +356,6 @@ read_fields first word fields =
     }))
     (line.Reason (read_reason word fields))))))))))))
 
+-- the line of a sentence
 abbrev pub read : SaidSentence → Line
 read s = read_fields s.line (word_in s.word) s.fields

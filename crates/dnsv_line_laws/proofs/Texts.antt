@@ -32,6 +32,7 @@ twice (label ∷ name) = ap₂ (λ l n. l ∷ n) (label_twice label) (twice name
 
 -- ---- texts don't tell the case of letters
 
+-- of a field
 said_text : (label : Option (List ℕ)) (said : Said) → labelled_text label (lower_said said) ≡ labelled_text label said
 said_text label (Name name) = rw (twice name)
 said_text label (Number number) = refl
@@ -40,13 +41,16 @@ said_text label (Word word) = refl
 said_text label (Salt salt) = refl
 said_text label Nothing = refl
 
+-- of fields
 fields_text : (fields : List SaidField) → flat_map field_text (map lower_field fields) ≡ flat_map field_text fields
 fields_text [] = refl
 fields_text (field ∷ fields) = ap₂ (λ t rest. t ++ rest) (said_text field.label field.said) (fields_text fields)
 
+-- of a sentence
 sentence_text : (s : SaidSentence) → text_of_sentence (lower_sentence s) ≡ text_of_sentence s
 sentence_text s = ap (λ t. s.line ++ t) (fields_text (plain (codes "ede") s.error ∷ plain (codes "word") s.word ∷ s.fields))
 
+-- in JSON of a field
 said_json : (key : List ℕ) (said : Said) → keyed_members key (lower_said said) ≡ keyed_members key said
 said_json key (Name name) = rw (twice name)
 said_json key (Number number) = refl
@@ -55,10 +59,12 @@ said_json key (Word word) = refl
 said_json key (Salt salt) = refl
 said_json key Nothing = refl
 
+-- of fields
 fields_json : (fields : List SaidField) → flat_map field_members (map lower_field fields) ≡ flat_map field_members fields
 fields_json [] = refl
 fields_json (field ∷ fields) = ap₂ (λ t rest. t ++ rest) (said_json field.key field.said) (fields_json fields)
 
+-- of a sentence
 sentence_json : (s : SaidSentence) → json_of_sentence (lower_sentence s) ≡ json_of_sentence s
 sentence_json s =
     ap (λ members. object (member (codes "line") (quoted s.line) ∷ members))
@@ -66,9 +72,11 @@ sentence_json s =
 
 -- ---- a line and the same in lower case say the same
 
+-- what a line says in lower case is what the line in lower case says
 abbrev IsLowered : Line → Type 0
 IsLowered x = lower_sentence (sentence_of (lower_line x)) ≡ lower_sentence (sentence_of x)
 
+-- of lines that may have another name
 proof_lowered : (x : Proof) (given : Option Labels) → IsLowered (line.Proof (record x { encloser = given }))
 proof_lowered x None = rw (twice x.zone)
 proof_lowered x (Some name) = rw (twice x.zone, twice name)
@@ -85,6 +93,7 @@ answer_lowered : (x : MissingAnswer) (given : Option Labels) → IsLowered (line
 answer_lowered x None = rw (twice x.name)
 answer_lowered x (Some name) = rw (twice x.name, twice name)
 
+-- of what fails
 reason_lowered : (x : Reason) → IsLowered (line.Reason x)
 reason_lowered (why.Zone x) = rw (twice x.zone)
 reason_lowered (why.Entry x) = rw (twice x.entry.zone)
@@ -100,6 +109,7 @@ reason_lowered (why.DenialUnproved x) = rw (twice x.name, twice x.zone)
 reason_lowered (why.NotVouched x) = rw (twice x.zone)
 reason_lowered (why.DsUnproved x) = rw (twice x.name, twice x.zone)
 
+-- of each line
 lowered : (x : Line) → IsLowered x
 lowered (line.Trusted x) = rw (twice x.zone)
 lowered (line.Signed x) = rw (twice x.owner, twice x.zone)
@@ -121,6 +131,7 @@ lower_line_text x = sym (sentence_text (sentence_of (lower_line x))) ∙ ap text
 lower_line_json : (x : Line) → line_json (lower_line x) ≡ line_json x
 lower_line_json x = sym (sentence_json (sentence_of (lower_line x))) ∙ ap json_of_sentence (lowered x) ∙ sentence_json (sentence_of x)
 
+-- lines that are the same have one text, and one object of JSON
 pub text_of_same : (a b : Line) → SameLine a b → line_text a ≡ line_text b
 text_of_same a b is = sym (lower_line_text a) ∙ ap line_text is ∙ lower_line_text b
 

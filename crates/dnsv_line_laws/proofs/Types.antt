@@ -25,6 +25,7 @@ fields_said : (fields : List Field) → AllByRecursion (λ field. IsOfItsType (s
 fields_said [] are = tt
 fields_said (field ∷ fields) are = (are.0, fields_said fields are.1)
 
+-- what a line says, by its fields as they are kept
 pub sentence_said : (kept : Sentence) (fields : List Field) (s : SaidSentence) → said_sentence kept ≡ s → fields ≡ kept.fields.items
     → AllByRecursion (λ field. IsOfItsType (said field.value)) fields → AreOfTheirTypes s
 sentence_said kept fields s is same are =

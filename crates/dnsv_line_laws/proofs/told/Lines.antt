@@ -8,6 +8,7 @@ use Rattle.dnsv_line_laws.proofs.told.Reasons.{answer_told, closer_told, denial_
 use Rattle.dnsv_line_laws.proofs.told.Rows.{case_told, follows_told, holds_told, hope_told, key_told, part_told, proof_told, rrset_told, signed_told, trusted_told, unusable_told}
 use Rattle.dnsv_line_laws.proofs.told.Tables.{IsLine, is_line, case_form, closer_form, denial_form, dname_form, ds_unproved_form, entry_form, follows_form, holds_form, hope_form, key_form, not_self_signed_form, not_vouched_form, nsec3_form, part_form, proof_form, rrset_form, signature_form, signed_form, source_form, trusted_form, unsigned_form, unusable_form, zone_form}
 
+-- what fails
 pub reason_told : (x : Reason) → IsLine (line.Reason x)
 reason_told (why.Zone x) = is_line zone_form _ refl (zone_told x)
 reason_told (why.Entry x) = is_line entry_form _ refl (entry_told x)
@@ -23,6 +24,7 @@ reason_told (why.DenialUnproved x) = is_line denial_form _ refl (denial_told x)
 reason_told (why.NotVouched x) = is_line not_vouched_form _ refl (not_vouched_told x)
 reason_told (why.DsUnproved x) = is_line ds_unproved_form _ refl (ds_unproved_told x)
 
+-- each line
 pub line_told : (x : Line) → IsLine x
 line_told (line.Trusted x) = is_line trusted_form _ refl (trusted_told x)
 line_told (line.Signed x) = is_line signed_form _ refl (signed_told x)

@@ -39,6 +39,7 @@ use Rattle.dnsv_line_laws.proofs.told.Tables.{Told, case_form, follows_form, hol
 
 -- ---- words that are said within lines
 
+-- each is clean
 form_clean : (x : Form) → clean (form_word x) ≡ true
 form_clean form.NoName = refl
 form_clean form.NoData1 = refl

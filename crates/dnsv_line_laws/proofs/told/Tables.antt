@@ -121,6 +121,7 @@ pub record Row : Type 0 where
   pub word : List ℕ
   pub form : Form
 
+-- a word and its form
 abbrev pub row : List ℕ → Form → Row
 row word form = record { word = word; form = form }
 
@@ -158,6 +159,7 @@ look written word (row ∷ rows) = cond (same word (written row.word)) row.form 
 abbrev pub is_shared : (List ℕ → List ℕ) → List ℕ → Bool
 is_shared written word = same word (written (codes "algorithm")) || same word (written (codes "key-missing"))
 
+-- by the first word, and of a reason by its word
 abbrev pub form_by : (List ℕ → List ℕ) → List ℕ → List ℕ → Bool → Form
 form_by written line word of_entry =
     cond (same line (written (codes "reason")))
@@ -204,6 +206,7 @@ pub record IsLine (x : Line) : Type 0 where
   pub told : IsTold (sentence_of x)
   pub back : read (lower_sentence (sentence_of x)) ≡ lower_line x
 
+-- a line by its form
 pub is_line : (form : Form) (x : Line) → is_good form ≡ true → Told form x → IsLine x
 is_line form x good is = record {
   told = record { form = form; good = good; text = is.0; json = is.1; fits = is.2; by_text = is.3; by_json = is.4 };
