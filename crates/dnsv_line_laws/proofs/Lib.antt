@@ -1,13 +1,7 @@
-mod Digits
-mod Forms
-mod Lines
-mod Marks
 mod Meaning
 mod OneLine
-mod Parting
-mod Passing
-mod Reasons
-mod Rows
-mod Splitting
-mod Tables
+mod Reading
+mod Texts
 mod Types
+mod parts
+mod told

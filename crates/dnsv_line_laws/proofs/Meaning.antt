@@ -13,8 +13,10 @@ use Rattle.dnsv_names.specs.Text.{IsTextOf}
 use Rattle.dnsv_lines.specs.Json.{escaped, name_json, quoted}
 use Rattle.dnsv_lines.specs.Salt.{octet_text, salt_text}
 use Rattle.dnsv_lines.specs.Sentence.{Said, Name, Number, Rrset, Word, Salt, Nothing, lower_text}
-use Rattle.dnsv_line_laws.specs.Alike.{IsOfItsType, SayAlike}
-use Rattle.dnsv_line_laws.proofs.Forms.{AName, ANumber, AnRrset, AWord, ASalt, Kind, json_value, of_kind, text_value}
+use Rattle.dnsv_line_laws.specs.Types.{IsOfItsType}
+use Rattle.dnsv_line_laws.proofs.Reading.{lower_said}
+use Rattle.dnsv_line_laws.proofs.parts.Passing.{no_slash}
+use Rattle.dnsv_line_laws.proofs.told.Forms.{AName, ANumber, AnRrset, AWord, ASalt, Kind, json_value, of_kind, text_value}
 
 -- ---- names
 
@@ -32,31 +34,38 @@ same_text a b name_a name_b is =
 abbrev value_of : ℕ → ℕ
 value_of c = cond (nat_lt c 58) (c - 48) (c - 87)
 
+-- a digit stands for its value
 value_glyph : (d : ℕ) → value_of (digit_glyph false d) ≡ d
 value_glyph d = grind (arith, nat_tests)
 
+-- the octets that digits of hex stand for
 abbrev octets_of : List ℕ → List ℕ
 octets_of [] = []
 octets_of (a ∷ []) = []
 octets_of (a ∷ b ∷ text) = (16 * value_of a + value_of b) ∷ octets_of text
 
+-- two digits give their octet
 two_digits : (octet : ℕ) → 16 * value_of (digit_glyph false (octet / 16)) + value_of (digit_glyph false (octet % 16)) ≡ octet
 two_digits octet = let high = value_glyph (octet / 16) in let low = value_glyph (octet % 16) in omega (arith, high, low)
 
+-- the octets come back from their digits
 octets_written : (octets : List ℕ) → octets_of (flat_map octet_text octets) ≡ octets
 octets_written [] = refl
 octets_written (octet ∷ octets) =
     ap (λ o. o ∷ octets_of (flat_map octet_text octets)) (two_digits octet) ∙ ap (λ os. octet ∷ os) (octets_written octets)
 
+-- a salt comes back from its text
 salt_written : (octets : List ℕ) → octets_of (salt_text octets) ≡ octets
 salt_written [] = refl
 salt_written (octet ∷ octets) = octets_written (octet ∷ octets)
 
+-- so one text is of one salt
 same_salt : (a b : List ℕ) → salt_text a ≡ salt_text b → a ≡ b
 same_salt a b is = sym (salt_written a) ∙ ap octets_of is ∙ salt_written b
 
 -- ---- strings of JSON
 
+-- what stands between quotation marks
 same_quoted : (a b : List ℕ) → quoted a ≡ quoted b → a ≡ b
 same_quoted a b is = let inner : a ++ 34 ∷ [] ≡ b ++ 34 ∷ [] = cc in append_cancel_right a b (34 ∷ []) inner
 
@@ -66,23 +75,24 @@ unescaped behind [] = []
 unescaped true (c ∷ text) = c ∷ unescaped false text
 unescaped false (c ∷ text) = cond (c == 92) (unescaped true text) (c ∷ unescaped false text)
 
+-- both ways of a test
 either : (b : Bool) (x y rest out : List ℕ) → (b ≡ true → unescaped false (x ++ rest) ≡ out) → (b ≡ false → unescaped false (y ++ rest) ≡ out)
     → unescaped false (cond b x y ++ rest) ≡ out
 either true x y rest out p q = p refl
 either false x y rest out p q = q refl
 
-no_slash : (octet : ℕ) → (octet == 34 || octet == 92) ≡ false → (octet == 92) ≡ false
-no_slash octet is = grind (arith, nat_tests)
-
+-- an octet comes back as it was
 octet_unescaped : (octet : ℕ) (rest : List ℕ) → unescaped false (escaped octet ++ rest) ≡ octet ∷ unescaped false rest
 octet_unescaped octet rest =
     either (octet == 34 || octet == 92) (92 ∷ octet ∷ []) (octet ∷ []) rest (octet ∷ unescaped false rest) (λ is. refl)
     (λ is. ap (λ b. cond b (unescaped true rest) (octet ∷ unescaped false rest)) (no_slash octet is))
 
+-- so does a text
 text_unescaped : (text : List ℕ) → unescaped false (flat_map escaped text) ≡ text
 text_unescaped [] = refl
 text_unescaped (octet ∷ text) = octet_unescaped octet (flat_map escaped text) ∙ ap (λ t. octet ∷ t) (text_unescaped text)
 
+-- one string of JSON is of names with one text
 same_name_json : (a b : Labels) → name_json a ≡ name_json b → lower_text a ≡ lower_text b
 same_name_json a b is =
     sym (text_unescaped (lower_text a))
@@ -91,30 +101,32 @@ same_name_json a b is =
 
 -- ---- all
 
+-- what is there on both sides
 inside : {x y : List ℕ} → Some x ≡ Some y → x ≡ y
 inside {x} {y} is = cc
 
+-- values of one kind with one text say the same, with names in lower case
 pub text_alike : (kind : Kind) (x y : Said) → of_kind kind x ≡ true → of_kind kind y ≡ true → IsOfItsType x → IsOfItsType y
-    → text_value x ≡ text_value y → SayAlike x y
-text_alike AName (Name a) (Name b) p q so too is = same_text a b so too (inside is)
+    → text_value x ≡ text_value y → lower_said x ≡ lower_said y
+text_alike AName (Name a) (Name b) p q so too is = ap Name (same_text a b so too (inside is))
 text_alike AName (Name a) y p q so too is = cc
-text_alike AName Nothing Nothing p q so too is = tt
+text_alike AName Nothing Nothing p q so too is = refl
 text_alike AName x y p q so too is = cc
-text_alike ANumber (Number a) (Number b) p q so too is = decimal_injective a b so too (inside is)
+text_alike ANumber (Number a) (Number b) p q so too is = ap Number (decimal_injective a b so too (inside is))
 text_alike ANumber (Number a) y p q so too is = cc
-text_alike ANumber Nothing Nothing p q so too is = tt
+text_alike ANumber Nothing Nothing p q so too is = refl
 text_alike ANumber x y p q so too is = cc
-text_alike AnRrset (Rrset a) (Rrset b) p q so too is = decimal_injective a b so too (inside is)
+text_alike AnRrset (Rrset a) (Rrset b) p q so too is = ap Rrset (decimal_injective a b so too (inside is))
 text_alike AnRrset (Rrset a) y p q so too is = cc
-text_alike AnRrset Nothing Nothing p q so too is = tt
+text_alike AnRrset Nothing Nothing p q so too is = refl
 text_alike AnRrset x y p q so too is = cc
-text_alike AWord (Word a) (Word b) p q so too is = inside is
+text_alike AWord (Word a) (Word b) p q so too is = ap Word (inside is)
 text_alike AWord (Word a) y p q so too is = cc
-text_alike AWord Nothing Nothing p q so too is = tt
+text_alike AWord Nothing Nothing p q so too is = refl
 text_alike AWord x y p q so too is = cc
-text_alike ASalt (Salt a) (Salt b) p q so too is = same_salt a b (inside is)
+text_alike ASalt (Salt a) (Salt b) p q so too is = ap Salt (same_salt a b (inside is))
 text_alike ASalt (Salt a) y p q so too is = cc
-text_alike ASalt Nothing Nothing p q so too is = tt
+text_alike ASalt Nothing Nothing p q so too is = refl
 text_alike ASalt x y p q so too is = cc
 
 -- values of one JSON have one text

@@ -1,35 +1,40 @@
--- One text, and one object of JSON, is of lines that say the same.
-use Rattle.std.proofs.Common.{◌≡◌, ℕ, ◌<◌, ◌^◌, ◌&&◌, true, false, List, [], ◌∷◌, ◌++◌, Option, nat_lt, drop, map, arith, codes, refl, sym, ap, subst, ◌∙◌}
+-- One text, and one object of JSON, is of lines that are the same.
+use Rattle.std.proofs.Common.{◌≡◌, ℕ, ◌<◌, ◌^◌, ◌&&◌, true, false, List, [], ◌∷◌, ◌++◌, Option, nat_lt, drop, map, arith, codes, refl, sym, ap, ap₂, subst, ◌∙◌}
 use Rattle.std.proofs.lemmas.Bool.Decides.{nat_tests}
 use Rattle.std.proofs.lemmas.List.{append_cancel_right}
 use Rattle.std.specs.List.{AllByRecursion, flat_map}
 use Rattle.dnsv_lines.specs.Json.{parted}
+use Rattle.dnsv_lines.specs.Rows.{line_json, line_text, sentence_of}
+use Rattle.dnsv_lines.specs.declared.line.Line.{Line}
 use Rattle.dnsv_lines.specs.Sentence.{Said, Name, Number, Rrset, Word, Salt, Nothing, SaidField, SaidSentence, field_members, field_text, json_of_sentence, text_of_sentence}
-use Rattle.dnsv_line_laws.specs.Alike.{AreAlike, AreFieldsAlike, AreOfTheirTypes, IsOfItsType}
-use Rattle.dnsv_line_laws.proofs.Forms.{ANumber, AWord, Form, Kind, Slot, clean, clean_slots, fits, if_there, is_small, json_fits, json_good, json_fields, json_marks, json_piece, json_slots, json_value, json_words, kinds, laid, of_kind, saids, text_fields, text_fits, text_good, text_marks, text_piece, text_slots, text_value, text_words}
-use Rattle.dnsv_line_laws.proofs.Marks.{Mark, apart, both_first, both_then, same_values, stands, words}
+use Rattle.dnsv_line_laws.specs.Types.{AreOfTheirTypes, IsOfItsType}
+use Rattle.dnsv_line_laws.specs.Lower.{SameLine}
+use Rattle.dnsv_line_laws.proofs.Reading.{at, lower_field, lower_sentence, read, word_in}
+use Rattle.dnsv_line_laws.proofs.told.Lines.{line_told}
+use Rattle.dnsv_line_laws.proofs.told.Forms.{ANumber, AWord, Form, Kind, Slot, clean, clean_slots, fits, if_there, is_small, json_fits, json_good, json_fields, json_marks, json_piece, json_slots, json_value, json_words, kinds, label_of, laid, of_kind, saids, text_fields, text_fits, text_good, text_marks, text_piece, text_slots, text_value, text_words}
+use Rattle.dnsv_line_laws.proofs.parts.Marks.{Mark, apart, both_first, both_then, same_values, stands, words}
 use Rattle.dnsv_line_laws.proofs.Meaning.{json_alike, text_alike}
-use Rattle.dnsv_line_laws.proofs.Parting.{Outside, Words, split}
-use Rattle.dnsv_line_laws.proofs.Splitting.{IsParted, all_parted, json_by_marks, json_laid, text_by_marks, text_laid}
-use Rattle.dnsv_line_laws.proofs.Tables.{IsTold, form_by_json, form_by_text}
+use Rattle.dnsv_line_laws.proofs.parts.Parting.{Outside, Words, split}
+use Rattle.dnsv_line_laws.proofs.parts.Splitting.{IsParted, all_parted, json_by_marks, json_laid, text_by_marks, text_laid}
+use Rattle.dnsv_line_laws.proofs.told.Tables.{IsTold, form_by_json, form_by_text}
 
 -- ---- fields
 
 -- fields of one form with the same values say the same
 alike_laid : (value : Said → Option (List ℕ)) → ((kind : Kind) (x y : Said) → of_kind kind x ≡ true → of_kind kind y ≡ true → value x ≡ value y → text_value x ≡ text_value y)
     → (slots : List Slot) (xs ys : List Said) → kinds slots xs ≡ true → kinds slots ys ≡ true → AllByRecursion IsOfItsType xs → AllByRecursion IsOfItsType ys
-    → map value xs ≡ map value ys → AreFieldsAlike (laid slots xs) (laid slots ys)
-alike_laid value one [] xs ys p q so too is = tt
+    → map value xs ≡ map value ys → map lower_field (laid slots xs) ≡ map lower_field (laid slots ys)
+alike_laid value one [] xs ys p q so too is = refl
 alike_laid value one (slot ∷ slots) [] ys p q so too is = cc
 alike_laid value one (slot ∷ slots) (x ∷ xs) [] p q so too is = cc
 alike_laid value one (slot ∷ slots) (x ∷ xs) (y ∷ ys) p q so too is =
     let of_x : of_kind slot.kind x ≡ true = both_first (of_kind slot.kind x) (kinds slots xs) p in
     let of_y : of_kind slot.kind y ≡ true = both_first (of_kind slot.kind y) (kinds slots ys) q in
     let first : value x ≡ value y = cc in
-    let rest : map value xs ≡ map value ys = cc in (
-      record { label = refl; key = refl; said = text_alike slot.kind x y of_x of_y so.0 too.0 (one slot.kind x y of_x of_y first) },
-      alike_laid value one slots xs ys (both_then (of_kind slot.kind x) (kinds slots xs) p) (both_then (of_kind slot.kind y) (kinds slots ys) q) so.1 too.1 rest,
-    )
+    let rest : map value xs ≡ map value ys = cc in
+    ap₂ (λ (said : Said) (fields : List SaidField). record { label = label_of slot.mark; key = slot.key; said = said } ∷ fields)
+    (text_alike slot.kind x y of_x of_y so.0 too.0 (one slot.kind x y of_x of_y first))
+    (alike_laid value one slots xs ys (both_then (of_kind slot.kind x) (kinds slots xs) p) (both_then (of_kind slot.kind y) (kinds slots ys) q) so.1 too.1 rest)
 
 -- what is known of the fields of a line, in the text's order or in that of JSON
 record Known (value : Said → Option (List ℕ)) (marks : List Mark) (slots : List Slot) (fields : List SaidField) : Type 0 where
@@ -42,19 +47,21 @@ record Known (value : Said → Option (List ℕ)) (marks : List Mark) (slots : L
 alike_known : (value : Said → Option (List ℕ)) (marks : List Mark) (slots : List Slot) (xs ys : List SaidField)
     → ((kind : Kind) (x y : Said) → of_kind kind x ≡ true → of_kind kind y ≡ true → value x ≡ value y → text_value x ≡ text_value y)
     → apart marks ≡ true → Known value marks slots xs → Known value marks slots ys
-    → words marks (map value (saids xs)) ≡ words marks (map value (saids ys)) → AreFieldsAlike xs ys
+    → words marks (map value (saids xs)) ≡ words marks (map value (saids ys)) → map lower_field xs ≡ map lower_field ys
 alike_known value marks slots xs ys one differ a b is =
-    subst (λ fs. AreFieldsAlike fs ys) (sym a.form)
-    (subst (λ fs. AreFieldsAlike (laid slots (saids xs)) fs) (sym b.form)
-    (alike_laid value one slots (saids xs) (saids ys) a.kind b.kind a.types b.types
-    (same_values marks true (map value (saids xs)) (map value (saids ys)) a.stand b.stand differ is)))
+    ap (map lower_field) a.form
+    ∙ alike_laid value one slots (saids xs) (saids ys) a.kind b.kind a.types b.types
+    (same_values marks true (map value (saids xs)) (map value (saids ys)) a.stand b.stand differ is)
+    ∙ ap (map lower_field) (sym b.form)
 
 -- ---- what a line's form gives
 
+-- by what is said
 types_of : (fields : List SaidField) → AllByRecursion (λ field. IsOfItsType field.said) fields → AllByRecursion IsOfItsType (saids fields)
 types_of [] are = tt
 types_of (field ∷ fields) are = (are.0, types_of fields are.1)
 
+-- of a word or nothing no more is known
 word_type : (x : Said) → of_kind AWord x ≡ true → IsOfItsType x
 word_type (Name name) is = cc
 word_type (Number number) is = cc
@@ -63,9 +70,11 @@ word_type (Word word) is = tt
 word_type (Salt salt) is = tt
 word_type Nothing is = tt
 
+-- small numbers have at most 64 bits
 less : (n : ℕ) → nat_lt n 64 ≡ true → n < 2 ^ 64
 less n is = let small : n < 64 = grind (arith, nat_tests) in omega arith
 
+-- a small number, or nothing
 number_type : (x : Said) → of_kind ANumber x ≡ true → is_small x ≡ true → IsOfItsType x
 number_type (Name name) is small = cc
 number_type (Number number) is small = less number small
@@ -113,12 +122,15 @@ in_text s told types =
       part = all_parted (subst (λ fs. IsParted Words (flat_map field_text fs) (flat_map text_piece fs)) (sym told.text) (text_laid slots xs tidy kind));
     }
 
--- all of it says the same
-alike : (a b : SaidSentence) → AreFieldsAlike (text_fields a) (text_fields b) → AreAlike a b
-alike a b fields = record { line = fields.0.said; word = fields.1.1.0.said; error = fields.1.0.said; fields = fields.1.1.1 }
+-- the sentence of fields in the text's order, and in that of JSON
+abbrev of_text : List SaidField → SaidSentence
+of_text fields = record { line = word_in (at fields 0); error = at fields 1; word = at fields 2; fields = drop 3 fields }
 
--- two lines of one text say the same
-pub one_text : (a b : SaidSentence) → IsTold a → IsTold b → AreOfTheirTypes a → AreOfTheirTypes b → text_of_sentence a ≡ text_of_sentence b → AreAlike a b
+abbrev of_json : List SaidField → SaidSentence
+of_json fields = record { line = word_in (at fields 0); word = at fields 1; error = at fields 2; fields = drop 3 fields }
+
+-- two sentences of one text say the same
+one_text : (a b : SaidSentence) → IsTold a → IsTold b → AreOfTheirTypes a → AreOfTheirTypes b → text_of_sentence a ≡ text_of_sentence b → lower_sentence a ≡ lower_sentence b
 one_text a b told_a told_b types_a types_b is =
     let in_a = in_text a told_a types_a in
     let in_b = in_text b told_b types_b in
@@ -128,7 +140,7 @@ one_text a b told_a told_b types_a types_b is =
     let as_a : InText told_a.form b = subst (λ f. InText f b) (sym form) in_b in
     let slots : List Slot = text_slots told_a.form in
     let good : text_good told_a.form ≡ true = both_first (text_good told_a.form) (json_good told_a.form) told_a.good in
-    alike a b (alike_known text_value (text_marks slots) slots (text_fields a) (text_fields b) (λ kind x y p q same. same)
+    ap of_text (alike_known text_value (text_marks slots) slots (text_fields a) (text_fields b) (λ kind x y p q same. same)
     (both_first (apart (text_marks slots)) (clean_slots slots) good) in_a.known as_a.known
     (sym in_a.told ∙ same_words ∙ as_a.told))
 
@@ -158,10 +170,6 @@ in_json s told types =
       part = all_parted (subst (λ fs. IsParted Outside (parted false (flat_map field_members fs)) (flat_map json_piece fs)) (sym told.json) (json_laid slots xs tidy kind));
     }
 
--- all of it says the same
-alike_in_json : (a b : SaidSentence) → AreFieldsAlike (json_fields a) (json_fields b) → AreAlike a b
-alike_in_json a b fields = record { line = fields.0.said; word = fields.1.0.said; error = fields.1.1.0.said; fields = fields.1.1.1 }
-
 -- within the braces, and behind a comma, stand the members
 abbrev members_of : SaidSentence → List (List ℕ)
 members_of s = flat_map field_members (json_fields s)
@@ -171,8 +179,8 @@ same_members a b is =
     let inner : parted true (members_of a) ++ codes "}" ≡ parted true (members_of b) ++ codes "}" = ap (drop 1) is in
     ap (λ t. 44 ∷ t) (append_cancel_right (parted true (members_of a)) (parted true (members_of b)) (codes "}") inner)
 
--- two lines of one object of JSON say the same
-pub one_json : (a b : SaidSentence) → IsTold a → IsTold b → AreOfTheirTypes a → AreOfTheirTypes b → json_of_sentence a ≡ json_of_sentence b → AreAlike a b
+-- two sentences of one object of JSON say the same
+one_json : (a b : SaidSentence) → IsTold a → IsTold b → AreOfTheirTypes a → AreOfTheirTypes b → json_of_sentence a ≡ json_of_sentence b → lower_sentence a ≡ lower_sentence b
 one_json a b told_a told_b types_a types_b is =
     let in_a = in_json a told_a types_a in
     let in_b = in_json b told_b types_b in
@@ -182,6 +190,22 @@ one_json a b told_a told_b types_a types_b is =
     let as_a : InJson told_a.form b = subst (λ f. InJson f b) (sym form) in_b in
     let slots : List Slot = json_slots told_a.form in
     let good : json_good told_a.form ≡ true = both_then (text_good told_a.form) (json_good told_a.form) told_a.good in
-    alike_in_json a b (alike_known json_value (json_marks slots) slots (json_fields a) (json_fields b) json_alike
+    ap of_json (alike_known json_value (json_marks slots) slots (json_fields a) (json_fields b) json_alike
     (both_first (apart (json_marks slots)) (clean_slots slots) good) in_a.known as_a.known
     (sym in_a.told ∙ same_words ∙ as_a.told))
+
+-- ---- lines
+
+-- lines whose sentences say the same are the same
+same_line : (a b : Line) → lower_sentence (sentence_of a) ≡ lower_sentence (sentence_of b) → SameLine a b
+same_line a b is = sym (line_told a).back ∙ ap read is ∙ (line_told b).back
+
+-- two lines of one text are the same
+pub same_by_text : (a b : Line) → AreOfTheirTypes (sentence_of a) → AreOfTheirTypes (sentence_of b) → line_text a ≡ line_text b → SameLine a b
+same_by_text a b types_a types_b is =
+    same_line a b (one_text (sentence_of a) (sentence_of b) (line_told a).told (line_told b).told types_a types_b is)
+
+-- two lines of one object of JSON are the same
+pub same_by_json : (a b : Line) → AreOfTheirTypes (sentence_of a) → AreOfTheirTypes (sentence_of b) → line_json a ≡ line_json b → SameLine a b
+same_by_json a b types_a types_b is =
+    same_line a b (one_json (sentence_of a) (sentence_of b) (line_told a).told (line_told b).told types_a types_b is)

@@ -6,7 +6,7 @@ use Rattle.dnsv_names.specs.PartLaws.{recursion-append}
 use Rattle.dnsv_lines.specs.Sentence.{SaidSentence, said, said_field, said_sentence}
 use Rattle.dnsv_lines.specs.declared.sentence.Sentence.{Sentence}
 use Rattle.dnsv_lines.specs.declared.sentence.field.Field.{Field}
-use Rattle.dnsv_line_laws.specs.Alike.{AreOfTheirTypes, IsOfItsType}
+use Rattle.dnsv_line_laws.specs.Types.{AreOfTheirTypes, IsOfItsType}
 
 -- one member more
 pub first_more : {X : Type 0} (P : X → Type 0) (xs : List X) (i : ℕ) (x : X) → i < length xs → get_or xs i x ≡ x
@@ -25,6 +25,7 @@ fields_said : (fields : List Field) → AllByRecursion (λ field. IsOfItsType (s
 fields_said [] are = tt
 fields_said (field ∷ fields) are = (are.0, fields_said fields are.1)
 
+-- what a line says, by its fields as they are kept
 pub sentence_said : (kept : Sentence) (fields : List Field) (s : SaidSentence) → said_sentence kept ≡ s → fields ≡ kept.fields.items
     → AllByRecursion (λ field. IsOfItsType (said field.value)) fields → AreOfTheirTypes s
 sentence_said kept fields s is same are =

@@ -1,1 +1,2 @@
-pub mod Alike
+pub mod Lower
+pub mod Types

@@ -1,25 +1,26 @@
 //! Laws of the lines of explanations.
 //!
 //! Each is a function that changes nothing and ensures the law, which its caller learns.
-ghost use Rattle.std.specs.Prelude.{◌≡◌};
+ghost use Rattle.std.specs.Prelude.{◌≡◌, ◌↔◌};
 ghost use Rattle.std.specs.List.{AllByRecursion};
 ghost use Rattle.dnsv_lines.specs.Rows.{line_json, line_text, sentence_of};
 ghost use Rattle.dnsv_lines.specs.Sentence.{said};
-ghost use Rattle.dnsv_line_laws.specs.Alike.{AreAlike, AreOfTheirTypes, IsOfItsType};
+ghost use Rattle.dnsv_line_laws.specs.Lower.{SameLine};
+ghost use Rattle.dnsv_line_laws.specs.Types.{AreOfTheirTypes, IsOfItsType};
 
 use dnsv_lines::{Field, Line, Value};
 
-/// No two lines of one text: they say the same, field by field.
+/// Lines have one text just where they are the same, but for the case of letters in names: no two lines of one text.
 pub fn a_text_has_one_line(a: &Line, b: &Line)
-    ensures { line_text a.now ≡ line_text b.now → AreAlike (sentence_of a.now) (sentence_of b.now) }
+    ensures { line_text a.now ≡ line_text b.now ↔ SameLine a.now b.now }
 {
     says_what_types_allow(a);
     says_what_types_allow(b);
 }
 
-/// No two lines of one object of JSON: they say the same, field by field.
+/// Lines have one object of JSON just where they are the same, but for the case of letters in names.
 pub fn a_json_has_one_line(a: &Line, b: &Line)
-    ensures { line_json a.now ≡ line_json b.now → AreAlike (sentence_of a.now) (sentence_of b.now) }
+    ensures { line_json a.now ≡ line_json b.now ↔ SameLine a.now b.now }
 {
     says_what_types_allow(a);
     says_what_types_allow(b);

@@ -1,7 +1,7 @@
-use Rattle.dnsv_line_laws.proofs.OneLine.{one_json}
-use Rattle.dnsv_line_laws.proofs.Lines.{line_told}
-use Rattle.dnsv_lines.specs.Rows.{sentence_of}
+use Rattle.dnsv_line_laws.proofs.OneLine.{same_by_json}
+use Rattle.dnsv_line_laws.proofs.Texts.{json_of_same}
 use Rattle.dnsv_line_laws.proofs.laws.a_json_has_one_line.Goals as goal
 
 pub returns : goal.returns
-returns c = λ is. one_json (sentence_of c.args.a.now) (sentence_of c.args.b.now) (line_told c.args.a.now) (line_told c.args.b.now) c.says_what_types_allow.ensures c.says_what_types_allow-2.ensures is
+returns c =
+    (same_by_json c.args.a.now c.args.b.now c.says_what_types_allow.ensures c.says_what_types_allow-2.ensures, json_of_same c.args.a.now c.args.b.now)

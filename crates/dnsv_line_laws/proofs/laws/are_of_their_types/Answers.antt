@@ -1,6 +1,6 @@
 use Rattle.std.proofs.Common.{sym}
 use Rattle.dnsv_lines.specs.Sentence.{said}
-use Rattle.dnsv_line_laws.specs.Alike.{IsOfItsType}
+use Rattle.dnsv_line_laws.specs.Types.{IsOfItsType}
 use Rattle.dnsv_line_laws.proofs.Types.{first_all, first_more}
 use Rattle.dnsv_line_laws.proofs.laws.are_of_their_types.Goals as goal
 

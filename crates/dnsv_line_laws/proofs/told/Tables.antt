@@ -1,9 +1,13 @@
 -- The forms of all lines, and which one the first words tell.
 use Rattle.std.proofs.Common.{◌≡◌, ℕ, Bool, true, false, cond, List, [], ◌∷◌, ◌||◌, codes, get_or, nat_lt}
 use Rattle.dnsv_lines.specs.Json.{quoted}
+use Rattle.dnsv_lines.specs.Rows.{sentence_of}
 use Rattle.dnsv_lines.specs.Sentence.{SaidSentence}
-use Rattle.dnsv_line_laws.proofs.Forms.{Form, Slot, AName, ANumber, AnRrset, AWord, ASalt, bare, behind, fits, is_good, json_fields, json_slots, json_words, laid, own, plain_form, reason_form, saids, text_fields, text_slots, text_words}
-use Rattle.dnsv_line_laws.proofs.Marks.{same}
+use Rattle.dnsv_lines.specs.declared.line.Line.{Line}
+use Rattle.dnsv_line_laws.specs.Lower.{lower_line}
+use Rattle.dnsv_line_laws.proofs.Reading.{lower_sentence, read}
+use Rattle.dnsv_line_laws.proofs.told.Forms.{Form, Slot, AName, ANumber, AnRrset, AWord, ASalt, bare, behind, fits, is_good, json_fields, json_slots, json_words, laid, own, plain_form, reason_form, saids, text_fields, text_slots, text_words}
+use Rattle.dnsv_line_laws.proofs.parts.Marks.{same}
 
 -- ---- the forms
 
@@ -117,6 +121,7 @@ pub record Row : Type 0 where
   pub word : List ℕ
   pub form : Form
 
+-- a word and its form
 abbrev pub row : List ℕ → Form → Row
 row word form = record { word = word; form = form }
 
@@ -154,6 +159,7 @@ look written word (row ∷ rows) = cond (same word (written row.word)) row.form 
 abbrev pub is_shared : (List ℕ → List ℕ) → List ℕ → Bool
 is_shared written word = same word (written (codes "algorithm")) || same word (written (codes "key-missing"))
 
+-- by the first word, and of a reason by its word
 abbrev pub form_by : (List ℕ → List ℕ) → List ℕ → List ℕ → Bool → Form
 form_by written line word of_entry =
     cond (same line (written (codes "reason")))
@@ -175,13 +181,17 @@ form_by_json told = form_by quoted (get_or told 1 []) (get_or told 3 []) (same (
 
 -- ---- a sentence that its words tell
 
--- its fields are those of the form, and its words tell the form
-abbrev pub Told : Form → SaidSentence → Type 0
-Told form s =
-    (text_fields s ≡ laid (text_slots form) (saids (text_fields s))) × (json_fields s ≡ laid (json_slots form) (saids (json_fields s)))
-    × (fits form s ≡ true) × (form_by_text (text_words s) ≡ form) × (form_by_json (json_words s) ≡ form)
+-- its fields are those of the form, its words tell the form, and the line is read back from what it says
+abbrev pub Told : Form → Line → Type 0
+Told form x =
+    (text_fields (sentence_of x) ≡ laid (text_slots form) (saids (text_fields (sentence_of x))))
+    × (json_fields (sentence_of x) ≡ laid (json_slots form) (saids (json_fields (sentence_of x))))
+    × (fits form (sentence_of x) ≡ true)
+    × (form_by_text (text_words (sentence_of x)) ≡ form)
+    × (form_by_json (json_words (sentence_of x)) ≡ form)
+    × (read (lower_sentence (sentence_of x)) ≡ lower_line x)
 
--- some good form tells it
+-- some good form tells the sentence
 pub record IsTold (s : SaidSentence) : Type 0 where
   pub form : Form
   pub good : is_good form ≡ true
@@ -191,5 +201,14 @@ pub record IsTold (s : SaidSentence) : Type 0 where
   pub by_text : form_by_text (text_words s) ≡ form
   pub by_json : form_by_json (json_words s) ≡ form
 
-pub is_told : (form : Form) (s : SaidSentence) → is_good form ≡ true → Told form s → IsTold s
-is_told form s good told = record { form = form; good = good; text = told.0; json = told.1; fits = told.2; by_text = told.3; by_json = told.4 }
+-- and the line is read back
+pub record IsLine (x : Line) : Type 0 where
+  pub told : IsTold (sentence_of x)
+  pub back : read (lower_sentence (sentence_of x)) ≡ lower_line x
+
+-- a line by its form
+pub is_line : (form : Form) (x : Line) → is_good form ≡ true → Told form x → IsLine x
+is_line form x good is = record {
+  told = record { form = form; good = good; text = is.0; json = is.1; fits = is.2; by_text = is.3; by_json = is.4 };
+  back = is.5;
+}

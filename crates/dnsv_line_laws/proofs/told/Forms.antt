@@ -5,10 +5,11 @@ use Rattle.std.specs.List.{flat_map}
 use Rattle.dnsv_lines.specs.Json.{name_json, quoted}
 use Rattle.dnsv_lines.specs.Salt.{salt_text}
 use Rattle.dnsv_lines.specs.Sentence.{Said, Name, Number, Rrset, Word, Salt, Nothing, SaidField, SaidSentence, lower_text, plain}
-use Rattle.dnsv_line_laws.proofs.Marks.{Mark, Absent, Bare, Labelled, apart, piece, stands}
+use Rattle.dnsv_line_laws.proofs.parts.Marks.{Mark, Absent, Bare, Labelled, apart, piece, stands}
 
 -- ---- values as they are written
 
+-- in text
 abbrev pub text_value : Said → Option (List ℕ)
 text_value (Name name) = Some (lower_text name)
 text_value (Number number) = Some (decimal number)
@@ -17,6 +18,7 @@ text_value (Word word) = Some word
 text_value (Salt salt) = Some (salt_text salt)
 text_value Nothing = None
 
+-- in JSON
 abbrev pub json_value : Said → Option (List ℕ)
 json_value (Name name) = Some (name_json name)
 json_value (Number number) = Some (decimal number)
@@ -32,16 +34,19 @@ text_fields s = plain (codes "line") (Word s.line) ∷ plain (codes "ede") s.err
 abbrev pub json_fields : SaidSentence → List SaidField
 json_fields s = plain (codes "line") (Word s.line) ∷ plain (codes "word") s.word ∷ plain (codes "ede") s.error ∷ s.fields
 
+-- what stands before a value
 abbrev pub mark_of : Option (List ℕ) → Mark
 mark_of None = Bare
 mark_of (Some label) = Labelled label
 
+-- the words of a field
 abbrev pub text_piece : SaidField → List (List ℕ)
 text_piece field = piece (mark_of field.label) (text_value field.said)
 
 abbrev pub json_piece : SaidField → List (List ℕ)
 json_piece field = piece (Labelled (quoted field.key)) (json_value field.said)
 
+-- the words of a sentence
 abbrev pub text_words : SaidSentence → List (List ℕ)
 text_words s = flat_map text_piece (text_fields s)
 
@@ -62,10 +67,12 @@ pub data Kind : Type 0 where
 abbrev pub is_clean : ℕ → Bool
 is_clean c = not (c == 32 || c == 34 || c == 92)
 
+-- all octets of a word are
 abbrev pub clean : List ℕ → Bool
 clean [] = true
 clean (c ∷ word) = is_clean c && clean word
 
+-- nothing, or of this kind
 abbrev pub of_kind : Kind → Said → Bool
 of_kind AName (Name name) = true
 of_kind ANumber (Number number) = true
@@ -81,6 +88,7 @@ pub record Slot : Type 0 where
   pub key : List ℕ
   pub kind : Kind
 
+-- a value alone, one behind its key, and one behind another label
 abbrev pub bare : Kind → List ℕ → Slot
 bare kind key = record { mark = Bare; key = key; kind = kind }
 
@@ -96,12 +104,14 @@ pub record Form : Type 0 where
   pub word : Bool
   pub slots : List Slot
 
+-- of a line that has neither, and of a reason
 abbrev pub plain_form : List Slot → Form
 plain_form slots = record { error = false; word = false; slots = slots }
 
 abbrev pub reason_form : List Slot → Form
 reason_form slots = record { error = true; word = true; slots = slots }
 
+-- a value that is always there, or never
 abbrev pub mark_if : Bool → Mark
 mark_if false = Absent
 mark_if true = Bare
@@ -116,6 +126,7 @@ text_slots form = bare AWord (codes "line") ∷ if_there form.error ANumber (cod
 abbrev pub json_slots : Form → List Slot
 json_slots form = bare AWord (codes "line") ∷ if_there form.word AWord (codes "word") ∷ if_there form.error ANumber (codes "ede") ∷ form.slots
 
+-- what stands before values in text
 abbrev pub text_marks : List Slot → List Mark
 text_marks slots = map (λ slot. slot.mark) slots
 
@@ -128,6 +139,7 @@ keyed (Labelled label) key = Labelled (quoted key)
 abbrev pub json_marks : List Slot → List Mark
 json_marks slots = map (λ slot. keyed slot.mark slot.key) slots
 
+-- the label of a field
 abbrev pub label_of : Mark → Option (List ℕ)
 label_of Absent = None
 label_of Bare = None
@@ -139,11 +151,13 @@ laid [] saids = []
 laid (slot ∷ slots) [] = []
 laid (slot ∷ slots) (said ∷ saids) = record { label = label_of slot.mark; key = slot.key; said = said } ∷ laid slots saids
 
+-- each value is of its kind
 abbrev pub kinds : List Slot → List Said → Bool
 kinds [] [] = true
 kinds (slot ∷ slots) (said ∷ saids) = of_kind slot.kind said && kinds slots saids
 kinds _ _ = false
 
+-- labels and keys part nothing
 abbrev pub clean_mark : Mark → Bool
 clean_mark Absent = true
 clean_mark Bare = true
@@ -163,9 +177,11 @@ json_good form = apart (json_marks (json_slots form)) && clean_slots (json_slots
 abbrev pub is_good : Form → Bool
 is_good form = text_good form && json_good form
 
+-- what fields say
 abbrev pub saids : List SaidField → List Said
 saids fields = map (λ field. field.said) fields
 
+-- the numbers of errors are small
 abbrev pub is_small : Said → Bool
 is_small (Number number) = nat_lt number 64
 is_small said = true
@@ -179,5 +195,6 @@ abbrev pub json_fits : Form → SaidSentence → Bool
 json_fits form s =
     kinds (json_slots form) (saids (json_fields s)) && stands true (json_marks (json_slots form)) (map json_value (saids (json_fields s)))
 
+-- in both orders
 abbrev pub fits : Form → SaidSentence → Bool
 fits form s = is_small s.error && (text_fits form s && json_fits form s)

@@ -16,6 +16,7 @@ is_cut Outside c = c == 44 || c == 58
 is_cut Inside c = false
 is_cut Behind c = false
 
+-- where one stands behind this octet
 abbrev pub next : Mode → ℕ → Mode
 next Words c = Words
 next Outside c = cond (c == 34) Inside Outside
@@ -27,6 +28,7 @@ abbrev pub put : ℕ → List (List ℕ) → List (List ℕ)
 put c [] = (c ∷ []) ∷ []
 put c (part ∷ parts) = (c ∷ part) ∷ parts
 
+-- the text in its parts
 abbrev pub split : Mode → List ℕ → List (List ℕ)
 split mode [] = [] ∷ []
 split mode (c ∷ text) = cond (is_cut mode c) ([] ∷ split mode text) (put c (split (next mode c) text))
@@ -36,6 +38,7 @@ abbrev pub Passes : Mode → List ℕ → Mode → Type 0
 Passes mode [] end = mode ≡ end
 Passes mode (c ∷ text) end = (is_cut mode c ≡ false) × Passes (next mode c) text end
 
+-- one text behind another
 pub passes-append : (m n o : Mode) (xs ys : List ℕ) → Passes m xs n → Passes n ys o → Passes m (xs ++ ys) o
 passes-append m n o [] ys first then = subst (λ k. Passes k ys o) (sym first) then
 passes-append m n o (x ∷ xs) ys first then = (first.0, passes-append (next m x) n o xs ys first.1 then)

@@ -8,6 +8,7 @@ pub data Mark : Type 0 where
   Bare : Mark
   Labelled : List ℕ → Mark
 
+-- the words of one value
 abbrev pub piece : Mark → Option (List ℕ) → List (List ℕ)
 piece mark None = []
 piece Absent (Some value) = value ∷ []
@@ -34,6 +35,7 @@ stands false (Bare ∷ marks) (Some value ∷ values) = false
 stands there (Labelled label ∷ marks) (None ∷ values) = stands false marks values
 stands there (Labelled label ∷ marks) (Some value ∷ values) = stands true marks values
 
+-- the test of two words
 abbrev pub same : List ℕ → List ℕ → Bool
 same [] [] = true
 same [] (y ∷ ys) = false
@@ -54,10 +56,12 @@ apart (Absent ∷ marks) = apart marks
 apart (Bare ∷ marks) = apart marks
 apart (Labelled label ∷ marks) = not (has_label label marks) && apart marks
 
+-- a word is the same as itself
 same_refl : (a : List ℕ) → same a a ≡ true
 same_refl [] = refl
 same_refl (x ∷ xs) = ap (λ b. b && same xs xs) (eq-eqb x x refl) ∙ same_refl xs
 
+-- what is known of tests
 or_so : (a b : Bool) → b ≡ true → (a || b) ≡ true
 or_so true b is = refl
 or_so false b is = is

@@ -9,15 +9,16 @@ use Rattle.dnsv_lines.proofs.JsonLemmas.{parted_behind}
 use Rattle.dnsv_lines.specs.Json.{member, parted, quoted}
 use Rattle.dnsv_lines.specs.Salt.{salt_text}
 use Rattle.dnsv_lines.specs.Sentence.{Said, Name, Number, Rrset, Word, Salt, Nothing, field_members, field_text, keyed_members, label_text, labelled_text, lower_text}
-use Rattle.dnsv_line_laws.proofs.Forms.{AName, ANumber, AnRrset, AWord, ASalt, Kind, Slot, clean, clean_mark, clean_slots, json_marks, json_piece, json_value, keyed, kinds, label_of, laid, mark_of, of_kind, text_marks, text_piece, text_value}
-use Rattle.dnsv_line_laws.proofs.Marks.{Mark, Absent, Bare, Labelled, both_first, both_then, piece, stands, words}
-use Rattle.dnsv_line_laws.proofs.Parting.{Mode, Words, Outside, Passes, is_cut, one_part, split}
-use Rattle.dnsv_line_laws.proofs.Passing.{clean_inside, clean_words, decimal_outside, decimal_words, name_words, quoted_outside, salt_clean, string_outside}
+use Rattle.dnsv_line_laws.proofs.told.Forms.{AName, ANumber, AnRrset, AWord, ASalt, Kind, Slot, clean, clean_mark, clean_slots, json_marks, json_piece, json_value, keyed, kinds, label_of, laid, mark_of, of_kind, text_marks, text_piece, text_value}
+use Rattle.dnsv_line_laws.proofs.parts.Marks.{Mark, Absent, Bare, Labelled, both_first, both_then, piece, stands, words}
+use Rattle.dnsv_line_laws.proofs.parts.Parting.{Mode, Words, Outside, Passes, is_cut, one_part, split}
+use Rattle.dnsv_line_laws.proofs.parts.Passing.{clean_inside, clean_words, decimal_outside, decimal_words, name_words, quoted_outside, salt_clean, string_outside}
 
 -- a text that is parted into these, whatever is parted behind it
 pub record IsParted (mode : Mode) (text : List ℕ) (parts : List (List ℕ)) : Type 0 where
   pub before : (rest : List ℕ) (more : List (List ℕ)) → split mode rest ≡ [] ∷ more → split mode (text ++ rest) ≡ [] ∷ (parts ++ more)
 
+-- of nothing, of one text behind another, and of one part
 none_parted : (mode : Mode) → IsParted mode [] []
 none_parted mode = record { before = λ rest more is. is }
 
@@ -38,6 +39,7 @@ all_parted {mode} {text} {parts} is =
 
 -- ---- what is clean
 
+-- a label, where there is one, and a word
 abbrev CleanLabel : Option (List ℕ) → Type 0
 CleanLabel None = Unit {0}
 CleanLabel (Some label) = clean label ≡ true
@@ -46,6 +48,7 @@ abbrev CleanSaid : Said → Type 0
 CleanSaid (Word word) = clean word ≡ true
 CleanSaid _ = Unit {0}
 
+-- so is what stands in a good form
 clean_label : (mark : Mark) → clean_mark mark ≡ true → CleanLabel (label_of mark)
 clean_label Absent is = tt
 clean_label Bare is = tt
@@ -65,6 +68,7 @@ clean_said ASalt (Word word) is = cc
 
 -- ---- text
 
+-- a label and a value
 value_parted : (label : Option (List ℕ)) (value : List ℕ) → CleanLabel label → Passes Words value Words
     → IsParted Words ((label_text label ++ codes " ") ++ value) (piece (mark_of label) (Some value))
 value_parted None value is passes = one_parted Words 32 value refl passes
@@ -72,6 +76,7 @@ value_parted (Some label) value is passes =
     subst (λ t. IsParted Words t (label ∷ value ∷ [])) (sym (append_assoc (32 ∷ label) (32 ∷ []) value))
     (parted_then (one_parted Words 32 label refl (clean_words label is)) (one_parted Words 32 value refl passes))
 
+-- a field
 text_parted : (label : Option (List ℕ)) (said : Said) → CleanLabel label → CleanSaid said → IsParted Words (labelled_text label said) (piece (mark_of label) (text_value said))
 text_parted label (Name name) is so = value_parted label (lower_text name) is (name_words (lower_case name))
 text_parted label (Number number) is so = value_parted label (decimal number) is (decimal_words number)
@@ -80,6 +85,7 @@ text_parted label (Word word) is so = value_parted label word is (clean_words wo
 text_parted label (Salt salt) is so = value_parted label (salt_text salt) is (clean_words (salt_text salt) (salt_clean salt))
 text_parted label Nothing is so = none_parted Words
 
+-- all fields
 pub text_laid : (slots : List Slot) (xs : List Said) → clean_slots slots ≡ true → kinds slots xs ≡ true
     → IsParted Words (flat_map field_text (laid slots xs)) (flat_map text_piece (laid slots xs))
 text_laid [] xs is fit = none_parted Words
@@ -93,15 +99,18 @@ text_laid (slot ∷ slots) (x ∷ xs) is fit =
 
 -- ---- JSON
 
+-- a member in two parts
 one_member : (q v : List ℕ) → (44 ∷ ((q ++ 58 ∷ []) ++ v)) ++ [] ≡ (44 ∷ q) ++ (58 ∷ v)
 one_member q v = append-nil (44 ∷ ((q ++ 58 ∷ []) ++ v)) ∙ append_assoc (44 ∷ q) (58 ∷ []) v
 
+-- a key and a value
 member_parted : (key value : List ℕ) → clean key ≡ true → Passes Outside value Outside
     → IsParted Outside (parted false (member key value ∷ [])) (quoted key ∷ value ∷ [])
 member_parted key value is passes =
     subst (λ t. IsParted Outside t (quoted key ∷ value ∷ [])) (sym (one_member (quoted key) value))
     (parted_then (one_parted Outside 44 (quoted key) refl (quoted_outside key (clean_inside key is))) (one_parted Outside 58 value refl passes))
 
+-- a field
 json_parted : (key : List ℕ) (said : Said) → clean key ≡ true → CleanSaid said
     → IsParted Outside (parted false (keyed_members key said)) (piece (Labelled (quoted key)) (json_value said))
 json_parted key (Name name) is so = member_parted key _ is (string_outside (text_of (lower_case name)))
@@ -112,6 +121,7 @@ json_parted key (Salt salt) is so =
     member_parted key (quoted (salt_text salt)) is (quoted_outside (salt_text salt) (clean_inside (salt_text salt) (salt_clean salt)))
 json_parted key Nothing is so = none_parted Outside
 
+-- all fields
 pub json_laid : (slots : List Slot) (xs : List Said) → clean_slots slots ≡ true → kinds slots xs ≡ true
     → IsParted Outside (parted false (flat_map field_members (laid slots xs))) (flat_map json_piece (laid slots xs))
 json_laid [] xs is fit = none_parted Outside
@@ -126,6 +136,7 @@ json_laid (slot ∷ slots) (x ∷ xs) is fit =
 
 -- ---- the words are those of the marks
 
+-- of one field
 text_piece_by_mark : (mark : Mark) (value : Option (List ℕ)) → piece (mark_of (label_of mark)) value ≡ piece mark value
 text_piece_by_mark Absent None = refl
 text_piece_by_mark Absent (Some value) = refl
@@ -134,6 +145,7 @@ text_piece_by_mark Bare (Some value) = refl
 text_piece_by_mark (Labelled label) None = refl
 text_piece_by_mark (Labelled label) (Some value) = refl
 
+-- of all fields
 pub text_by_marks : (slots : List Slot) (xs : List Said) → flat_map text_piece (laid slots xs) ≡ words (text_marks slots) (map text_value xs)
 text_by_marks [] xs = refl
 text_by_marks (slot ∷ slots) [] = refl
@@ -159,6 +171,7 @@ stands_on Bare key (Some value) there marks values is = (true, is)
 stands_on (Labelled label) key None there marks values is = (false, is)
 stands_on (Labelled label) key (Some value) there marks values is = (true, is)
 
+-- of all fields in JSON
 pub json_by_marks : (slots : List Slot) (xs : List Said) (there : Bool) → stands there (json_marks slots) (map json_value xs) ≡ true
     → flat_map json_piece (laid slots xs) ≡ words (json_marks slots) (map json_value xs)
 json_by_marks [] xs there is = refl
