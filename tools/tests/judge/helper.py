@@ -98,7 +98,7 @@ class Judging(unittest.TestCase):
         room = tempfile.TemporaryDirectory()
         self.addCleanup(room.cleanup)
         self.room = pathlib.Path(room.name)
-        self.program = PROGRAM if PROGRAM.exists() else self.double()
+        self.program = self.whole = PROGRAM if PROGRAM.exists() else self.double()
 
     def double(self):
         path = self.room / "bin" / "dnssec_check"
@@ -112,7 +112,7 @@ class Judging(unittest.TestCase):
     def stand_in(self, script):
         """A program that runs the lines of a shell, and then is the program."""
         path = self.room / "stand-in"
-        path.write_text(f'#!/bin/sh\n{script}\nexec {shlex.quote(str(self.program))} "$@"\n')
+        path.write_text(f'#!/bin/sh\n{script}\nexec {shlex.quote(str(self.whole))} "$@"\n')
         path.chmod(0o755)
         return path
 

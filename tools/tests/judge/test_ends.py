@@ -18,7 +18,7 @@ LIMIT = 120  # seconds, for whatever takes a moment where nothing else is done
 # Tells its process and that of whoever runs it, and waits; that is a process of its own.
 WAITS = """echo $PPID > at_work/$$.new
 mv at_work/$$.new at_work/$$
-while [ ! -e go ]; do sleep 0.1; done"""
+while [ ! -e go ] && [ -e at_work/$$ ]; do sleep 0.1; done"""
 
 
 def is_there(process):
