@@ -18,6 +18,9 @@ A malformed key or signature is bad. A key of RSA is malformed where its modulus
 octet or has more than 4096 bits (RFC 3110 2), where its modulus has fewer than 512 bits, with algorithm 10 than 1024
 (RFC 5702 2.1, 2.2), where either is even, or where the exponent is below 3 or not below the modulus (RFC 8017 3.1).
 
+A key of EdDSA that is a point of small order, which no secret gives, is malformed too. Where the exponent of a key of
+RSA has more than 64 bits, its lines are left out, each with a note.
+
 Curves need the package cryptography (Debian: python3-cryptography). Where that lacks an algorithm, the lines of this
 algorithm are left out, each with a note on the standard error.
 

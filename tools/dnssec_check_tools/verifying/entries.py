@@ -3,7 +3,7 @@ import importlib
 import re
 from typing import Any, NamedTuple, Tuple
 
-from .rsa import Malformed, is_signed_by_rsa
+from .rsa import LongExponent, Malformed, is_signed_by_rsa
 
 HEX = r"(?:-|(?:[0-9A-Fa-f]{2})+)"
 TODO = re.compile(rf"todo (0|[1-9][0-9]{{0,2}}) ({HEX}) ({HEX}) ({HEX})")
@@ -20,7 +20,7 @@ class Refusal(Exception):
 
 
 class Lacking(Exception):
-    """An algorithm can't be verified here."""
+    """A signature isn't verified here, for want of its algorithm or for what its key would cost."""
 
 
 def curves() -> Any:
@@ -68,4 +68,6 @@ def statement_of(entry: Entry) -> str:
         word = "good" if is_good(entry.algorithm, *map(octets_of, entry.fields)) else "bad"
     except (ImportError, NotImplementedError) as fault:
         raise Lacking(f"the package cryptography lacks algorithm {entry.algorithm}: {fault}") from fault
+    except LongExponent as fault:
+        raise Lacking(str(fault)) from fault
     return " ".join((word, str(entry.algorithm), *entry.fields)) + "\n"
