@@ -17,6 +17,9 @@ line with the names of its columns: capture, moment (in seconds since 1970), nam
 until, reason, ede; --jsonl has the same values by these names. The verdict is the program's word, or `refused` or
 `fault`. What can't be shown in a line is written as `\\xNN`. --html writes a page besides, which loads nothing.
 
+What isn't verified of a capture within --budget and --budget-octets stays Unknown, so that a verdict is Pending that
+hangs on it. A line on the standard error says so, and how to give more.
+
 With --scheduler, captures go as octets to the workers of a Dask scheduler. A worker needs Python with the packages
 distributed and cryptography, and `dnssec_check` on its own path; the tools' modules are sent to it. Captures of a
 worker that is lost are judged by others.
@@ -50,6 +53,7 @@ from .judging.spread import Task, in_processes, of_unread, one_by_one
 from .judging.text import Lines, json_line, tsv_head, tsv_line
 from .judging.work import Common, Judged, Row
 from .program import FAILED, FROM_BEST, NAME, REFUSED, WRONG, program_of
+from .verifying.verifier import Budget, add_budget, add_budget_octets
 
 INPUTS = ("anchors", "keys", "macs", "questions")  # the options that name a file to read
 
@@ -101,6 +105,8 @@ def command_line() -> argparse.ArgumentParser:
         help="write a page with the sentences, a picture of each chain, and the records; needs Graphviz",
     )
     parser.add_argument("--records", action="store_true", help="print the records of the captures, with their numbers")
+    add_budget(parser, "of a capture")
+    add_budget_octets(parser, "of a capture")
     parser.add_argument("--jobs", type=number_of_jobs, metavar="N", help="captures at once; else as many as processors")
     parser.add_argument("--scheduler", action="append", metavar="ADDRESS", help="the address of a Dask scheduler")
     parser.add_argument("--program", action="append", metavar="FILE", help=f"where {NAME} is, if not on the path")
@@ -199,7 +205,8 @@ def judge(options: argparse.Namespace) -> int:
         raise WrongLine("--macs is of one capture, and there are more")
     moments = list(dict.fromkeys(map(seconds_of, options.at or ["now"])))
     keys, macs = (read(path[0]) if path else None for path in (options.keys, options.macs))
-    common = Common(anchors_of(once(options.anchors), moments), keys, macs, moments)
+    budget = Budget(options.budget, options.budget_octets)
+    common = Common(anchors_of(once(options.anchors), moments), keys, macs, moments, budget)
     page = Page(paths_of(options)) if options.html else None
     report = Report(options, asked, common, page)
     if options.tsv:

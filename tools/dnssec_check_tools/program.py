@@ -10,6 +10,7 @@ from typing import Any, Dict, Iterable, List, NamedTuple, Optional
 
 from .asking.faults import Failure
 from .asking.questions import Question
+from .listed import Listed
 
 NAME = "dnssec_check"
 PACKAGE = pathlib.Path(__file__).resolve().parent
@@ -58,10 +59,9 @@ class Program:
             raise Failure(f"{self.path}: {fault.strerror}") from fault
         return Run(done.returncode, done.stdout.decode(), done.stderr.decode("utf-8", "replace"))
 
-    def todo(self, folder: str, moment: int) -> List[str]:
-        """The lines that a verifier has to answer at the moment; none where the capture is refused."""
-        done = self.run([LIST, *named(["capture"]), f"--moment={moment}"], folder)
-        return done.output.splitlines() if done.status == 0 else []
+    def listed(self, folder: str, moment: int, most: int) -> Listed:
+        """The lines that a verifier has to answer at the moment, of which so many octets are read."""
+        return Listed([self.path, LIST, *named(["capture"]), f"--moment={moment}"], folder, "capture", most)
 
     def told(self, subcommand: str, folder: str, files: Iterable[str], moment: int, question: Question) -> Told:
         """What CHECK or EXPLAIN says of the question; the folder has these files."""

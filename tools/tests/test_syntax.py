@@ -15,8 +15,9 @@ PARTS = {
     "failing": {"dnssec_check_tools", "messages", "zones"},  # the last two of rows
     "dnssec_check_tools/verify.py": {"command", "verifying"},
     "dnssec_check_tools/capture.py": {"command", "capturing"},
-    "dnssec_check_tools/judge.py": {"command", "asking", "judging", "program"},
-    "dnssec_check_tools/program.py": {"asking"},
+    "dnssec_check_tools/judge.py": {"command", "asking", "judging", "program", "verifying"},
+    "dnssec_check_tools/program.py": {"asking", "listed"},
+    "dnssec_check_tools/listed.py": {"asking"},
     "dnssec_check_tools/verifying/curves.py": {"cryptography"},
     "dnssec_check_tools/capturing": {"command"},
     "dnssec_check_tools/asking": {"command", "capturing", "dns"},

@@ -1,13 +1,14 @@
 """A capture judged: verified once, and asked each question at each moment. All that it reads is octets."""
 import os
 import tempfile
-from typing import Dict, Iterable, List, NamedTuple, Optional, Tuple
+from typing import Dict, List, NamedTuple, Optional
 
 from ..asking.questions import Question
 from ..program import EXPLAIN, Json, Program, Told
-from ..verifying.entries import Lacking, Refusal, entry_of, statement_of
+from ..verifying.verifier import Budget
 
 from .evidence import Evidence
+from .statements import FILE, write_statements
 
 DENYING = {47: "NSEC", 50: "NSEC3"}
 
@@ -19,6 +20,7 @@ class Common(NamedTuple):
     keys: Optional[bytes]
     macs: Optional[bytes]
     moments: List[int]
+    budget: Budget = Budget()
 
 
 class Row(NamedTuple):
@@ -45,34 +47,19 @@ def write_files(folder: str, files: Dict[str, bytes]) -> None:
             file.write(octets)
 
 
-def statements_of(lines: Iterable[str]) -> Tuple[List[str], List[str]]:
-    """The statements that answer the lines, and why the others can't be answered here."""
-    statements: List[str] = []
-    notes: Dict[str, int] = {}
-    for line in lines:
-        try:
-            statements.append(statement_of(entry_of(line, "a signature")))
-        except (Lacking, Refusal) as why:
-            notes[str(why)] = notes.get(str(why), 0) + 1
-    return statements, [f"{count} signatures aren't verified: {why}" for why, count in notes.items()]
-
-
 def judged(octets: bytes, questions: List[Question], common: Common, program: Program) -> Judged:
     """The verdicts on the questions, by moment."""
     with tempfile.TemporaryDirectory(prefix="dnssec_check-") as folder:
         given = {"capture": octets, "keys": common.keys, "macs": common.macs}
         files = {name: content for name, content in given.items() if content is not None}
         write_files(folder, files)
-        todo = dict.fromkeys(line for moment in common.moments for line in program.todo(folder, moment))
-        statements, notes = statements_of(todo)
-        files["statements"], view = "".join(statements).encode(), View(octets)
+        notes, view = write_statements(folder, common.moments, common.budget, program), View(octets)
+        names = [*files, FILE, "anchors"]
         rows: List[Row] = []
-        write_files(folder, {"statements": files["statements"]})
         for moment in common.moments:
-            files["anchors"] = common.anchors[moment]
-            write_files(folder, {"anchors": files["anchors"]})
+            write_files(folder, {"anchors": common.anchors[moment]})
             rows += [
-                view.row(moment, question, program.told(EXPLAIN, folder, files, moment, question))
+                view.row(moment, question, program.told(EXPLAIN, folder, names, moment, question))
                 for question in questions
             ]
     return Judged(rows, notes)

@@ -10,6 +10,7 @@ TODO = re.compile(rf"todo (0|[1-9][0-9]{{0,2}}) ({HEX}) ({HEX}) ({HEX})")
 
 
 class Entry(NamedTuple):
+    line: str
     place: str
     algorithm: int
     fields: Tuple[str, ...]
@@ -59,15 +60,14 @@ def entry_of(line: str, place: str) -> Entry:
         raise Refusal(f"{place}: no line `todo ALG KEY DATA SIG`")
     if int(match[1]) not in VERIFIERS:
         raise Refusal(f"{place}: algorithm {match[1]} is none of " + ", ".join(map(str, VERIFIERS)))
-    return Entry(place, int(match[1]), match.groups()[1:])
+    return Entry(line, place, int(match[1]), match.groups()[1:])
 
 
-def statement_of(entry: Entry) -> str:
-    """The line that answers the entry."""
+def is_verified_good(entry: Entry) -> bool:
+    """Whether the entry's signature is good; Lacking where it can't be told here."""
     try:
-        word = "good" if is_good(entry.algorithm, *map(octets_of, entry.fields)) else "bad"
+        return is_good(entry.algorithm, *map(octets_of, entry.fields))
     except (ImportError, NotImplementedError) as fault:
         raise Lacking(f"the package cryptography lacks algorithm {entry.algorithm}: {fault}") from fault
     except LongExponent as fault:
         raise Lacking(str(fault)) from fault
-    return " ".join((word, str(entry.algorithm), *entry.fields)) + "\n"

@@ -49,9 +49,7 @@ def is_signed_by_rsa(hash_name: str, bits_least: int, key: bytes, data: bytes, s
     if len(signature) != size or number >= modulus:
         raise Malformed
     if exponent.bit_length() > EXPONENT_BITS_MOST:
-        raise LongExponent(
-            f"the exponent of the RSA key has {exponent.bit_length()} bits, and above {EXPONENT_BITS_MOST} none is verified"
-        )
+        raise LongExponent(f"the exponent of the RSA key has more than {EXPONENT_BITS_MOST} bits")
     digest = hashlib.new(hash_name, data, usedforsecurity=False).digest()
     end = b"\x00" + DIGEST_INFO[hash_name] + digest
     return pow(number, exponent, modulus).to_bytes(size, "big") == (b"\x00\x01").ljust(size - len(end), b"\xff") + end

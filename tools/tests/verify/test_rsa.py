@@ -91,7 +91,7 @@ class Keys(unittest.TestCase):
             elif is_verified:
                 self.assertFalse(self.is_good(message, exponent))
             else:
-                with self.assertRaisesRegex(keys.LongExponent, f"has {exponent.bit_length()} bits, and above 64 none"):
+                with self.assertRaisesRegex(keys.LongExponent, "has more than 64 bits"):
                     self.is_good(message, exponent)
             self.assertFalse(self.is_good(message[1:], exponent))
             self.assertFalse(self.is_good(message, exponent + 1))
