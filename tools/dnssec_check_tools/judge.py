@@ -39,7 +39,7 @@ import sys
 from typing import Any, Dict, Iterable, Iterator, List, Optional, Tuple
 
 from .asking.anchors import ROOT, anchors_of
-from .asking.captures import all_of, captures_of, octets_of, told_apart
+from .asking.captures import SIZE_MOST, all_of, beginning_of, captures_of, octets_of, told_apart
 from .asking.faults import Failure, Refusal, WrongLine, escaped
 from .asking.questions import Question
 from .asking.kinds import table
@@ -134,16 +134,20 @@ def once(values: Optional[List[Any]]) -> Any:
     return values[0] if values else None
 
 
-def tasks_of(asked: Asked, page: Optional[Page]) -> Iterator[Task]:
-    """A task for each capture, read when it's its turn."""
+def tasks_of(asked: Asked, page: Optional[Page], is_read_here: bool) -> Iterator[Task]:
+    """A task for each capture, which is read when it's its turn: by whoever judges it, or here, as is what is no file."""
     for number, (path, questions) in enumerate(asked):
+        task = Task(number, path, None, None, questions)
+        if not (page or is_read_here) and path != "-" and os.path.isfile(path):
+            yield task
+            continue
         try:
-            task = Task(number, octets_of(path), None, questions)
+            task = task._replace(octets=octets_of(path))
         except OSError as fault:
-            yield Task(number, b"", fault, questions)
+            yield task._replace(fault=fault)
             continue
         if page:
-            page.read(number, path, task.octets)
+            page.read(number, path, task.octets or b"")
         yield task
 
 
@@ -211,13 +215,22 @@ def judge(options: argparse.Namespace) -> int:
     report = Report(options, asked, common, page)
     if options.tsv:
         write("-", (tsv_head() + "\n").encode())
+    tasks = readable(tasks_of(asked, page, bool(options.scheduler)), report, common)
     with progress(len(asked)) as advance:
-        for number, found in results_of(readable(tasks_of(asked, page), report, common), common, options, len(asked)):
+        for number, found in results_of(tasks, common, options, len(asked)):
             report.take(number, found)
             advance()
     if page:
         write(once(options.html), page.octets())
     return report.worst
+
+
+def whole_of(path: str) -> bytes:
+    """The octets of a capture; where there are more than one may have, that's told."""
+    octets = beginning_of(path)
+    if len(octets) == SIZE_MOST:
+        tell(f"{escaped(path)}: more than a capture may have; of what is behind {SIZE_MOST:,} octets nothing is shown")
+    return octets
 
 
 def print_records(options: argparse.Namespace) -> int:
@@ -227,7 +240,7 @@ def print_records(options: argparse.Namespace) -> int:
     captures = captures_of(paths)
     for capture in captures:
         front = f"{escaped(capture.path)}: " if len(captures) > 1 else ""
-        write("-", "".join(front + line + "\n" for line in lines_of(octets_of(capture.path))).encode())
+        write("-", "".join(front + line + "\n" for line in lines_of(whole_of(capture.path))).encode())
     return 0
 
 

@@ -4,6 +4,7 @@ import signal
 from concurrent.futures import FIRST_COMPLETED, BrokenExecutor, ProcessPoolExecutor, wait
 from typing import Any, Dict, Iterable, Iterator, List, NamedTuple, Optional, Tuple
 
+from ..asking.captures import octets_of
 from ..asking.faults import Failure
 from ..asking.questions import Question
 from ..program import FAILED, Program
@@ -18,10 +19,12 @@ Result = Tuple[int, Judged]  # by the number of the capture
 
 
 class Task(NamedTuple):
-    """A capture by its place among all, with its octets, or the fault of reading it, and its questions."""
+    """A capture by its place among all, with its octets, or the fault of reading it, and its questions. Without octets
+    it's read by its path where it's judged."""
 
     number: int
-    octets: bytes
+    path: str
+    octets: Optional[bytes]
     fault: Optional[OSError]
     questions: List[Question]
 
@@ -46,10 +49,19 @@ def is_of_read(fault: OSError) -> bool:
     return isinstance(fault, IsADirectoryError) or (fault.errno is not None and fault.filename is None)
 
 
+def judged_task(task: Task, common: Common, program: Program) -> Judged:
+    """The verdicts of a capture, which is read where it wasn't."""
+    try:
+        octets = octets_of(task.path) if task.octets is None else task.octets
+    except OSError as fault:
+        return of_unread(task, fault, common)
+    return judged(octets, task.questions, common, program)
+
+
 def one_by_one(tasks: Iterable[Task], common: Common, program: Program) -> Iterator[Result]:
     """Each capture's number with its verdicts."""
     for task in tasks:
-        yield task.number, judged(task.octets, task.questions, common, program)
+        yield task.number, judged_task(task, common, program)
 
 
 def ignore_interrupts() -> None:
@@ -77,7 +89,7 @@ def in_processes(tasks: Iterable[Task], common: Common, program: Program, jobs: 
             while len(waiting) >= AHEAD * jobs:
                 yield from done_of(waiting)
             with uninterrupted():
-                waiting[pool.submit(judged, task.octets, task.questions, common, program)] = task.number
+                waiting[pool.submit(judged_task, task, common, program)] = task.number
         while waiting:
             yield from done_of(waiting)
     except BrokenExecutor as fault:

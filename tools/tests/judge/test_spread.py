@@ -27,7 +27,7 @@ class Interrupts(unittest.TestCase):
     def test_an_interrupt_waits_until_a_task_is_taken(self):
         pool = Pool()
         with mock.patch.object(spread, "ProcessPoolExecutor", lambda *_, **__: pool), self.assertRaises(KeyboardInterrupt):
-            list(spread.in_processes([spread.Task(0, b"", None, [])], None, "program", 2))
+            list(spread.in_processes([spread.Task(0, "-", b"", None, [])], None, "program", 2))
         self.assertEqual(pool.done, ["submitted", "shut down"])
 
 
