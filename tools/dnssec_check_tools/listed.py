@@ -6,9 +6,10 @@ from typing import IO, Iterator, List, Optional
 
 from .asking.faults import Failure
 
-# A capture of one message lists less than what any budget ends; the program has all that it lists in memory before it
-# writes, so that with larger ones it gets no more memory than what is read, and what it may need besides.
-LISTS_LITTLE = 65537
+# The program has all that it lists in memory before it writes. So it gets no more memory than for what is read, and what
+# it may need besides; but for captures from which, with 48 keys of one tag, 16 signatures of an RRset and owners that
+# are pointers to long names, no more than some 70 MB can be made.
+LISTS_LITTLE = 4096
 MEMORY_BESIDES = 100_000_000
 LIMITED = ("/bin/sh", "-c", 'ulimit -v "$0" && exec "$@"')
 NO_MEMORY = "fault 90"
