@@ -6,9 +6,9 @@ from typing import IO, Iterator, List, Optional
 
 from .asking.faults import Failure
 
-# The program has all that it lists in memory before it writes. So it gets no more memory than for what is read, and what
-# it may need besides; but for captures from which, with 48 keys of one tag, 16 signatures of an RRset and owners that
-# are pointers to long names, no more than some 70 MB can be made.
+# The program has all that it lists in memory before it writes. So it gets no more memory than for what is read, and
+# what it may need besides; but for captures from which, with 48 keys of one tag, 16 signatures of an RRset and owners
+# that are pointers to long names, no more than some 70 MB can be made.
 LISTS_LITTLE = 4096
 MEMORY_BESIDES = 100_000_000
 LIMITED = ("/bin/sh", "-c", 'ulimit -v "$0" && exec "$@"')

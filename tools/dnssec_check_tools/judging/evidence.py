@@ -67,15 +67,15 @@ def rdata_of_signature(octets: bytes, record: Record) -> Tuple[bytes, Labels, by
     return bytes(octets[front : front + SIGNER]), labels, bytes(octets[behind : record.end])
 
 
-def readable_records(octets: bytes) -> List[Record]:
-    """The records up to the first whose owner or RDATA isn't whole."""
-    records = []
+def readable_records(octets: bytes) -> List[Tuple[Record, Labels]]:
+    """The records with their owners, up to the first whose owner or RDATA isn't whole."""
+    records: List[Tuple[Record, Labels]] = []
     try:
         for record in records_of(octets):
-            name_at(octets, record.name)
+            owner = owner_of(octets, record)
             if record.end > len(octets):
                 break
-            records.append(record)
+            records.append((record, owner))
     except Incomplete:
         pass
     return records
@@ -91,7 +91,7 @@ class Evidence:
 
     def place(self, octets: bytes) -> List[Placed]:
         """The records of a message, as far as they can be read, each with what it belongs to."""
-        records = [(record, owner_of(octets, record)) for record in readable_records(octets)]
+        records = readable_records(octets)
         found: Dict[Key, Rrset] = {}
         seen: Dict[Any, int] = {}
         for record, owner in records:
