@@ -1,4 +1,5 @@
 """The captures and questions that the words of a command line name."""
+import functools
 import os
 import stat
 import sys
@@ -54,8 +55,9 @@ def unread_kind(path: str) -> Optional[str]:
         return None
 
 
+@functools.lru_cache(None)
 def is_passed_over(path: str) -> bool:
-    """Whether it's no file, which is told."""
+    """Whether it's no file, which is told once, however often the folder is gone through."""
     kind = unread_kind(path)
     if kind:
         tell(f"passed over {escaped(path)}: {kind}")

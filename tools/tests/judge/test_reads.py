@@ -60,6 +60,7 @@ class Folders(Room):
         with socket.socket(socket.AF_UNIX) as bound, mock.patch.object(captures, "tell") as told:
             bound.bind(str(self.room / "socket.cap"))
             found = [each.path for each in captures.captures_of([str(self.room)])]
+            self.assertEqual(captures.captures_of([str(self.room)]), [captures.Capture(path, []) for path in found])
         self.assertEqual(found, [files[0], str(self.room / "gone.cap"), files[1]])
         kinds = {"fifo": "a FIFO", "link": "a FIFO", "null": "a device", "socket": "a socket"}
         self.assertEqual(told.mock_calls, [mock.call(f"passed over {self.room}/{name}.cap: {kind}") for name, kind in kinds.items()])
