@@ -44,7 +44,7 @@ import itertools
 from typing import Any, Dict, Iterable, Iterator, List, Optional, Tuple
 
 from .capturing.entries import Entry, Message, Omission, PassedOver, Place, Refusal
-from .capturing.frames import framed
+from .capturing.frames import MESSAGES_MOST, framed
 from .capturing.messages import HEADER_SIZE, MESSAGE_SIZE_MOST, is_query, is_truncated, opcode_of, question_text
 from .capturing.notes import notes_of
 from .capturing.requests import Requests
@@ -53,7 +53,6 @@ from .capturing.splitting import write_captures
 from .command import parser_of, run, shown, tell, write
 from .outputs import is_same_output, overwritten
 
-MESSAGES_MOST = 64
 MAC_SIZE = 32
 QUERY = 0  # the opcode (RFC 1035 4.1.1)
 

@@ -17,6 +17,9 @@ line with the names of its columns: capture, moment (in seconds since 1970), nam
 until, reason, ede; --jsonl has the same values by these names. The verdict is the program's word, or `refused` or
 `fault`. What can't be shown in a line is written as `\\xNN`. --html writes a page besides, which loads nothing.
 
+What isn't verified of a capture within --budget and --budget-octets stays Unknown, so that a verdict is Pending that
+hangs on it. A line on the standard error says so, and how to give more.
+
 With --scheduler, captures go as octets to the workers of a Dask scheduler. A worker needs Python with the packages
 distributed and cryptography, and `dnssec_check` on its own path; the tools' modules are sent to it. Captures of a
 worker that is lost are judged by others; one by which two are lost, as by which two processes are on this machine, has
@@ -39,7 +42,7 @@ from contextlib import closing
 from typing import Any, Dict, Iterable, Iterator, List, Optional, Tuple
 
 from .asking.anchors import ROOT, anchors_of
-from .asking.captures import all_of, captures_of, octets_of, told_apart
+from .asking.captures import all_of, captures_of, octets_of, shown_of, told_apart
 from .asking.faults import Failure, Refusal, WrongLine, escaped
 from .asking.questions import LIST, Question
 from .asking.kinds import table
@@ -49,20 +52,17 @@ from .judging.cluster import WAIT_SECONDS, by_workers
 from .judging.page import Page
 from .judging.progress import progress
 from .judging.records import lines_of
-from .judging.spread import Results, Task, in_processes, of_unread
+from .judging.spread import Results, Task, in_processes, of_unread, processors
 from .judging.text import Lines, json_line, tsv_head, tsv_line
 from .judging.work import Common, Judged, Row
 from .outputs import is_same_output, overwritten
 from .program import FAILED, FROM_BEST, NAME, REFUSED, WRONG, program_of
+from .verifying.verifier import Budget, add_budget, add_budget_octets
 
 INPUTS = ("anchors", "keys", "macs", "questions")  # the options that name a file to read
 
 
 Asked = List[Tuple[str, List[Question]]]  # captures with their questions
-
-
-def processors() -> int:
-    return len(os.sched_getaffinity(0)) if hasattr(os, "sched_getaffinity") else os.cpu_count() or 1
 
 
 def whole_number(text: str) -> int:
@@ -105,6 +105,8 @@ def command_line() -> argparse.ArgumentParser:
         help="write a page with the sentences, a picture of each chain, and the records; needs Graphviz",
     )
     parser.add_argument("--records", action="store_true", help="print the records of the captures, with their numbers")
+    add_budget(parser, "of a capture")
+    add_budget_octets(parser, "of a capture")
     parser.add_argument("--jobs", type=whole_number, metavar="N", help="captures at once; else as many as processors")
     parser.add_argument("--scheduler", action="append", metavar="ADDRESS", help="the address of a Dask scheduler")
     parser.add_argument(
@@ -140,16 +142,20 @@ def once(values: Optional[List[Any]]) -> Any:
     return values[0] if values else None
 
 
-def tasks_of(asked: Asked, page: Optional[Page]) -> Iterator[Task]:
-    """A task for each capture, read when it's its turn."""
+def tasks_of(asked: Asked, page: Optional[Page], is_read_here: bool) -> Iterator[Task]:
+    """A task for each capture, read when it's its turn: by whoever judges it, or here, as is what is no file."""
     for number, (path, questions) in enumerate(asked):
+        task = Task(number, path, None, None, questions)
+        if not (page or is_read_here) and path != "-" and os.path.isfile(path):
+            yield task
+            continue
         try:
-            task = Task(number, octets_of(path), None, questions)
+            task = task._replace(octets=octets_of(path))
         except OSError as fault:
-            yield Task(number, b"", fault, questions)
+            yield task._replace(fault=fault)
             continue
         if page:
-            page.read(number, path, task.octets)
+            page.read(number, path, task.octets or b"")
         yield task
 
 
@@ -209,12 +215,13 @@ def judge(options: argparse.Namespace) -> int:
         raise WrongLine("--macs is of one capture, and there are more")
     moments = list(dict.fromkeys(map(seconds_of, options.at or ["now"])))
     keys, macs = (read(path[0]) if path else None for path in (options.keys, options.macs))
-    common = Common(anchors_of(once(options.anchors), moments), keys, macs, moments)
+    budget = Budget(options.budget, options.budget_octets)
+    common = Common(anchors_of(once(options.anchors), moments), keys, macs, moments, budget)
     page = Page(paths_of(options)) if options.html else None
     report = Report(options, asked, common, page)
     if options.tsv:
         write("-", (tsv_head() + "\n").encode())
-    tasks = readable(tasks_of(asked, page), report, common)
+    tasks = readable(tasks_of(asked, page, bool(options.scheduler)), report, common)
     with progress(len(asked)) as advance, closing(results_of(tasks, common, options, len(asked))) as results:
         for number, found in results:
             report.take(number, found)
@@ -250,7 +257,7 @@ def print_records(options: argparse.Namespace) -> int:
     captures = captures_of(paths)
     for capture in captures:
         front = f"{escaped(capture.path)}: " if len(captures) > 1 else ""
-        write("-", "".join(front + line + "\n" for line in lines_of(octets_of(capture.path))).encode())
+        write("-", "".join(front + line + "\n" for line in lines_of(shown_of(capture.path))).encode())
     return 0
 
 

@@ -11,6 +11,7 @@ from typing import Any, Dict, Iterable, List, NamedTuple, Optional, Sequence
 
 from .asking.faults import Failure
 from .asking.questions import Question
+from .listed import Listed
 
 NAME = "dnssec_check"
 PACKAGE = pathlib.Path(__file__).resolve().parent
@@ -75,16 +76,9 @@ class Program:
             raise Failure(f"{self.path}: {fault.strerror}") from fault
         return Run(done.returncode, done.stdout.decode(), done.stderr.decode("utf-8", "replace"))
 
-    def todo(self, folder: str, moment: int) -> List[str]:
-        """The lines that a verifier has to answer at the moment; none where something is refused, which whatever is
-        asked then says too."""
-        done = self.run([LIST, *named(["capture"]), f"--moment={moment}"], folder)
-        if done.status == SECURE:
-            return done.output.splitlines()
-        told = told_without_verdict(done, LIST)
-        if told.word != "refused":
-            raise Unlisted(told.said)
-        return []
+    def listed(self, folder: str, moment: int, most: int) -> Listed:
+        """The lines that a verifier has to answer at the moment, of which so many octets are read."""
+        return Listed([self.path, LIST, *named(["capture"]), f"--moment={moment}"], folder, "capture", most)
 
     def told(
         self,
@@ -123,6 +117,15 @@ def told_without_verdict(done: Run, subcommand: str) -> Told:
     if word in ("refused", "fault") and done.status in (REFUSED, FAILED):
         return Told(done.status, word, None, rest)
     return Told(FAILED, "fault", None, f"- {first}")
+
+
+def refuse_unlisted(listed: Listed) -> None:
+    """Unlisted where LIST, all of which was read, failed. Where something is refused, whatever is asked then says so
+    too."""
+    if listed.status:
+        told = told_without_verdict(Run(listed.status, "", listed.errors), LIST)
+        if told.word != "refused":
+            raise Unlisted(told.said)
 
 
 def ending(status: int) -> str:

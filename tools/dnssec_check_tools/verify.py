@@ -18,6 +18,11 @@ A malformed key or signature is bad. A key of RSA is malformed where its modulus
 octet or has more than 4096 bits (RFC 3110 2), where its modulus has fewer than 512 bits, with algorithm 10 than 1024
 (RFC 5702 2.1, 2.2), where either is even, or where the exponent is below 3 or not below the modulus (RFC 8017 3.1).
 
+A key of EdDSA that is a point of small order, which no secret gives, is malformed too. Where the exponent of a key of
+RSA has more than 64 bits, its lines are left out, each with a note.
+
+What is verified within --budget SECONDS of processor time is answered, the rest left out, with one note for all.
+
 Curves need the package cryptography (Debian: python3-cryptography). Where that lacks an algorithm, the lines of this
 algorithm are left out, each with a note on the standard error.
 
@@ -29,7 +34,8 @@ SIGTERM or SIGHUP, and nothing was written.
 from typing import Iterator, List
 from .command import parser_of, read, run, shown, tell, write
 from .outputs import overwritten
-from .verifying.entries import Entry, Lacking, Refusal, entry_of, statement_of
+from .verifying.entries import Entry, Lacking, Refusal, entry_of
+from .verifying.verifier import Kept, Spent, Verifier, add_budget
 
 
 def entries_of(path: str, passes_over: bool) -> List[Entry]:
@@ -45,13 +51,19 @@ def entries_of(path: str, passes_over: bool) -> List[Entry]:
     ]
 
 
-def statements_of(entries: List[Entry]) -> Iterator[str]:
-    """Each entry's line, but for those whose algorithm can't be had here; these are told."""
+def statements_of(entries: List[Entry], verifier: Verifier) -> Iterator[str]:
+    """Each entry's line, but for those that can't be had here, or not within the budget; these are told."""
+    late: List[str] = []
     for entry in entries:
         try:
-            yield statement_of(entry)
+            yield verifier.statement_of(entry.line, entry.place)
         except Lacking as why:
             tell(f"left out {entry.place}: {why}")
+        except Spent as why:
+            late.append(f"{entry.place}: {why}")
+    if late:
+        behind = f"{len(late) - 1} more and " if len(late) > 1 else ""
+        tell(f"left out {behind}{late[0]}")
 
 
 def main(words: List[str]) -> int:
@@ -60,13 +72,14 @@ def main(words: List[str]) -> int:
         "files", nargs="*", default=["-"], metavar="FILE", help="the lines; the standard input by default"
     )
     parser.add_argument("--from-check", action="store_true", help="pass over lines whose first word isn't `todo`")
+    add_budget(parser, "of all lines")
     options = parser.parse_args(words)
     clash = overwritten(["-"], options.files)
     if clash:
         parser.error(shown(clash))
     try:
         entries = [entry for path in options.files for entry in entries_of(path, options.from_check)]
-        statements = list(statements_of(entries))
+        statements = list(statements_of(entries, Verifier(options.budget, Kept())))
         write("-", "".join(statements).encode())
     except (Refusal, OSError) as fault:
         tell(fault)

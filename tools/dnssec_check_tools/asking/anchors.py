@@ -3,9 +3,10 @@ import base64
 import os
 from typing import Any, Dict, List, Optional
 
-from ..command import read, shown
+from ..command import read, shown, tell
 
 from .faults import Failure, Refusal
+from .moments import moment_text
 from .root_anchors import Timed, is_xml, timed_anchors
 from .zone_file import DS, WrongEntry, ZoneFile
 
@@ -20,7 +21,10 @@ def anchors_of(path: Optional[str], moments: List[int]) -> Dict[int, bytes]:
     octets, where = read(path or ROOT), shown(path or ROOT)
     if is_xml(octets):
         anchors = timed_anchors(octets, where)
-        return {moment: joined(lines_at(anchors, moment)) for moment in moments}
+        lines = {moment: lines_at(anchors, moment) for moment in moments}
+        for moment in (moment for moment in moments if not lines[moment]):
+            tell(f"note: of the anchors {where} none may be used at {moment_text(moment)}")
+        return {moment: joined(found) for moment, found in lines.items()}
     return dict.fromkeys(moments, octets if is_own_form(octets) else joined(lines_of_zone(octets, where)))
 
 

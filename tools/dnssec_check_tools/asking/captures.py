@@ -1,13 +1,20 @@
 """The captures and questions that the words of a command line name."""
+import functools
 import os
-from typing import List, NamedTuple, Tuple
+import stat
+import sys
+from typing import BinaryIO, List, NamedTuple, Optional, Tuple
 
-from ..command import read, shown
+from ..capturing.frames import FRAME_SIZE_MOST, MESSAGES_MOST, framed, frames_of
+from ..command import shown, tell
 
 from .faults import Refusal, WrongLine, escaped
 from .questions import Question, question_of_word, questions_of_file, questions_of_split, wrong_word
 
-SIZE_MOST = 1 << 30  # octets of a file that the program takes
+# Octets of a file that are read: all of a capture, and one message more, by which the program refuses it.
+SIZE_MOST = (MESSAGES_MOST + 1) * FRAME_SIZE_MOST
+# What a read may wait for, or never end with; who means one names it.
+UNREAD_KINDS = {stat.S_IFIFO: "a FIFO", stat.S_IFSOCK: "a socket", stat.S_IFCHR: "a device", stat.S_IFBLK: "a device"}
 
 
 class Capture(NamedTuple):
@@ -40,12 +47,30 @@ def raised(fault: OSError) -> None:
     raise fault
 
 
+def unread_kind(path: str) -> Optional[str]:
+    """What isn't read of a folder, None for a file; what can't be looked at is told where it's read."""
+    try:
+        return UNREAD_KINDS.get(stat.S_IFMT(os.stat(path).st_mode))
+    except OSError:
+        return None
+
+
+@functools.lru_cache(None)
+def is_passed_over(path: str) -> bool:
+    """Whether it's no file, which is told once, however often the folder is gone through."""
+    kind = unread_kind(path)
+    if kind:
+        tell(f"passed over {escaped(path)}: {kind}")
+    return kind is not None
+
+
 def captures_of_folder(folder: str, are_own_asked: bool) -> List[Capture]:
     """Its captures and those of the folders in it, by name; what they may be asked is listed beside them."""
     found = []
     for place, folders, names in os.walk(folder, onerror=raised):
         folders.sort()
-        chosen = [name for name in sorted(names) if is_capture(name)]
+        captures = [name for name in sorted(names) if is_capture(name)]
+        chosen = [name for name in captures if not is_passed_over(os.path.join(place, name))]
         own = questions_of_split(place) if chosen and are_own_asked else {}
         found += [Capture(os.path.join(place, name), own.get(name, [])) for name in chosen]
     if not found:
@@ -85,8 +110,29 @@ def all_of(words: List[str], question_files: List[str]) -> List[Tuple[str, List[
 
 
 def octets_of(path: str) -> bytes:
-    """What the file has, or as much of it as shows that it's too long."""
-    if path == "-":
-        return read(path)
-    with open(path, "rb") as file:
-        return file.read(SIZE_MOST + 1)
+    """What the file has; of more than a capture may have, its messages up to the one that is too many."""
+    octets = beginning_of(path)
+    messages = frames_of(octets)[0] if len(octets) == SIZE_MOST else []
+    return framed(messages[: MESSAGES_MOST + 1]) if len(messages) > MESSAGES_MOST else octets
+
+
+def beginning_of(path: str) -> bytes:
+    """As much of the file as is read of any."""
+    if path != "-":
+        with open(path, "rb") as file:
+            return read_most(file)
+    if sys.stdin is None:
+        raise OSError("the standard input is closed")
+    return read_most(sys.stdin.buffer)
+
+
+def shown_of(path: str) -> bytes:
+    """The octets of a capture whose records are shown; where there are more than one may have, that's told."""
+    octets = beginning_of(path)
+    if len(octets) == SIZE_MOST:
+        tell(f"{escaped(path)}: more than a capture may have; of what is behind {SIZE_MOST:,} octets nothing is shown")
+    return octets
+
+
+def read_most(file: BinaryIO) -> bytes:
+    return file.read(SIZE_MOST)

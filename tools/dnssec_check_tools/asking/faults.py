@@ -34,6 +34,8 @@ def how_to_get(package: str) -> str:
 def escaped(text: str) -> str:
     """The text with what can't be shown as `\\xNN`, and `\\uNNNN` above; a path's octets that are no UTF-8 as
     `\\xNN`."""
+    if text.isprintable():
+        return text
     return "".join(character if character.isprintable() else escape_of(ord(character)) for character in text)
 
 

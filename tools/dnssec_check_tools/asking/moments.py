@@ -7,7 +7,7 @@ from .faults import WrongLine
 
 MOMENT_MOST = 281474976710655
 YEARS_MOST = 253402300799  # the last second of the year 9999, where ISO's dates end
-ZONE = re.compile(r"(?:Z|[+-]\d\d:?\d\d)$", re.IGNORECASE)
+DATE = re.compile(r"(.+)(Z|[+-]\d\d:?\d\d)", re.ASCII | re.IGNORECASE)
 
 
 def seconds_of(text: str) -> int:
@@ -25,17 +25,17 @@ def seconds_of(text: str) -> int:
 
 def of_date(text: str) -> int:
     """The seconds of an ISO date; ValueError where it's none."""
-    zone = ZONE.search(text)
-    if zone is None or "T" not in text.upper().replace(" ", "T"):
+    date = DATE.fullmatch(text)
+    if date is None or "T" not in text.upper().replace(" ", "T"):
         raise ValueError(
             f"{text!r} is no moment: write `now`, seconds since 1970, or a date and a time with Z or an offset, "
             "as 2026-11-22T12:00:00Z or 2026-11-22T13:00:00+01:00"
         )
-    offset = zone[0].upper().replace("Z", "+00:00")
+    offset = date[2].upper().replace("Z", "+00:00")
     if ":" not in offset:
         offset = f"{offset[:3]}:{offset[3:]}"
     try:
-        return int(datetime.datetime.fromisoformat(text[: zone.start()] + offset).timestamp() // 1)
+        return int(datetime.datetime.fromisoformat(date[1] + offset).timestamp() // 1)
     except (ValueError, OverflowError) as fault:
         raise ValueError(f"{text!r} is no moment: {fault}") from fault
 

@@ -1,10 +1,11 @@
 """The DS and DNSKEY records of a zone file (RFC 1035 5.1), by the tokenizer of dnspython."""
 import re
-from typing import Any, Iterator, NamedTuple, Optional
+from typing import Any, Iterator, List, NamedTuple, Optional
 
 from .faults import lacking
 
 TTL = re.compile(r"[0-9]+|([0-9]+[smhdw])+", re.ASCII | re.IGNORECASE)
+BASE64 = re.compile(r"[A-Za-z0-9+/]*={0,2}")
 CLASS = re.compile(r"IN|CLASS1", re.IGNORECASE)
 DS, DNSKEY = 43, 48
 KINDS = {"DS": DS, "TYPE43": DS, "DNSKEY": DNSKEY, "TYPE48": DNSKEY}
@@ -69,8 +70,19 @@ class ZoneFile:
             self.owner = self.tokens.as_name(first, self.origin)
         elif self.is_over():
             return None
-        kind = self.kind()
-        return Entry(line, self.owner, kind, self.dns.rdata.from_text("IN", kind, self.tokens, self.origin, False))
+        kind, words = self.kind(), self.words()
+        if kind == DNSKEY and words[:1] != ["\\#"] and not BASE64.fullmatch("".join(words[3:])):
+            raise ValueError("a key that isn't base64")  # of which the library passes over foreign characters
+        return Entry(line, self.owner, kind, self.dns.rdata.from_text("IN", kind, " ".join(words), self.origin, False))
+
+    def words(self) -> List[str]:
+        """What is left of the entry."""
+        words = []
+        while not (token := self.tokens.get()).is_eol_or_eof():
+            if not token.is_identifier():
+                raise ValueError(f"{token.value!r} in quotes")
+            words.append(token.value)
+        return words
 
     def is_over(self) -> bool:
         """Whether nothing is behind the blanks of a line."""

@@ -1,7 +1,10 @@
 """Messages each behind its length in two octets, as TCP carries them and capture files have them (RFC 1035 4.2.2)."""
 from typing import Iterable, List, Optional, Tuple
-from .messages import is_message
+from .messages import MESSAGE_SIZE_MOST, is_message
 from .octets import Octets, number_at
+
+MESSAGES_MOST = 64  # of a capture file
+FRAME_SIZE_MOST = 2 + MESSAGE_SIZE_MOST
 
 
 def frames_of(octets: Octets) -> Tuple[List[bytes], int]:

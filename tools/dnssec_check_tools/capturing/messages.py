@@ -64,17 +64,20 @@ def name_text(labels: Iterable[bytes]) -> str:
 def name_at(octets: Octets, place: int) -> Labels:
     """The labels of a name as they are spelled, through its pointers (RFC 1035 4.1.4)."""
     labels: List[bytes] = []
-    for _ in range(NAME_PARTS_MOST):
-        length = number_at(octets, place, 1)
-        if length == 0:
-            return tuple(labels)
-        if length < 64:
-            labels.append(bytes(octets[place + 1 : place + 1 + length]))
-            place += 1 + length
-        elif length >= 0xC0:
-            place = number_at(octets, place, 2) & 0x3FFF
-        else:
-            break
+    try:
+        for _ in range(NAME_PARTS_MOST):
+            length = octets[place]
+            if length == 0:
+                return tuple(labels)
+            if length < 64:
+                labels.append(bytes(octets[place + 1 : place + 1 + length]))
+                place += 1 + length
+            elif length >= 0xC0:
+                place = (length & 0x3F) << 8 | octets[place + 1]
+            else:
+                break
+    except IndexError as fault:
+        raise Incomplete("it ends too early") from fault
     raise Incomplete("a name isn't there")
 
 

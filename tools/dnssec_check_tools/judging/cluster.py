@@ -48,7 +48,8 @@ def at_worker(octets: bytes, questions: List[Question], common: Common) -> Answe
     path = shutil.which(NAME)
     if path is None:
         return Failure(f"{NAME} isn't on the path of a worker")
-    return answer(common, Program(path), Task(0, octets, None, questions), library().get_worker().local_directory)
+    task = Task(0, "-", octets, None, questions)
+    return answer(common, Program(path), task, library().get_worker().local_directory)
 
 
 def send_modules(client: Any) -> None:

@@ -67,15 +67,15 @@ def rdata_of_signature(octets: bytes, record: Record) -> Tuple[bytes, Labels, by
     return bytes(octets[front : front + SIGNER]), labels, bytes(octets[behind : record.end])
 
 
-def readable_records(octets: bytes) -> List[Record]:
-    """The records up to the first whose owner or RDATA isn't whole."""
-    records = []
+def readable_records(octets: bytes) -> List[Tuple[Record, Labels]]:
+    """The records with their owners, up to the first whose owner or RDATA isn't whole."""
+    records: List[Tuple[Record, Labels]] = []
     try:
         for record in records_of(octets):
-            name_at(octets, record.name)
+            owner = owner_of(octets, record)
             if record.end > len(octets):
                 break
-            records.append(record)
+            records.append((record, owner))
     except Incomplete:
         pass
     return records
@@ -94,13 +94,16 @@ class Evidence:
         records = readable_records(octets)
         found: Dict[Key, Rrset] = {}
         seen: Dict[Any, int] = {}
-        for record in records:
-            if group_of(octets, record) == CLASS_IN and forms_rrsets(record.kind):
-                self.keep(octets, record, found)
-        return [self.placed_of(octets, record, number, found, seen) for number, record in enumerate(records, 1)]
+        for record, owner in records:
+            if forms_rrsets(record.kind) and group_of(octets, record) == CLASS_IN:
+                self.keep(octets, record, owner, found)
+        return [
+            self.placed_of(octets, Placed(record, number, None, None), owner, found, seen)
+            for number, (record, owner) in enumerate(records, 1)
+        ]
 
-    def keep(self, octets: bytes, record: Record, found: Dict[Key, Rrset]) -> None:
-        key = record.section, owner_of(octets, record), record.kind
+    def keep(self, octets: bytes, record: Record, owner: Labels, found: Dict[Key, Rrset]) -> None:
+        key = record.section, owner, record.kind
         if key not in found:
             found[key] = Rrset(len(self.rrsets) + 1, *key[1:])
             self.rrsets.append(found[key])
@@ -108,12 +111,13 @@ class Evidence:
             found[key].targets.append(target_of(octets, record))
 
     @staticmethod
-    def placed_of(octets: bytes, record: Record, number: int, found: Dict[Key, Rrset], seen: Dict[Any, int]) -> Placed:
+    def placed_of(
+        octets: bytes, unplaced: Placed, owner: Labels, found: Dict[Key, Rrset], seen: Dict[Any, int]
+    ) -> Placed:
         """The record with its RRset, or with the RRset that it signs; `seen` has the signatures that are numbered."""
-        unplaced = Placed(record, number, None, None)
+        record = unplaced.record
         if group_of(octets, record) != CLASS_IN:
             return unplaced
-        owner = owner_of(octets, record)
         if record.kind != TYPE_RRSIG:
             return unplaced._replace(rrset=found.get((record.section, owner, record.kind)))
         try:
@@ -124,7 +128,7 @@ class Evidence:
             if key not in seen:
                 rrset.signatures.append(signature_of(octets, record))
                 seen[key] = len(rrset.signatures)
-            return Placed(record, number, rrset, seen[key])
+            return unplaced._replace(rrset=rrset, signature=seen[key])
         except (Incomplete, IndexError):
             return unplaced
 

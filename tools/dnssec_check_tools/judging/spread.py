@@ -1,7 +1,9 @@
 """Captures judged several at once on this machine, each by a process of its own."""
 import functools
+import os
 from typing import Generator, Iterable, Iterator, List, NamedTuple, Optional, Set, Tuple, Union
 
+from ..asking.captures import octets_of
 from ..asking.faults import Failure
 from ..asking.questions import Question
 from ..program import Program
@@ -17,10 +19,12 @@ Answer = Union[Judged, Failure]
 
 
 class Task(NamedTuple):
-    """A capture by its place among all, with its octets, or the fault of reading it, and its questions."""
+    """A capture by its place among all, with its octets, or the fault of reading it, and its questions. Without octets
+    it's read by its path where it's judged."""
 
     number: int
-    octets: bytes
+    path: str
+    octets: Optional[bytes]
     fault: Optional[OSError]
     questions: List[Question]
 
@@ -37,10 +41,23 @@ def is_of_read(fault: OSError) -> bool:
     return isinstance(fault, IsADirectoryError) or (fault.errno is not None and fault.filename is None)
 
 
+def processors() -> int:
+    return len(os.sched_getaffinity(0)) if hasattr(os, "sched_getaffinity") else os.cpu_count() or 1
+
+
+def judged_task(task: Task, common: Common, program: Program, place: Optional[str] = None) -> Judged:
+    """The verdicts of a capture, which is read where it wasn't."""
+    try:
+        octets = octets_of(task.path) if task.octets is None else task.octets
+    except OSError as fault:
+        return of_unread(task, fault, common)
+    return judged(octets, task.questions, common, program, place)
+
+
 def answer(common: Common, program: Program, task: Task, place: Optional[str] = None) -> Answer:
     """The verdicts, or what ends all. A fault that a capture leads to, of whatever kind, is no other capture's."""
     try:
-        return judged(task.octets, task.questions, common, program, place)
+        return judged_task(task, common, program, place)
     except Failure as fault:
         return fault
     except MemoryError:

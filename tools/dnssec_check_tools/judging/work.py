@@ -2,13 +2,14 @@
 import contextlib
 import os
 import tempfile
-from typing import Dict, Iterable, Iterator, List, NamedTuple, Optional, Tuple
+from typing import Dict, Iterator, List, NamedTuple, Optional
 
 from ..asking.questions import Question
 from ..program import EXPLAIN, FAILED, Json, Program, Told, Unlisted
-from ..verifying.entries import Lacking, Refusal, entry_of, statement_of
+from ..verifying.verifier import Budget
 
 from .evidence import Evidence
+from .statements import FILE, write_statements
 
 DENYING = {47: "NSEC", 50: "NSEC3"}
 
@@ -20,6 +21,7 @@ class Common(NamedTuple):
     keys: Optional[bytes]
     macs: Optional[bytes]
     moments: List[int]
+    budget: Budget = Budget()
 
 
 class Row(NamedTuple):
@@ -58,18 +60,6 @@ def in_memory(octets: Optional[bytes]) -> Iterator[Optional[int]]:
         yield file.fileno()
 
 
-def statements_of(lines: Iterable[str]) -> Tuple[List[str], List[str]]:
-    """The statements that answer the lines, and why the others can't be answered here."""
-    statements: List[str] = []
-    notes: Dict[str, int] = {}
-    for line in lines:
-        try:
-            statements.append(statement_of(entry_of(line, "a signature")))
-        except (Lacking, Refusal) as why:
-            notes[str(why)] = notes.get(str(why), 0) + 1
-    return statements, [f"{count} signatures aren't verified: {why}" for why, count in notes.items()]
-
-
 def judged(
     octets: bytes, questions: List[Question], common: Common, program: Program, place: Optional[str] = None
 ) -> Judged:
@@ -79,18 +69,15 @@ def judged(
         files = {name: content for name, content in given.items() if content is not None}
         write_files(folder, files)
         try:
-            todo = dict.fromkeys(line for moment in common.moments for line in program.todo(folder, moment))
+            notes, view = write_statements(folder, common.moments, common.budget, program), View(octets)
         except Unlisted as fault:
             return without_verdicts(questions, common, of_fault(fault.said))
-        statements, notes = statements_of(todo)
-        files["statements"], view = "".join(statements).encode(), View(octets)
+        names = [*files, FILE, "anchors"]
         rows: List[Row] = []
-        write_files(folder, {"statements": files["statements"]})
         for moment in common.moments:
-            files["anchors"] = common.anchors[moment]
-            write_files(folder, {"anchors": files["anchors"]})
+            write_files(folder, {"anchors": common.anchors[moment]})
             rows += [
-                view.row(moment, question, program.told(EXPLAIN, folder, files, moment, question, keys))
+                view.row(moment, question, program.told(EXPLAIN, folder, names, moment, question, keys))
                 for question in questions
             ]
     return Judged(rows, notes)

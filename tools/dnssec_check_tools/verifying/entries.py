@@ -3,13 +3,14 @@ import importlib
 import re
 from typing import Any, NamedTuple, Tuple
 
-from .rsa import Malformed, is_signed_by_rsa
+from .rsa import LongExponent, Malformed, is_signed_by_rsa
 
-HEX = r"(?:-|(?:[0-9A-Fa-f]{2})+)"
+HEX = "-|[0-9A-Fa-f]+"  # digits by pairs would take ten times as long
 TODO = re.compile(rf"todo (0|[1-9][0-9]{{0,2}}) ({HEX}) ({HEX}) ({HEX})")
 
 
 class Entry(NamedTuple):
+    line: str
     place: str
     algorithm: int
     fields: Tuple[str, ...]
@@ -20,7 +21,7 @@ class Refusal(Exception):
 
 
 class Lacking(Exception):
-    """An algorithm can't be verified here."""
+    """A signature isn't verified here, for want of its algorithm or for what its key would cost."""
 
 
 def curves() -> Any:
@@ -55,17 +56,18 @@ def octets_of(field: str) -> bytes:
 def entry_of(line: str, place: str) -> Entry:
     """The algorithm and the three hex fields of a line to verify."""
     match = TODO.fullmatch(line)
-    if not match:
+    if not match or any(len(field) % 2 for field in match.groups()[1:] if field != "-"):
         raise Refusal(f"{place}: no line `todo ALG KEY DATA SIG`")
     if int(match[1]) not in VERIFIERS:
         raise Refusal(f"{place}: algorithm {match[1]} is none of " + ", ".join(map(str, VERIFIERS)))
-    return Entry(place, int(match[1]), match.groups()[1:])
+    return Entry(line, place, int(match[1]), match.groups()[1:])
 
 
-def statement_of(entry: Entry) -> str:
-    """The line that answers the entry."""
+def is_verified_good(entry: Entry) -> bool:
+    """Whether the entry's signature is good; Lacking where it can't be told here."""
     try:
-        word = "good" if is_good(entry.algorithm, *map(octets_of, entry.fields)) else "bad"
+        return is_good(entry.algorithm, *map(octets_of, entry.fields))
     except (ImportError, NotImplementedError) as fault:
         raise Lacking(f"the package cryptography lacks algorithm {entry.algorithm}: {fault}") from fault
-    return " ".join((word, str(entry.algorithm), *entry.fields)) + "\n"
+    except LongExponent as fault:
+        raise Lacking(str(fault)) from fault

@@ -3,6 +3,7 @@ import hashlib
 from typing import Tuple
 
 BITS_MOST = 4096
+EXPONENT_BITS_MOST = 64  # of an exponent that is raised to: the time grows with its bits, and keys in use have 17
 
 # What stands before a hash in the padded message: the DER front of a DigestInfo (RFC 3110 3, RFC 5702 3.1, 3.2).
 DIGEST_INFO = {
@@ -14,6 +15,10 @@ DIGEST_INFO = {
 
 class Malformed(Exception):
     """A key or a signature isn't laid out as its algorithm asks."""
+
+
+class LongExponent(Exception):
+    """Whoever verified by the key would give it the time that its maker wants."""
 
 
 def rsa_number(octets: bytes) -> int:
@@ -43,6 +48,8 @@ def is_signed_by_rsa(hash_name: str, bits_least: int, key: bytes, data: bytes, s
     number = int.from_bytes(signature, "big")
     if len(signature) != size or number >= modulus:
         raise Malformed
+    if exponent.bit_length() > EXPONENT_BITS_MOST:
+        raise LongExponent(f"the exponent of the RSA key has more than {EXPONENT_BITS_MOST} bits")
     digest = hashlib.new(hash_name, data, usedforsecurity=False).digest()
     end = b"\x00" + DIGEST_INFO[hash_name] + digest
     return pow(number, exponent, modulus).to_bytes(size, "big") == (b"\x00\x01").ljust(size - len(end), b"\xff") + end

@@ -118,7 +118,7 @@ class Ends(Judging):
 class Keys(Judging):
     def test_keys_are_in_no_file_that_could_be_left(self):
         """Looked for while the program runs, by which they are read nonetheless."""
-        example, = (each for each in examples("check") if each.name == "tsig-named-nosuch-check")
+        example, = (each for each in examples("check") if each.name == "tsig-named-nosuch/check")
         files = {name: example.options[name] for name in ("anchors", "keys", "macs")}
         temporary, secret = self.room / "temporary", files["keys"].read_text().split()[-1]
         temporary.mkdir()

@@ -154,7 +154,8 @@ class Words(Judging):
         if self.room not in self.program.parents:
             self.assertEqual((status, verdicts(lines), errors), (6, [
                 "www.bind.test. A at 2026-11-22T12:00:00Z: SecureAnswer, until 2027-03-01 (98 days)",
-                "www.bind.test. A at 2026-11-22T11:59:59Z: Indeterminate"], ""))
+                "www.bind.test. A at 2026-11-22T11:59:59Z: Indeterminate"],
+                f"judge: note: of the anchors {path} none may be used at 2026-11-22T11:59:59Z\n"))
 
     def test_the_standard_input_is_a_capture(self):
         self.assertEqual(self.noon("-", "www.bind.test/A", given=WWW.read_bytes())[0], 0)

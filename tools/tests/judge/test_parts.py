@@ -32,7 +32,7 @@ class Moments(unittest.TestCase):
 
     def test_others_are_refused(self):
         for text in ("", "2026-11-22", "2026-11-22T12:00:00", "2026-11-22Z", "2026-13-22T12:00:00Z", "-5", "281474976710656", "1969-12-31T23:59:59Z",
-                     "١", "yesterday", "9" * 30):
+                     "١", "yesterday", "9" * 30, "2026-11-22T12:00:00Z\n", "2026-11-22T12:00:00+01:00\n", "2026-11-22T12:00:00\nZ"):
             with self.subTest(text), self.assertRaises(faults.WrongLine):
                 moments.seconds_of(text)
 
@@ -95,7 +95,10 @@ class Anchors(unittest.TestCase):
                       "$ORIGIN x.example.\n$origin example. ; note\n@ IN 5 DS", "$TTL 3600\n \n\t\nexample DS"):
             for text in (f"{front} 10520 13 2 {digest}", f"{front} 10520 13 2 {digest}".replace("\n", "\r\n")):
                 self.assertEqual(self.of(text).lower().lstrip("\n"), self.DS.lower())
-        self.assertEqual(self.of("a\\.b. IN DNSKEY 257 3 13 ( AQ\n ID ) ; key"), "KEY a\\.b. 257 3 13 AQID\n")
+        for key in ("( AQ\n ID ) ; key", "AQID", "A Q ( I\n\n D )"):
+            self.assertEqual(self.of(f"a\\.b. IN DNSKEY 257 3 13 {key}"), "KEY a\\.b. 257 3 13 AQID\n")
+        self.assertEqual(self.of("a\\.b. IN DNSKEY \\# 7 ( 010103\n0d010203 ) ; key"), "KEY a\\.b. 257 3 13 AQID\n")
+        self.assertEqual(self.of("a. DNSKEY 257 3 13 AQ=="), "KEY a. 257 3 13 AQ==\n")
 
     def test_each_stands_on_its_line_in_its_order(self):
         """So the program says of which anchor and line of the file it speaks, also where those of an owner aren't together."""
@@ -106,7 +109,9 @@ class Anchors(unittest.TestCase):
 
     def test_a_refusal_names_the_line(self):
         for line in ("b. CH DS 1 13 2 00", "b. A 192.0.2.1", "b. 5 5 DS 1 13 2 00", "b. IN IN DS", "b. 5 IN 5 DS", "b. DS 1 13", "b.", "$TTL x",
-                     "$TTL 5 6", "$ORIGIN", "$INCLUDE x", "$GENERATE 1-9 a DS 1 13 2 00", "b. DS 1 8 1 (\n00 )", "1 DS 1 13 2 0", "b. DS 1 8 1 \"00"):
+                     "$TTL 5 6", "$ORIGIN", "$INCLUDE x", "$GENERATE 1-9 a DS 1 13 2 00", "b. DS 1 8 1 (\n00 )", "1 DS 1 13 2 0", "b. DS 1 8 1 \"00",
+                     "b. DNSKEY 257 3 13 AQ*ID", "b. DNSKEY 257 3 13 ( AQ\nI-D )", "b. DNSKEY 257 3 13 AQID\u00e9", "b. DNSKEY 257 3 13 AQI=D",
+                     "b. DNSKEY 257 3 13 \"AQID\""):
             with self.subTest(line), self.assertRaisesRegex(faults.Refusal, "^the anchors .*: neither .* records: line 4: "):
                 self.of(f"\na. DS 1 8 1 ( {'00' * 20}\n)\n{line}\n")
 
@@ -129,7 +134,17 @@ ABABABABABABABABABAB</Digest><PublicKey>AQID</PublicKey><Flags>257</Flags>
         for moment, told in ((0, "\n"), (999, "\n"), (1000, one), (1499, one), (1500, one + two), (2000, one + two), (2001, two), (1 << 47, two)):
             for front in ("", "\ufeff", "\n"):
                 text = front + (self.XML if front != "\n" else self.XML.split("\n", 1)[1])
-                self.assertEqual(self.of(text, moment), told)
+                with mock.patch.object(anchors, "tell"):
+                    self.assertEqual(self.of(text, moment), told)
+
+    def test_xml_that_is_out_of_time_has_a_note(self):
+        """At each moment at which none may be used; the program then says Indeterminate, and not why."""
+        with tempfile.TemporaryDirectory() as room, mock.patch.object(anchors, "tell") as told:
+            path = pathlib.Path(room) / "root-anchors.xml"
+            path.write_text(self.XML)
+            anchors.anchors_of(str(path), [999, 1000, 0])
+            notes = [f"note: of the anchors {path} none may be used at 1970-01-01T00:{time}Z" for time in ("16:39", "00:00")]
+            self.assertEqual(told.mock_calls, [mock.call(note) for note in notes])
 
     def test_other_xml_is_refused(self):
         changes = ("<TrustAnchor ", "<!DOCTYPE x [<!ENTITY e 'e'>]>\n<TrustAnchor ", "DOCTYPE"), ("</TrustAnchor>", "", "no XML: "), \

@@ -36,12 +36,13 @@ class Listing(Judging):
                 self.assertEqual(self.row(f'[ "$1" = list ] && {{ {script}; }}'), f"www.bind.test. A: fault {told}")
 
     def test_other_captures_have_their_verdicts(self):
+        """One so large has a limit of memory, but that isn't what fails."""
         for name in ("1.cap", "2.cap", "3.cap"):
             shutil.copy(WWW, self.room / name)
         with open(self.room / "2.cap", "ab") as file:
             file.write(WWW.read_bytes())
         size = (self.room / "2.cap").stat().st_size
-        self.program = self.stand_in(f'[ "$1" = list ] && [ $(stat -c %s capture) = {size} ] && {{ echo fault 90 >&2; exit 1; }}')
+        self.program = self.stand_in(f'[ "$1" = list ] && [ $(stat -c %s capture) = {size} ] && {{ echo fault 91 >&2; exit 1; }}')
         status, lines, _ = self.noon("--tsv", self.room, "www.bind.test/A")
         self.assertEqual((status, [line.split("\t")[5] for line in lines[1:]]), (1, ["SecureAnswer", "fault", "SecureAnswer"]))
 
@@ -89,7 +90,7 @@ class Memory(unittest.TestCase):
         question = Question("a.", 1)
         common = Common({7: b""}, None, None, [7])
         with mock.patch.object(spread, "judged", side_effect=MemoryError):
-            found = spread.answer(common, None, spread.Task(0, b"", None, [question]))
+            found = spread.answer(common, None, spread.Task(0, "-", b"", None, [question]))
         self.assertEqual(found.rows, [Row(7, question, 1, "fault", {"number": 90}, None)])
 
 

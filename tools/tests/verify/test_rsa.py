@@ -1,5 +1,6 @@
 """Tests of tools/verify with keys of RSA: what is good, and what is malformed."""
 import hashlib
+import math
 import unittest
 
 from cryptography.hazmat.primitives import hashes
@@ -78,8 +79,22 @@ class Keys(unittest.TestCase):
     def test_an_exponent_of_more_than_255_octets(self):
         exponent = self.phi - 1
         self.assertGreater(len(octets_of_number(exponent)), 255)
+        self.assertEqual(keys.rsa_key(key_field(self.modulus, exponent), 512), (self.modulus, exponent))
+
+    def test_exponents_above_64_bits_are_not_verified(self):
+        """Neither good nor bad is said of them, but of what is malformed bad all the same."""
         message = self.padded(keys.DIGEST_INFO["sha256"], hashlib.sha256(b"data").digest())
-        self.assertTrue(self.is_good(self.signed(message, exponent), exponent))
+        rows = ((1 << 63) + 29, True), ((1 << 64) - 1, True), ((1 << 64) + 13, False), (self.phi - 1, False)
+        for exponent, is_verified in rows:
+            if is_verified and math.gcd(exponent, self.phi) == 1:
+                self.assertTrue(self.is_good(self.signed(message, exponent), exponent))
+            elif is_verified:
+                self.assertFalse(self.is_good(message, exponent))
+            else:
+                with self.assertRaisesRegex(keys.LongExponent, "has more than 64 bits"):
+                    self.is_good(message, exponent)
+            self.assertFalse(self.is_good(message[1:], exponent))
+            self.assertFalse(self.is_good(message, exponent + 1))
 
     def test_other_padding_is_bad(self):
         info, digest = keys.DIGEST_INFO["sha256"], hashlib.sha256(b"data").digest()

@@ -59,6 +59,42 @@ class Vectors(unittest.TestCase):
                     self.assertFalse(entries.is_good(other, *fields))
 
 
+def encoded(y, size, sign=0):
+    """A point of EdDSA (RFC 8032 5.1.2, 5.2.2)."""
+    return (y | sign << (8 * size - 1)).to_bytes(size, "little")
+
+
+class SmallOrders(unittest.TestCase):
+    """Keys that no secret gives: with S zero the equation of RFC 8032 5.1.7 holds for whichever data whose hash the
+    order divides, so one of few data has such a signature by each of them."""
+
+    PRIMES = {15: 2**255 - 19, 16: 2**448 - 2**224 - 1}
+    ORDER_8 = (0x05FC536D880238B13933C6D305ACDFD5F098EFF289F4C345B027B2C28F95E826,
+               0x7A03AC9277FDC74EC6CC392CFA53202A0F67100D760B3CBA4FD84D3D706A17C7)
+
+    def keys(self):
+        """Of Ed25519 all, with the sign and with the prime added where that fits; of Ed448 the same."""
+        for algorithm, prime in self.PRIMES.items():
+            size = 32 if algorithm == 15 else 57
+            for y in (0, 1, prime - 1, *(self.ORDER_8 if algorithm == 15 else ()), prime, prime + 1):
+                for sign in (0, 1):
+                    yield algorithm, encoded(y, size, sign)
+
+    def test_the_point_of_order_8_is_one(self):
+        """By the curve: y of a point whose double has y = 0, so that x^2 = -y^2 with 2 y^2 = 1 - d y^4 (RFC 8032 5.1)."""
+        prime = self.PRIMES[15]
+        d = -121665 * pow(121666, -1, prime) % prime
+        for y in self.ORDER_8:
+            self.assertEqual((d * pow(y, 4, prime) + 2 * y * y - 1) % prime, 0)
+
+    def test_keys_of_small_order_are_malformed(self):
+        for algorithm, key in self.keys():
+            with self.subTest(algorithm, key=key.hex()):
+                for end in (encoded(1, len(key)), encoded(0, len(key)), encoded(self.PRIMES[algorithm] - 1, len(key))):
+                    signature = end + bytes(len(key))
+                    self.assertFalse(any(entries.is_good(algorithm, key, b"%d" % number, signature) for number in range(32)))
+
+
 class RealLines(unittest.TestCase):
     def test_real_lines_get_the_statements_that_were_made_for_them(self):
         status, output, errors = run("verify", DATA / "todo")

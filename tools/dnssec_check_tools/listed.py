@@ -1,0 +1,59 @@
+"""The lines of `dnssec_check list` as they come: no more of them is read, and none is in memory, than is asked for."""
+import os
+import subprocess
+import tempfile
+from typing import IO, Iterator, List, Optional
+
+from .asking.faults import Failure
+
+# The program has all that it lists in memory before it writes. So it gets no more memory than for what is read, and
+# what it may need besides; but for captures from which, with 48 keys of one tag, 16 signatures of an RRset and owners
+# that are pointers to long names, no more than some 70 MB can be made.
+LISTS_LITTLE = 4096
+MEMORY_BESIDES = 100_000_000
+LIMITED = ("/bin/sh", "-c", 'ulimit -v "$0" && exec "$@"')
+NO_MEMORY = "fault 90"
+
+
+class Listed:
+    """What the program lists of a capture, up to so many octets: behind them it is ended."""
+
+    def __init__(self, command: List[str], folder: str, capture: str, most: int) -> None:
+        self.folder, self.most = folder, most
+        self.is_limited = os.path.getsize(os.path.join(folder, capture)) > LISTS_LITTLE
+        self.command = [*LIMITED, str((most + MEMORY_BESIDES) // 1024), *command] if self.is_limited else command
+        self.octets, self.is_cut = 0, False
+        self.status: Optional[int] = None  # of the program, where it came to its end within the limits
+        self.errors = ""
+
+    def lines(self) -> Iterator[str]:
+        """The lines, to be asked for once."""
+        with tempfile.TemporaryFile() as errors, self.started(errors) as process:
+            assert process.stdout is not None
+            try:
+                yield from self.read(process.stdout)
+                status = None if self.is_cut else process.wait()
+            finally:
+                process.kill()
+            errors.seek(0)
+            self.errors = errors.read().decode("utf-8", "replace")
+        self.is_cut = self.is_cut or (self.is_limited and self.errors.startswith(NO_MEMORY))
+        self.status = None if self.is_cut else status
+
+    def started(self, errors: IO[bytes]) -> "subprocess.Popen[bytes]":
+        try:
+            return subprocess.Popen(
+                self.command, cwd=self.folder, stdin=subprocess.DEVNULL, stdout=subprocess.PIPE, stderr=errors
+            )
+        except OSError as fault:
+            raise Failure(f"{self.command[0]}: {fault.strerror}") from fault
+
+    def read(self, output: IO[bytes]) -> Iterator[str]:
+        """The whole lines."""
+        while line := output.readline(self.most - self.octets + 1):
+            if self.octets + len(line) > self.most:
+                self.is_cut = True
+                return
+            self.octets += len(line)
+            if line.endswith(b"\n"):
+                yield line[:-1].decode("ascii", "replace")

@@ -1,0 +1,110 @@
+"""Tests of what judge verifies of a capture: within a budget, which a note tells whatever the verdict, and once."""
+import os
+import tempfile
+import unittest
+from unittest import mock
+
+from dnssec_check_tools import listed
+from dnssec_check_tools.judging import statements
+from dnssec_check_tools.program import Program
+from dnssec_check_tools.verifying import verifier
+
+from .helper import Judging, capture_of, needs_dns, verdicts
+
+WWW, NOSUCH = map(capture_of, ("bind-www-a", "bind-nosuch"))
+SECONDS = "signatures aren't verified: the 0 seconds of the budget are over; --budget SECONDS gives more\n"
+OCTETS = "more is listed to be verified than the {0:,} octets of the budget: the program was ended behind {1:,} of them, and " \
+    "what is left isn't verified; --budget-octets OCTETS gives more\n"
+
+
+@needs_dns
+class Notes(Judging):
+    def test_they_are_told_whatever_the_verdict(self):
+        if self.room in self.program.parents:
+            self.skipTest("the double knows no statements")
+        for option, told in (("--budget", SECONDS), ("--budget-octets", OCTETS.format(0, 0))):
+            for question, word in (("www.bind.test/A", "Pending"), ("other.bind.test/A", "Bogus")):
+                with self.subTest(option, question=question):
+                    _, lines, errors = self.noon(option, "0", WWW, question)
+                    self.assertIn(f": {word}", verdicts(lines)[0])
+                    self.assertTrue(errors.startswith(f"judge: {WWW}: ") and errors.endswith(told), errors)
+                    self.assertEqual(errors.count("\n"), 1)
+
+    def test_enough_of_both_has_no_note(self):
+        told = self.noon("--budget", "600", "--budget-octets", "1000000", WWW, "www.bind.test/A")
+        self.assertEqual(told, (0, ["www.bind.test. A: SecureAnswer, until 2027-03-01 (98 days)"], ""))
+
+
+class Room(unittest.TestCase):
+    """A folder with a capture, and a program that lists what is wanted of it."""
+
+    def setUp(self):
+        room = tempfile.TemporaryDirectory()
+        self.addCleanup(room.cleanup)
+        self.room = room.name
+        self.lay("capture", "x")
+
+    def lay(self, name, text):
+        path = os.path.join(self.room, name)
+        with open(path, "w", encoding="ascii") as file:
+            file.write(text)
+        os.chmod(path, 0o755)
+        return path
+
+    def program(self, text):
+        return Program(self.lay("program", f"#!/bin/sh\n{text}\n"))
+
+
+class Reads(Room):
+    LINES = [f"todo 13 {number:02x} 02 03" for number in range(3)]
+
+    def listed(self, text, most):
+        found = self.program(text).listed(self.room, 0, most)
+        return list(found.lines()), found.octets, found.is_cut, found.status
+
+    def test_lines_up_to_so_many_octets(self):
+        text, size = "printf '" + "\\n".join(self.LINES) + "\\n'", len(self.LINES[0]) + 1
+        for most, count in ((3 * size, 3), (3 * size - 1, 2), (2 * size, 2), (size - 1, 0), (0, 0)):
+            with self.subTest(most):
+                is_cut = count < 3
+                self.assertEqual(self.listed(text, most), (self.LINES[:count], count * size, is_cut, None if is_cut else 0))
+
+    def test_a_program_that_never_ends_is_ended(self):
+        lines, octets, is_cut, status = self.listed("exec yes 'todo 13 01 02 03'", 170)
+        self.assertEqual((lines, octets, is_cut, status), (["todo 13 01 02 03"] * 10, 170, True, None))
+
+    def test_how_it_ends_is_kept(self):
+        found = self.program("echo 'fault 90' >&2; printf 'todo 13'; exit 1").listed(self.room, 0, 100)
+        self.assertEqual((list(found.lines()), found.status, found.errors, found.is_cut), ([], 1, "fault 90\n", False))
+
+    def test_a_large_capture_lists_within_the_memory_for_what_is_read(self):
+        self.lay("capture", "x" * (listed.LISTS_LITTLE + 1))
+        self.assertEqual(self.listed("ulimit -v; exit 0", 48)[0], [str((48 + listed.MEMORY_BESIDES) // 1024)])
+        self.assertEqual(self.listed("echo 'fault 90' >&2; exit 1", 48), ([], 0, True, None))
+        self.assertEqual(self.listed("echo 'fault 91' >&2; exit 1", 48), ([], 0, False, 1))
+        self.lay("capture", "x" * listed.LISTS_LITTLE)
+        self.assertEqual(self.listed("echo 'fault 90' >&2; exit 1", 48), ([], 0, False, 1))
+
+
+class Once(Room):
+    def write(self, text, moments, kept):
+        notes = statements.write_statements(self.room, moments, verifier.Budget(9, 100), self.program(text), kept)
+        with open(os.path.join(self.room, "statements"), encoding="ascii") as file:
+            return file.read(), notes
+
+    def test_lines_of_several_moments_and_captures_are_verified_once(self):
+        verified, kept, program = [], verifier.Kept(), "echo todo 13 01 02 03; echo todo 13 01 02 ${3#--moment=}"
+        with mock.patch.object(verifier, "is_verified_good", lambda entry: not verified.append(entry.line)):
+            told = [self.write(program, moments, kept) for moments in ([10, 20, 20], [20, 30])]
+        ends = ["03", "10", "20", "30"]
+        self.assertEqual(verified, [f"todo 13 01 02 {end}" for end in ends])
+        first, second = ("".join(f"good 13 01 02 {end}\n" for end in chosen) for chosen in (ends[:3], ["03", "20", "30"]))
+        self.assertEqual(told, [(first, []), (second, [])])
+
+    def test_what_is_behind_the_octets_has_a_note(self):
+        told = self.write("exec yes todo 16 01 02 03", [1, 2], verifier.Kept())
+        self.assertEqual(told, ("bad 16 01 02 03\n", [OCTETS.format(100, 85).rstrip("\n")]))
+
+
+if __name__ == "__main__":
+    unittest.main()
