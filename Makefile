@@ -47,7 +47,7 @@ examples: | $(program)
 	tools/examples
 
 # What the built program does where memory, a file or a write fails it, and on captures that are cut, changed or
-# incomplete, and what the libraries do that are called again; needs python3 and cc. `check` tries a share of it.
+# incomplete, and what the libraries do that are called again; needs python3 and cc. `check` does it too.
 faults: | $(program) $(rows)
 	tools/faults
 

@@ -36,8 +36,6 @@ OF_TESTS = (
 OF_LINT = ("black", "mypy", "pylint", *OF_TOOLS, "python3-jinja2", "python3-rich")
 # The tests that take longest.
 LONG = ("tests/judge", "tests/program")
-# The share of the faults that is tried: whole they take longer than all other guards together.
-FAULTS = "1/4"
 
 
 @dataclass(frozen=True)
@@ -81,7 +79,7 @@ def guards() -> list[Guard]:
     crates = sorted(folder.parent.name for folder in (TREE / "crates").glob("*/does-not-compile"))
     return [
         *sorted(map(of_tests, folders), key=lambda guard: guard.name not in LONG),
-        Guard("faults", ("tools/faults", "--share", FAULTS), packages=("gcc", "libc6-dev"), built=(PROGRAM, ROWS)),
+        Guard("faults", ("tools/faults",), packages=("gcc", "libc6-dev"), built=(PROGRAM, ROWS)),
         *map(of_loans, crates),
         Guard("lint", ("tools/lint",), packages=OF_LINT),
         Guard("examples", ("tools/examples",), built=(PROGRAM,)),
