@@ -82,6 +82,7 @@ class Reads(Room):
         self.assertEqual(self.listed("ulimit -v; exit 0", 48)[0], [str((48 + listed.MEMORY_BESIDES) // 1024)])
         self.assertEqual(self.listed("echo 'fault 90' >&2; exit 1", 48), ([], 0, True, None))
         self.assertEqual(self.listed("echo 'fault 91' >&2; exit 1", 48), ([], 0, False, 1))
+        self.assertEqual(self.listed("echo 'fault 90' >&2; exit 1", 64_000_000), ([], 0, False, 1))
         self.lay("capture", "x" * listed.LISTS_LITTLE)
         self.assertEqual(self.listed("echo 'fault 90' >&2; exit 1", 48), ([], 0, False, 1))
 
