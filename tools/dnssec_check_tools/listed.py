@@ -1,5 +1,6 @@
 """The lines of `dnssec_check list` as they come: no more of them is read, and none is in memory, than is asked for."""
 import os
+import resource
 import subprocess
 import tempfile
 from typing import IO, Iterator, List, Optional
@@ -61,7 +62,9 @@ class Listed:
 
 
 def peak_of(process: "subprocess.Popen[bytes]") -> int:
-    """Waits for its end, and answers how many octets of memory it had at most."""
+    """Waits for its end, and answers how many octets of memory it had at most; 0 where that isn't more than this process
+    had, which the system counts for it too, from before it became another program."""
     _, status, usage = os.wait4(process.pid, 0)
     process.returncode = os.waitstatus_to_exitcode(status)
-    return usage.ru_maxrss * 1024
+    own = resource.getrusage(resource.RUSAGE_SELF).ru_maxrss
+    return usage.ru_maxrss * 1024 if usage.ru_maxrss > own else 0
