@@ -1,5 +1,6 @@
 """The lines of `dnssec_check list` as they come: no more of them is read, and none is in memory, than is asked for."""
 import os
+import resource
 import subprocess
 import tempfile
 from typing import IO, Iterator, List, Optional
@@ -32,13 +33,14 @@ class Listed:
             assert process.stdout is not None
             try:
                 yield from self.read(process.stdout)
-                status = None if self.is_cut else process.wait()
+                peak = 0 if self.is_cut else peak_of(process)
             finally:
                 process.kill()
             errors.seek(0)
             self.errors = errors.read().decode("utf-8", "replace")
-        self.is_cut = self.is_cut or (self.is_limited and self.errors.startswith(NO_MEMORY))
-        self.status = None if self.is_cut else status
+        is_full = self.is_limited and peak > self.most  # else the memory is lacking for another reason
+        self.is_cut = self.is_cut or (is_full and self.errors.startswith(NO_MEMORY))
+        self.status = None if self.is_cut else process.returncode
 
     def started(self, errors: IO[bytes]) -> "subprocess.Popen[bytes]":
         try:
@@ -57,3 +59,12 @@ class Listed:
             self.octets += len(line)
             if line.endswith(b"\n"):
                 yield line[:-1].decode("ascii", "replace")
+
+
+def peak_of(process: "subprocess.Popen[bytes]") -> int:
+    """Waits for its end, and answers how many octets of memory it had at most; 0 where that isn't more than this process
+    had, which the system counts for it too, from before it became another program."""
+    _, status, usage = os.wait4(process.pid, 0)
+    process.returncode = os.waitstatus_to_exitcode(status)
+    own = resource.getrusage(resource.RUSAGE_SELF).ru_maxrss
+    return usage.ru_maxrss * 1024 if usage.ru_maxrss > own else 0

@@ -80,8 +80,10 @@ class Reads(Room):
     def test_a_large_capture_lists_within_the_memory_for_what_is_read(self):
         self.lay("capture", "x" * (listed.LISTS_LITTLE + 1))
         self.assertEqual(self.listed("ulimit -v; exit 0", 48)[0], [str((48 + listed.MEMORY_BESIDES) // 1024)])
-        self.assertEqual(self.listed("echo 'fault 90' >&2; exit 1", 48), ([], 0, True, None))
-        self.assertEqual(self.listed("echo 'fault 91' >&2; exit 1", 48), ([], 0, False, 1))
+        self.assertEqual(self.listed("echo 'fault 90' >&2; exit 1", 48), ([], 0, False, 1))
+        with mock.patch.object(listed, "peak_of", lambda process: process.wait() + 48):
+            for number, most, told in ((90, 48, (True, None)), (91, 48, (False, 1)), (90, 49, (False, 1))):
+                self.assertEqual(self.listed(f"echo 'fault {number}' >&2; exit 1", most), ([], 0, *told))
         self.lay("capture", "x" * listed.LISTS_LITTLE)
         self.assertEqual(self.listed("echo 'fault 90' >&2; exit 1", 48), ([], 0, False, 1))
 
