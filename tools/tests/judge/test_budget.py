@@ -5,8 +5,8 @@ import unittest
 from unittest import mock
 
 from dnssec_check_tools import listed
-from dnssec_check_tools.judging import statements
-from dnssec_check_tools.program import Program
+from dnssec_check_tools.judging import spread, statements, work
+from dnssec_check_tools.program import Program, Unlisted
 from dnssec_check_tools.verifying import verifier
 
 from .helper import Judging, capture_of, needs_dns, verdicts
@@ -102,6 +102,33 @@ class Once(Room):
         self.assertEqual(verified, [f"todo 13 01 02 {end}" for end in ends])
         first, second = ("".join(f"good 13 01 02 {end}\n" for end in chosen) for chosen in (ends[:3], ["03", "20", "30"]))
         self.assertEqual(told, [(first, []), (second, [])])
+
+    def test_a_process_verifies_once_for_all_captures_that_it_judges(self):
+        path, program = self.lay("verified", ""), self.program("echo todo 13 0a 0b 0c")
+
+        def is_verified_good(entry):
+            with open(path, "a", encoding="ascii") as file:
+                file.write(entry.line)
+            return True
+
+        tasks = [spread.Task(number, "-", b"x", None, []) for number in range(3)]
+        with mock.patch.object(verifier, "is_verified_good", is_verified_good):
+            told = list(spread.in_processes(tasks, work.Common({5: b""}, None, None, [5]), program, 1))
+        self.assertEqual(told, [(number, work.Judged([], [])) for number in range(3)])
+        with open(path, encoding="ascii") as file:
+            self.assertEqual(file.read(), "todo 13 0a 0b 0c")
+
+    def test_a_list_that_fails_is_a_fault_but_for_want_of_the_memory_that_it_gets(self):
+        self.lay("capture", "x" * (listed.LISTS_LITTLE + 1))
+        told = self.write("echo 'fault 90' >&2; exit 1", [1, 2], verifier.Kept())
+        self.assertEqual(told, ("", [OCTETS.format(100, 0).rstrip("\n")]))
+        self.assertEqual(self.write("echo 'refused 100' >&2; exit 7", [1, 2], verifier.Kept()), ("", []))
+        rows = ("echo 'fault 91' >&2; exit 1", "91"), ("kill -KILL $$", "- dnssec_check list was ended by SIGKILL"), \
+            ("exec false", "- dnssec_check list ended with status 1")
+        for text, said in rows:
+            with self.subTest(text), self.assertRaises(Unlisted) as raised:
+                self.write(text, [1, 2], verifier.Kept())
+            self.assertEqual(raised.exception.said, said)
 
     def test_what_is_behind_the_octets_has_a_note(self):
         told = self.write("exec yes todo 16 01 02 03", [1, 2], verifier.Kept())

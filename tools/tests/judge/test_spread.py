@@ -87,11 +87,13 @@ class Processes(Judging):
 
 class Memory(unittest.TestCase):
     def test_memory_that_runs_out_is_the_fault_of_its_capture(self):
+        """Also while it's read."""
         question = Question("a.", 1)
         common = Common({7: b""}, None, None, [7])
-        with mock.patch.object(spread, "judged", side_effect=MemoryError):
-            found = spread.answer(common, None, spread.Task(0, "-", b"", None, [question]))
-        self.assertEqual(found.rows, [Row(7, question, 1, "fault", {"number": 90}, None)])
+        for name, octets in (("judged", b""), ("octets_of", None)):
+            with self.subTest(name), mock.patch.object(spread, name, side_effect=MemoryError):
+                found = spread.answer(common, None, spread.Task(0, "-", octets, None, [question]))
+                self.assertEqual(found.rows, [Row(7, question, 1, "fault", {"number": 90}, None)])
 
 
 if __name__ == "__main__":
