@@ -62,8 +62,8 @@ class Listed:
 
 
 def peak_of(process: "subprocess.Popen[bytes]") -> int:
-    """Waits for its end, and answers how many octets of memory it had at most; 0 where that isn't more than this process
-    had, which the system counts for it too, from before it became another program."""
+    """Waits for its end, and answers how many octets of memory it had at most; 0 where that isn't more than this
+    process had, which the system counts for it too, from before it became another program."""
     _, status, usage = os.wait4(process.pid, 0)
     process.returncode = os.waitstatus_to_exitcode(status)
     own = resource.getrusage(resource.RUSAGE_SELF).ru_maxrss

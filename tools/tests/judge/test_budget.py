@@ -120,11 +120,12 @@ class Once(Room):
 
     def test_a_list_that_fails_is_a_fault_but_for_want_of_the_memory_that_it_gets(self):
         self.lay("capture", "x" * (listed.LISTS_LITTLE + 1))
-        told = self.write("echo 'fault 90' >&2; exit 1", [1, 2], verifier.Kept())
+        with mock.patch.object(listed, "peak_of", lambda process: process.wait() + 100):
+            told = self.write("echo 'fault 90' >&2; exit 1", [1, 2], verifier.Kept())
         self.assertEqual(told, ("", [OCTETS.format(100, 0).rstrip("\n")]))
         self.assertEqual(self.write("echo 'refused 100' >&2; exit 7", [1, 2], verifier.Kept()), ("", []))
-        rows = ("echo 'fault 91' >&2; exit 1", "91"), ("kill -KILL $$", "- dnssec_check list was ended by SIGKILL"), \
-            ("exec false", "- dnssec_check list ended with status 1")
+        rows = ("echo 'fault 91' >&2; exit 1", "91"), ("echo 'fault 90' >&2; exit 1", "90"), \
+            ("kill -KILL $$", "- dnssec_check list was ended by SIGKILL"), ("exec false", "- dnssec_check list ended with status 1")
         for text, said in rows:
             with self.subTest(text), self.assertRaises(Unlisted) as raised:
                 self.write(text, [1, 2], verifier.Kept())
