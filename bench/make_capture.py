@@ -1,9 +1,6 @@
 #!/usr/bin/env python3
 """Writes a file of captured messages for the bench, the same for the same numbers.
 
-usage: make_capture.py KIND MESSAGES RECORDS > FILE
-       make_capture.py anchor > FILE
-
 Each message is a response with RECORDS records in its answer section, of one of these kinds:
   signed  RRsets of five records of the types A, AAAA, MX, TXT and NS at owners of their own, each with
           16 signatures, the most that an RRset may have
@@ -21,11 +18,15 @@ Each message is a response with RECORDS records in its answer section, of one of
   collide the keys of the first zone, and then in each message 16 keys of one tag of a zone below it and 46 DS records
           with that tag, of which none matches; RECORDS says nothing here
 
-The second form writes a file of the anchor that the zones of tree, chain, bare and collide begin with.
+With `anchor` alone it writes a file of the anchor that the zones of tree, chain, bare and collide begin with. It needs
+PYTHONPATH=tools.
+
+exit status: 0, it is written; 1, it couldn't be written; 2, the command line is wrong; 130, it was interrupted.
 """
 
 from __future__ import annotations
 
+import argparse
 import hashlib
 import random
 import struct
@@ -33,8 +34,13 @@ import sys
 
 from wire import QUESTION, ROOT, ZONE, anchor, key_tag, label, nsec3_rdata, record, response, rrsig, twin_key, zone_key
 
+from dnssec_check_tools.command import parser_of, run
+
 TYPES = {1: 4, 28: 16, 15: 0, 16: 24, 2: 0}  # the type and how many octets its RDATA has, 0 where it has a name
 DEEP = b"\x01a" * 121 + ROOT
+ANCHOR = "anchor"
+WIDTHS = {"tree": 8, "chain": 1, "bare": 1}  # how many zones each zone has below it
+KINDS = ("signed", "owners", "names", "deep", "pairs", "keyed", "tagged", "vouched", *WIDTHS, "collide")
 
 
 def rdata_of(draw: random.Random, rtype: int) -> bytes:
@@ -127,21 +133,35 @@ def collide(draw: random.Random, number: int) -> list[bytes]:
     ]
 
 
-def main() -> None:
-    if sys.argv[1] == "anchor":
+def records_of_kind(draw: random.Random, number: int, kind: str, count: int) -> list[bytes]:
+    """The records of one message."""
+    if kind in WIDTHS:
+        return zones_of(draw, number, count, WIDTHS[kind], 2 if kind == "bare" else 0)
+    return collide(draw, number) if kind == "collide" else records_of(draw, count, kind, number)
+
+
+def options_of(words: list[str]) -> argparse.Namespace:
+    parser = parser_of(__doc__)
+    parser.add_argument("kind", metavar="KIND", choices=[ANCHOR, *KINDS], help="one of the kinds below, or anchor")
+    parser.add_argument("messages", metavar="MESSAGES", type=int, nargs="?", help="how many messages")
+    parser.add_argument("records", metavar="RECORDS", type=int, nargs="?", help="how many records each of them has")
+    options = parser.parse_args(words)
+    if (options.kind == ANCHOR) != (options.messages is None) or (options.kind == ANCHOR) != (options.records is None):
+        parser.error("a capture needs MESSAGES and RECORDS, and an anchor has neither")
+    return options
+
+
+def main(words: list[str]) -> int:
+    options = options_of(words)
+    if options.kind == ANCHOR:
         sys.stdout.write(anchor("bench.example.", zone_key(0, 257)))
-        return
-    kind, messages, count = sys.argv[1], int(sys.argv[2]), int(sys.argv[3])
+        return 0
     draw = random.Random(20261122)
-    for number in range(messages):
-        width = {"tree": 8, "chain": 1, "bare": 1}.get(kind)
-        if width:
-            records = zones_of(draw, number, count, width, 2 if kind == "bare" else 0)
-        elif kind == "collide":
-            records = collide(draw, number)
-        else:
-            records = records_of(draw, count, kind, number)
-        sys.stdout.buffer.write(response(number, DEEP if kind == "deep" else ZONE, records))
+    for number in range(options.messages):
+        records = records_of_kind(draw, number, options.kind, options.records)
+        sys.stdout.buffer.write(response(number, DEEP if options.kind == "deep" else ZONE, records))
+    return 0
 
 
-main()
+if __name__ == "__main__":
+    run(main)

@@ -1,21 +1,20 @@
 #!/usr/bin/env python3
 """Writes a capture of a zone's denials for the bench, the same for the same numbers.
 
-usage: make_denials.py KIND RECORDS > FILE
-
 The zone is the root. The capture has RECORDS records: its DNSKEY record, and RRsets of one record, each with a
 signature. They are of one of these kinds:
   near   NSEC records with owners of 120 labels, of which a question of 127 has 119
   far    NSEC records with owners of two labels, of which it has none
   hashed NSEC3 records of 500 iterations, with 8 salts, that say nothing of any name
 
-usage: make_denials.py anchors > FILE
+With `anchors` alone it writes the trust anchor: the zone's key. It needs PYTHONPATH=tools.
 
-Writes the trust anchor: the zone's key.
+exit status: 0, it is written; 1, it couldn't be written; 2, the command line is wrong; 130, it was interrupted.
 """
 
 from __future__ import annotations
 
+import argparse
 import random
 import struct
 import sys
@@ -37,10 +36,14 @@ from wire import (
     rrsig,
 )
 
+from dnssec_check_tools.command import parser_of, run
+
 # An owner, the type, the RDATA and how many labels a signature counts.
 Denial = Tuple[bytes, int, bytes, int]
 ABOVE = b"\x01a" * 119 + ROOT
 KEY = struct.pack("!HBB", 257, 3, 13) + bytes(range(64))
+ANCHORS = "anchors"
+KINDS = ("near", "far", "hashed")
 
 
 def signature(draw: random.Random, rtype: int, labels: int) -> bytes:
@@ -64,24 +67,37 @@ def nsec3(draw: random.Random, count: int) -> Iterator[Denial]:
         yield hash_label(hashed) + ROOT, NSEC3, rdata, 1
 
 
-def main() -> None:
-    if sys.argv[1] == "anchors":
+def denials(draw: random.Random, kind: str, count: int) -> Iterator[Denial]:
+    if kind == "hashed":
+        return nsec3(draw, count)
+    return nsec(count, ABOVE if kind == "near" else b"\x01b" + ROOT)
+
+
+def options_of(words: list[str]) -> argparse.Namespace:
+    parser = parser_of(__doc__)
+    parser.add_argument("kind", metavar="KIND", choices=[ANCHORS, *KINDS], help="one of the kinds below, or anchors")
+    parser.add_argument("records", metavar="RECORDS", type=int, nargs="?", help="how many records the capture has")
+    options = parser.parse_args(words)
+    if (options.kind == ANCHORS) != (options.records is None):
+        parser.error("a capture needs RECORDS, and anchors have none")
+    return options
+
+
+def main(words: list[str]) -> int:
+    options = options_of(words)
+    if options.kind == ANCHORS:
         sys.stdout.write(anchor(".", KEY))
-        return
-    kind, count = sys.argv[1], int(sys.argv[2])
+        return 0
     draw = random.Random(20261123)
-    sets = (count - 2) // 2
-    rrsets = {
-        "near": lambda: nsec(sets, ABOVE),
-        "far": lambda: nsec(sets, b"\x01b" + ROOT),
-        "hashed": lambda: nsec3(draw, sets),
-    }[kind]()
+    rrsets = denials(draw, options.kind, (options.records - 2) // 2)
     records = [record(ROOT, DNSKEY, KEY), record(ROOT, RRSIG, signature(draw, DNSKEY, 0))]
     for owner, rtype, rdata, labels in rrsets:
         records += [record(owner, rtype, rdata), record(owner, RRSIG, signature(draw, rtype, labels))]
     # Messages of 64 records, whose question is the same.
     for number, first in enumerate(range(0, len(records), 64)):
         sys.stdout.buffer.write(response(number, ROOT, records[first : first + 64]))
+    return 0
 
 
-main()
+if __name__ == "__main__":
+    run(main)

@@ -1,13 +1,13 @@
 #!/usr/bin/env python3
-"""Measures the built program on requests that are made to cost much for what they weigh, each at a size and at four
-times as much, and prints the rows of the table in docs/PERFORMANCE.md.
+"""Measures the built program on requests that are made to cost much for what they weigh.
 
-usage: PYTHONPATH=tools bench/measure_shapes.py [SHAPE [SIZE ..]]
+Each is made at a size and at four times as much, and what is printed are the rows of the table in
+docs/PERFORMANCE.md. Without a shape all are measured; with sizes, the shape at these. Instructions are counted by
+valgrind's callgrind, a growth is their number by that of the row above, and peak memory and processor time are those
+that GNU time tells. It needs the built program (make), valgrind, GNU time and PYTHONPATH=tools. The largest rows take
+a GiB of memory, and all together some minutes of processor time.
 
-Without a shape all are measured; with sizes, the shape at these. Instructions are counted by valgrind's callgrind, a
-growth is their number by that of the row above, and peak memory and processor time are those that GNU time tells. It
-needs the built program (make), valgrind and GNU time. The largest rows take a GiB of memory, and all together some
-minutes of processor time.
+exit status: 0, all is measured; 1, a run failed; 2, the command line is wrong; 130, it was interrupted.
 """
 
 from __future__ import annotations
@@ -21,6 +21,8 @@ from typing import Iterable, NamedTuple
 
 from shapes import SHAPES
 from shapes.shape import Shape
+
+from dnssec_check_tools import command
 
 PROGRAM = pathlib.Path(__file__).resolve().parent.parent / "crates" / "dnssec_check" / "out" / "dnssec_check"
 GROWTH = 4
@@ -94,12 +96,16 @@ def measure(name: str, sizes: Iterable[int]) -> None:
         before = costs
 
 
-def main(words: list[str]) -> None:
-    names, sizes = words[:1] or SHAPES, [int(word) for word in words[1:]]
-    for name in names:
+def main(words: list[str]) -> int:
+    parser = command.parser_of(__doc__)
+    parser.add_argument("shape", metavar="SHAPE", nargs="?", choices=SHAPES, help=", ".join(SHAPES))
+    parser.add_argument("sizes", metavar="SIZE", type=int, nargs="*", help="sizes in place of the usual two")
+    options = parser.parse_args(words)
+    for name in [options.shape] if options.shape else SHAPES:
         _, size = SHAPES[name]
-        measure(name, sizes or (size, GROWTH * size))
+        measure(name, options.sizes or (size, GROWTH * size))
+    return 0
 
 
 if __name__ == "__main__":
-    main(sys.argv[1:])
+    command.run(main)
