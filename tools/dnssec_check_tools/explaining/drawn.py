@@ -1,21 +1,8 @@
 """The boxes and edges that each line of an explanation puts into the picture of the chain."""
 from typing import Dict, List, Set, Tuple
 from .explanation import Explanation, Line
-from .chain import (
-    FAILS,
-    FOLLOWS,
-    HOLDS,
-    MISSING,
-    PLAIN,
-    UNDER,
-    Chain,
-    Key,
-    anchor_box,
-    ds_box,
-    key_box,
-    keys_box,
-    rrset_box,
-)
+from .chain import FAILS, FOLLOWS, HOLDS, MISSING, PLAIN, UNDER
+from .chain import Chain, Key, anchor_box, ds_box, key_box, keys_box, rrset_box
 from .holding import UNUSABLE
 from .missing import DNAME, DNSKEY, DS, ROLES
 from .values import date, flag_names, owned
