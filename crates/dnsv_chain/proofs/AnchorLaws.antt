@@ -4,16 +4,14 @@ pub mod AnchorLineLemmas
 use Rattle.std.proofs.Common.{◌≡◌, ◌<◌, ◌≤◌, ◌^◌, ℕ, List, [], ◌∷◌, ◌++◌, length, drop, refl, sym, ap, ◌∙◌, arith, subst, Some, inl, inr, ⊎_elim, append_assoc, append-nil, length-append}
 use Rattle.std.proofs.lemmas.Bool.{cases_lt}
 use Rattle.std.proofs.lemmas.Fmt.{decimal_injective}
-use Rattle.dnsv_names.proofs.LineFileLemmas.{each_more}
+use Rattle.dnsv_names.proofs.LineFileLemmas.{SaysOrFails, values_or_fault}
 use Rattle.dnsv_names.proofs.OneReading.{one_name}
-use Rattle.dnsv_names.specs.Lines.LineFile.{SayEach}
 use Rattle.dnsv_names.specs.Lines.LineFileLaws.{HasFirstFault-only, IsLineFile, SaysValues-no_fault, SaysValues-only}
 use Rattle.dnsv_names.specs.Name.{Labels, IsName}
 use Rattle.dnsv_names.specs.Text.{IsTextOf}
-use Rattle.dnsv_names.specs.Lines.{HasLines, NumberedLine, kept_from}
+use Rattle.dnsv_names.specs.Lines.{NumberedLine}
 use Rattle.dnsv_names.proofs.Base64Lemmas.{decoded}
-use Rattle.dnsv_names.specs.Lines.LineLaws.{AreFields-only, HasLines-read}
-use Rattle.dnsv_names.specs.Lines.LineReading.{lines_in}
+use Rattle.dnsv_names.specs.Lines.LineLaws.{AreFields-only}
 use Rattle.dnsv_names.specs.Octets.{AreOctets}
 use Rattle.dnsv_records.proofs.OneRecord.{one_dnskey_spelling}
 use Rattle.dnsv_records.specs.Dnskey.{IsDnskey}
@@ -128,33 +126,19 @@ IsFaultOf-only text a b first second = HasFirstFault-only anchor_file text a b f
 
 -- ---- no text is neither
 
-module _ (text : List ℕ) (none : (anchors : List Anchor) → AreAnchorsOf text anchors → ⊥) (no_first : (fault : AnchorsError) → IsFaultOf text fault → ⊥) where
-  -- lines that say anchors don't end, and none comes behind them
-  no_end : (after before : List NumberedLine) (anchors : List Anchor) → HasLines text (before ++ after) → SayEach IsAnchorLine before anchors
-      → AreFew anchors → ⊥
-  no_end [] before anchors has each few =
-      none anchors (record { lines = before; has = subst (λ (lines : List NumberedLine). HasLines text lines) (append-nil before) has; each = each; may_stand = few })
-  no_end (line ∷ after) before anchors has each few =
-      let at_fault : (fault : AnchorsError) → IsFaultOfLine fault line anchors → ⊥ =
-      λ fault there. no_first fault (record {
-        before = before;
-        line = line;
-        after = after;
-        has = has;
-        values = anchors;
-        each = each;
-        may_stand = few;
-        there = there;
-      }) in
-      at_fault (Syntax line.number) (
-        refl,
-        λ anchor says. ⊎_elim
-            (λ (room : length anchors < 64). no_end after (before ++ line ∷ []) (anchors ++ anchor ∷ [])
-            (subst (λ (lines : List NumberedLine). HasLines text lines) (sym (append_assoc before (line ∷ []) after)) has)
-            (each_more IsAnchorLine before anchors line anchor each says) (omega (arith, room, length-append anchors (anchor ∷ []))))
-            (λ (full : 64 ≤ length anchors). at_fault (TooMany line.number) (refl, (anchor, says), omega (arith, full, few)))
-            (cases_lt (length anchors) 64),
-      )
+-- behind at most 64 anchors a line says one more that has room, or is at fault
+anchor_or_fault : SaysOrFails IsAnchorLine AreFew IsFaultOfLine
+anchor_or_fault = record {
+  nothing = omega arith;
+  next = λ line before few no_anchor at_fault. at_fault (Syntax line.number) (
+    refl,
+    λ anchor says. ⊎_elim
+        (λ (room : length before < 64). no_anchor anchor says (omega (arith, room, length-append before (anchor ∷ []))))
+        (λ (full : 64 ≤ length before). at_fault (TooMany line.number) (refl, (anchor, says), omega (arith, full, few)))
+        (cases_lt (length before) 64),
+  );
+}
 
-  pub anchors_or_fault : ⊥
-  anchors_or_fault = no_end (kept_from 1 (lines_in text)) [] [] (HasLines-read text) tt (omega arith)
+pub anchors_or_fault : (text : List ℕ) → ((anchors : List Anchor) → AreAnchorsOf text anchors → ⊥)
+    → ((fault : AnchorsError) → IsFaultOf text fault → ⊥) → ⊥
+anchors_or_fault text no_anchors no_fault = values_or_fault anchor_or_fault text no_anchors no_fault

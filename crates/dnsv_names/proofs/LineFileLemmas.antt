@@ -1,9 +1,11 @@
 -- Reading a text file in which each line says a value, line by line.
-use Rattle.std.proofs.Common.{◌≡◌, ◌⊎◌, inl, inr, ℕ, Result, Err, List, [], ◌∷◌, ◌++◌, sym, ap, ◌∙◌, subst, append_assoc}
+use Rattle.std.proofs.Common.{◌≡◌, ◌⊎◌, inl, inr, ℕ, Result, Err, List, [], ◌∷◌, ◌++◌, refl, sym, ap, ◌∙◌, subst, append_assoc}
 use Rattle.std.proofs.lemmas.List.{append-nil}
 use Rattle.dnsv_names.specs.Lines.LineFile.{BeginsWithValue, HasFirstFault, SayEach, SaysValues}
 use Rattle.dnsv_names.specs.Lines.LineFileLaws.{HasFirstFault-only, IsLineFile}
-use Rattle.dnsv_names.specs.Lines.{HasLines, NumberedLine}
+use Rattle.dnsv_names.specs.Lines.LineLaws.{HasLines-read}
+use Rattle.dnsv_names.specs.Lines.LineReading.{lines_in}
+use Rattle.dnsv_names.specs.Lines.{HasLines, NumberedLine, kept_from}
 
 -- ---- the lines that were read, and those that are left
 
@@ -84,3 +86,31 @@ module _ {Value : Type 0} {Says : List ℕ → Value → Type 0} {MayStand : Lis
         inr (ap Err out, begins Says text before line after values has so_far.each says)
     first_fault_told kind out_of_memory text before line after values error has so_far (inr refused) fault there =
         inl (ap Err (HasFirstFault-only kind text error fault (first_fault text before line after values error has so_far refused) there))
+
+-- ---- no file is neither
+
+-- What a kind of file fulfils where no text is without values and without a fault: nothing may stand in a file, and behind
+-- values that may, a line says one more that may stand with them, or is at fault.
+pub record SaysOrFails {Value Fault : Type 0} (Says : List ℕ → Value → Type 0) (MayStand : List Value → Type 0)
+    (IsFaultOfLine : Fault → NumberedLine → List Value → Type 0) : Type 0 where
+  pub nothing : MayStand []
+  pub next : (line : NumberedLine) (before : List Value) → MayStand before
+      → ((value : Value) → Says line.octets value → MayStand (before ++ value ∷ []) → ⊥)
+      → ((fault : Fault) → IsFaultOfLine fault line before → ⊥) → ⊥
+
+module _ {Value Fault : Type 0} {Says : List ℕ → Value → Type 0} {MayStand : List Value → Type 0} {IsFaultOfLine : Fault → NumberedLine → List Value → Type 0}
+    (kind : SaysOrFails Says MayStand IsFaultOfLine) (text : List ℕ) (none : (values : List Value) → SaysValues Says MayStand text values → ⊥)
+    (no_first : (fault : Fault) → HasFirstFault Says MayStand IsFaultOfLine text fault → ⊥) where
+  -- lines that say values don't end, and none comes behind them
+  no_end : (after before : List NumberedLine) (values : List Value) → HasLines text (before ++ after) → SayEach Says before values → MayStand values → ⊥
+  no_end [] before values has each may_stand =
+      none values (record { lines = before; has = has_all text before [] refl has; each = each; may_stand = may_stand })
+  no_end (line ∷ after) before values has each may_stand =
+      kind.next line values may_stand
+      (λ value says more. no_end after (before ++ line ∷ []) (values ++ value ∷ []) (has_more text before (line ∷ after) after line refl has)
+      (each_more Says before values line value each says) more)
+      (λ fault there. no_first fault (record { before = before; line = line; after = after; has = has; values = values; each = each; may_stand = may_stand; there = there }))
+
+  -- a file says values or has a first fault
+  pub values_or_fault : ⊥
+  values_or_fault = no_end (kept_from 1 (lines_in text)) [] [] (HasLines-read text) tt kind.nothing

@@ -2,7 +2,7 @@
 use Rattle.std.proofs.Common.{◌≡◌, ◌⊎◌, ℕ, Result, Err, List, [], ◌∷◌, ◌++◌, None, inl, inr, ⊎_elim, refl, sym, ap, ◌∙◌, subst, length, get_or, arith}
 use Rattle.base64.specs.Engines.{standard}
 use Rattle.base64.specs.GeneralPurpose.{encode_of}
-use Rattle.dnsv_names.proofs.LineFileLemmas.{SayTogether, begins, first_fault, first_fault_told, say_more}
+use Rattle.dnsv_names.proofs.LineFileLemmas.{SaysOrFails, SayTogether, begins, first_fault, first_fault_told, say_more, values_or_fault}
 use Rattle.dnsv_names.specs.Lines.LineFile.{SayEach}
 use Rattle.dnsv_names.specs.Lines.LineLaws.{HasLines-only}
 use Rattle.dnsv_names.specs.Lines.{HasLines, NumberedLine}
@@ -10,7 +10,7 @@ use Rattle.dnsv_names.specs.Name.{Labels, IsName}
 use Rattle.dnsv_names.specs.Octets.{AreOctets}
 use Rattle.dnsv_names.specs.Text.{IsTextOf}
 use Rattle.dnsv_tsig.specs.declared.error.KeyFileError.{KeyFileError}
-use Rattle.dnsv_tsig.specs.declared.error.KeyFileError.TheVariants.{DuplicateKey, OutOfMemory}
+use Rattle.dnsv_tsig.specs.declared.error.KeyFileError.TheVariants.{DuplicateKey, OutOfMemory, Syntax}
 use Rattle.dnsv_tsig.specs.Key.{SharedKey, key_named}
 use Rattle.dnsv_tsig.specs.KeyFile.{BeginsWithKey, HaveOwnNames, IsFaultOfLine, IsKeyFault, IsKeyLine, IsRingOf}
 use Rattle.dnsv_tsig.specs.KeyReading.{IsKeyText}
@@ -92,6 +92,21 @@ pub ring_more : {lines : List NumberedLine} {old : List SharedKey} (new : List S
     → (key : SharedKey) × IsKeyLine line.octets key × (key_named key.name old ≡ None) × (new ≡ old ++ key ∷ [])
     → SayTogether IsKeyLine HaveOwnNames (lines ++ line ∷ []) new
 ring_more {lines} {old} new line so_far (key, is, unnamed, same) = say_more new line so_far (key, is, own_more old key so_far.may_stand unnamed, same)
+
+-- behind keys with names of their own a line is another's, or at fault
+key_or_fault : SaysOrFails IsKeyLine HaveOwnNames IsFaultOfLine
+key_or_fault = record {
+  nothing = λ before key after e. absurd (no_member before key after e);
+  next = λ line before own no_key at_fault. at_fault (Syntax line.number) (
+    refl,
+    λ key is. at_fault (DuplicateKey line.number) (refl, (key, is, λ new. no_key key is (own_more before key own new))),
+  );
+}
+
+-- no text is neither a ring nor at fault
+pub ring_or_fault : (text : List ℕ) → ((ring : List SharedKey) → IsRingOf text ring → ⊥)
+    → ((error : KeyFileError) → IsKeyFault text error → ⊥) → ⊥
+ring_or_fault text no_ring no_fault = values_or_fault key_or_fault text no_ring no_fault
 
 -- ---- the text
 

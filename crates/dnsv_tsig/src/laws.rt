@@ -26,10 +26,12 @@ pub fn one_answer()
     one_tail();
 }
 
-/// A text is at most one ring, or is refused for one reason, and never both.
+/// A text is one ring, or is refused for one reason, never both, and no text is neither.
 pub fn one_ring_or_fault()
     ensures ring { (text : List ℕ) (a b : List SharedKey) → IsRingOf text a → IsRingOf text b → a ≡ b }
     ensures fault { (text : List ℕ) (a b : KeyFileError) → IsKeyFault text a → IsKeyFault text b → a ≡ b }
     ensures apart { (text : List ℕ) (ring : List SharedKey) (error : KeyFileError) → IsRingOf text ring
         → IsKeyFault text error → ⊥ }
+    ensures either { (text : List ℕ) → ((ring : List SharedKey) → IsRingOf text ring → ⊥)
+        → ((error : KeyFileError) → IsKeyFault text error → ⊥) → ⊥ }
 {}

@@ -8,12 +8,12 @@ use Rattle.std.specs.Map.{lookup}
 use Rattle.std.specs.Ordering.{is_eq}
 use Rattle.std.specs.declared.cmp.Ordering.{Ordering}
 use Rattle.std.specs.declared.cmp.Ordering.TheVariants.{Less, Equal, Greater}
-use Rattle.dnsv_names.proofs.LineFileLemmas.{begins, each_more}
+use Rattle.dnsv_names.proofs.LineFileLemmas.{SaysOrFails, begins, each_more, values_or_fault}
 use Rattle.dnsv_names.specs.Lines.LineFile.{SayEach}
 use Rattle.dnsv_names.specs.Lines.{HasLines, NumberedLine}
 use Rattle.dnsv_verifier.specs.Entry.{entry_cmp}
 use Rattle.dnsv_verifier.specs.EntryLaws.{entry_cmp_total, entry_Equal}
-use Rattle.dnsv_verifier.specs.Statements.{Agree, AreStatementsOf, BeginsWithStatement, IsFaultOf, IsSaid, IsStatementOf, answer_by, listed_answer, other_word}
+use Rattle.dnsv_verifier.specs.Statements.{Agree, AreStatementsOf, BeginsWithStatement, IsFaultOf, IsFaultOfLine, IsSaid, IsStatementOf, answer_by, listed_answer, other_word}
 use Rattle.dnsv_verifier.specs.StatementsLaws.{AreStatementsOf-no_fault, IsFaultOf-only}
 use Rattle.dnsv_verifier.specs.StatementsReading.{AddsStatement, RefusesLine, said_in}
 use Rattle.dnsv_verifier.specs.declared.answer.Answer.{Answer}
@@ -103,6 +103,38 @@ module _ {lines : List NumberedLine} {old new : BTreeMap Entry Word} (line : Num
         kept = λ entry word contains. adds.updates entry ∙ kept_by entry word (is_eq (entry_cmp adds.entry entry)) refl contains;
         empty = λ none. absurd (omega (arith, ap length none, length-append lines (line ∷ [])));
       }
+
+-- ---- no text is neither
+
+-- a statement whose entry isn't called by the other word agrees with those before it
+agree_more : (before : List (Entry × Word)) (entry : Entry) (word : Word) → Agree before → (Contains before (entry, other_word word) → ⊥)
+    → Agree (before ++ (entry, word) ∷ [])
+agree_more before entry word agree free each good bad =
+    elim (Contains-push_cases before (entry, word) (each, Good) good) [
+      | inl first ↦ elim (Contains-push_cases before (entry, word) (each, Bad) bad) [
+        | inl second ↦ agree each first second
+        | inr second ↦ free (subst (λ (pair : Entry × Word). Contains before (pair.0, other_word pair.1)) (sym second) first)
+      ]
+      | inr first ↦ elim (Contains-push_cases before (entry, word) (each, Bad) bad) [
+        | inl second ↦ free (subst (λ (pair : Entry × Word). Contains before (pair.0, other_word pair.1)) (sym first) second)
+        | inr second ↦ words_differ (ap (λ (pair : Entry × Word). pair.1) (sym first ∙ second))
+      ]
+    ]
+
+-- behind statements that agree a line is one that agrees with them, or at fault
+statement_or_fault : SaysOrFails IsStatementOf Agree IsFaultOfLine
+statement_or_fault = record {
+  nothing = λ entry good bad. omega (arith, good.1);
+  next = λ line before agree no_statement at_fault. at_fault (Syntax line.number) (
+    refl,
+    λ entry word states. no_statement (entry, word) states
+        (agree_more before entry word agree (λ other. at_fault (Contradiction line.number) (refl, (entry, word, states, other)))),
+  );
+}
+
+pub statements_or_fault : (text : List ℕ) → ((statements : List (Entry × Word)) → AreStatementsOf text statements → ⊥)
+    → ((fault : StatementsError) → IsFaultOf text fault → ⊥) → ⊥
+statements_or_fault text no_statements no_fault = values_or_fault statement_or_fault text no_statements no_fault
 
 -- the first fault
 pub fault_of : (text : List ℕ) (before : List NumberedLine) (line : NumberedLine) (after : List NumberedLine) (said : BTreeMap Entry Word) (error : StatementsError) → HasLines text (before ++ line ∷ after) → SaysSoFar before said → RefusesLine error line said → (error ≡ OutOfMemory) ⊎ IsFaultOf text error

@@ -143,8 +143,8 @@ impl Verifier for Statements {
     }
 }
 
-/// A law of files of statements: a text is at most one list of statements, has at most one first fault, and never
-/// both.
+/// A law of files of statements: a text is one list of statements or has one first fault, never both, and no text has
+/// neither.
 pub fn a_text_is_one_list_of_statements()
     ensures statements { (text : List ℕ) (a b : List (Entry × Word)) → AreStatementsOf text a
         → AreStatementsOf text b → a ≡ b }
@@ -152,6 +152,8 @@ pub fn a_text_is_one_list_of_statements()
         → a ≡ b }
     ensures apart { (text : List ℕ) (statements : List (Entry × Word)) (fault : StatementsError)
         → AreStatementsOf text statements → IsFaultOf text fault → ⊥ }
+    ensures either { (text : List ℕ) → ((statements : List (Entry × Word)) → AreStatementsOf text statements → ⊥)
+        → ((fault : StatementsError) → IsFaultOf text fault → ⊥) → ⊥ }
 {}
 
 /// Adds what a line states, unless something else was said.

@@ -1,3 +1,4 @@
+use Rattle.dnsv_verifier.proofs.StatementsLemmas.{statements_or_fault}
 use Rattle.dnsv_verifier.specs.StatementsLaws.{AreStatementsOf-only, AreStatementsOf-no_fault, IsFaultOf-only}
 use Rattle.dnsv_verifier.proofs.statements.a_text_is_one_list_of_statements.Goals as goal
 
@@ -9,3 +10,6 @@ returns-clause-fault c = IsFaultOf-only
 
 pub returns-clause-apart : goal.returns-clause-apart
 returns-clause-apart c = AreStatementsOf-no_fault
+
+pub returns-clause-either : goal.returns-clause-either
+returns-clause-either c = statements_or_fault
