@@ -6,16 +6,12 @@ import unittest
 from tool import TOOLS
 
 CRATES = TOOLS.parent / "crates"
-BEGINS = re.compile(r"\bCount::(?:new|default)\b")
+# However it is spelled: `Default::default()` may stand wherever a count is wanted, and so may what `mem::take` leaves.
+BEGINS = re.compile(r"\bCount(?:>|\s+as\s+Default>)?::(?:new|default)\b|\bDefault::default\b|\bmem::take\b")
 # Where counts are begun, how many, and why.
 NAMED = {
     "dnsv_names/src/count.rt": 1,  # the default of a count
     "dnsv_verdict/src/report.rt": 2,  # the two numbers that a report tells
-    "dnsv_verdict/src/search.rt": 1,  # pairs compared by a capture's index, which no report tells
-    "dnsv_explain/src/explanation/held.rt": 1,  # pairs compared by a capture's index, which no line tells
-    "dnsv_explain/src/faults/at.rt": 1,  # the same
-    "dnsv_explain/src/faults/question/dnames.rt": 1,  # the same
-    "dnsv_explain/src/faults/question/signers.rt": 1,  # the same
     "dnsv_program/src/texts/todo.rt": 1,  # `list` asks a verifier, and prints no number
 }
 
@@ -27,6 +23,21 @@ def sources():
 
 
 class Counts(unittest.TestCase):
+    def test_a_beginning_is_seen_however_it_is_spelled(self):
+        for spelled in (
+            "Count::new()",
+            "Count::default()",
+            "<Count>::default()",
+            "<Count as Default>::default()",
+            "let mut count: Count = Default::default();",
+            "std::mem::take(count)",
+        ):
+            with self.subTest(spelled):
+                self.assertEqual(len(BEGINS.findall(spelled)), 1)
+        for other in ("&mut Count", "count.add(1)", "Counted::new(writer)", "DefaultKey::default()"):
+            with self.subTest(other):
+                self.assertEqual(BEGINS.findall(other), [])
+
     def test_a_count_is_begun_only_where_it_is_told(self):
         begun = {str(file.relative_to(CRATES)): len(BEGINS.findall(file.read_text())) for file in sources()}
         self.assertEqual({file: number for file, number in begun.items() if number}, NAMED)

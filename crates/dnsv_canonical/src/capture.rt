@@ -9,7 +9,7 @@ ghost use Rattle.std.specs.List.{AllByRecursion, AllZip};
 ghost use Rattle.dnsv_message.specs.Message.{Contents, records_of};
 ghost use Rattle.dnsv_records.specs.Rrsig.{IsRrsig};
 ghost use Rattle.dnsv_canonical.specs.Evidence.{AreParameters, Evidence, IsReadable, IsReasonAgainst, IsWhole, IsWithinLimits, no_evidence, nsec3_rdata, signatures_at, with_message};
-ghost use Rattle.dnsv_canonical.specs.Index.{CountsHalves, numbers_at};
+ghost use Rattle.dnsv_canonical.specs.Index.{numbers_at};
 ghost use Rattle.dnsv_canonical.specs.Rdata.{IsWellFormed};
 ghost use Rattle.dnsv_canonical.specs.declared.capture.CaptureError.TheVariants.{OutOfMemory};
 
@@ -21,7 +21,7 @@ use crate::received::message_rrsets;
 use crate::rrset::{Rrset, to_rrsets};
 use bumpalo::Bump;
 use dnsv_message::{Message, messages_fit};
-use dnsv_names::{Count, Name, RecordType};
+use dnsv_names::{Name, RecordType};
 use dnsv_records::{Nsec3Parameters, Rrsig};
 use std::alloc::{AllocError, AllocFailed, Global};
 use std::marker::Model;
@@ -197,15 +197,12 @@ impl<'b> Capture<'b> {
         &self.parameters
     }
 
-    /// The numbers of the RRsets of the name, without regard to case, and of the type, rising. It takes no memory.
-    /// The count grows by one for each pair of name and type that is compared with these: at most by as many as the
-    /// number of such pairs has binary digits, and at least by one where RRsets are found, and by one less than those
-    /// digits where none are.
-    pub fn at(&self, name: &Name, rtype: RecordType, count: &mut Count) -> &[usize]
-        ensures numbers { result.now ≡ numbers_at self.now.rrsets name.now rtype.0 }
-        ensures count { CountsHalves self.now.rrsets result.now count.old count.new }
+    /// The numbers of the RRsets of the name, without regard to case, and of the type, rising. It takes no memory, and
+    /// looks at no more pairs of name and type than their number has binary digits.
+    pub fn at(&self, name: &Name, rtype: RecordType) -> &[usize]
+        ensures { result.now ≡ numbers_at self.now.rrsets name.now rtype.0 }
     {
-        self.index.at(self.rrsets(), name, rtype, count)
+        self.index.at(self.rrsets(), name, rtype)
     }
 
     /// The signatures of the RRset with the number, from 1 on; none where no RRset has it. They are numbered

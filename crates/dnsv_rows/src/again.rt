@@ -6,7 +6,6 @@ use crate::row::{Row, RowError, printed};
 use bumpalo::Bump;
 use dnsv_canonical::{Capture, CaptureError};
 use dnsv_message::{Framer, Message, ReadError};
-use dnsv_names::Count;
 use std::alloc::Global;
 
 /// What the library answers, where it has the call.
@@ -42,7 +41,7 @@ fn told(alloc: Global, capture: &Capture<'_>) -> Result<String, RowError> {
     let rrsets = list(alloc, capture)?;
     let mut text = format!(in alloc; "{parameters} {rrsets}")?;
     for rrset in capture.rrsets() {
-        let numbers = capture.at(rrset.owner(), rrset.rtype(), &mut Count::new());
+        let numbers = capture.at(rrset.owner(), rrset.rtype());
         push_numbers(&mut text, numbers)?;
     }
     Ok(text)

@@ -8,7 +8,7 @@ ghost use Rattle.dnsv_verdict.specs.Secure.{IsFirstSuch, IsSecuredAt};
 
 use dnsv_canonical::{Capture, Rrset};
 use dnsv_chain::Trust;
-use dnsv_names::{Count, Name, RecordType};
+use dnsv_names::{Name, RecordType};
 use dnsv_records::Rrsig;
 
 /// What is asked of an RRset with one of its signatures.
@@ -48,8 +48,7 @@ pub fn first_such<'a, T: Test>(
         found.rrset found.signature) × (is.such.rrsig ≡ found.rrsig.now)) }
 {
     let rrsets = capture.rrsets();
-    let mut compared = Count::new();
-    let at_name = capture.at(name, rtype, &mut compared);
+    let at_name = capture.at(name, rtype);
     for number in at_name {
         let rrset = rrset_at(rrsets, *number);
         if let Some((signature, rrsig)) = first_signature(rrset, trust.signed(*number), test) {

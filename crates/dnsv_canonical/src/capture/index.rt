@@ -3,15 +3,15 @@
 mod merged;
 mod numbered;
 
-ghost use Rattle.std.specs.Prelude.{◌≡◌, ◌++◌, ◌+◌, ◌*◌, ◌<◌, ◌≤◌, ◌^◌, ◌-◌, [], ℕ, IfErr, IfOk, drop, length, List, map, slice_get, Some, take};
+ghost use Rattle.std.specs.Prelude.{◌≡◌, ◌++◌, ◌<◌, ◌≤◌, ◌-◌, [], IfOk, drop, length, List, map, slice_get, Some, take};
 ghost use Rattle.dnsv_canonical.specs.Rrsets.{IsNumbered};
-ghost use Rattle.dnsv_canonical.specs.Index.{CountsHalves, numbers_at};
+ghost use Rattle.dnsv_canonical.specs.Index.{numbers_at};
 ghost use Rattle.dnsv_canonical.specs.Index.Grouping.{AreLaid, AreStarts, IsFirstAt, IsFound, IsIndexOf, IsPlaceBehind, IsPlaceFrom, Numbered, key_of, numbers_of};
 
 use crate::capture::index::merged::Merged;
 use crate::capture::index::numbered::{compared, in_order};
 use crate::rrset::Rrset;
-use dnsv_names::{Count, Name, RecordType};
+use dnsv_names::{Name, RecordType};
 use std::alloc::{AllocError, Global};
 use std::cmp::Ordering;
 
@@ -57,20 +57,11 @@ impl Index {
     }
 
     /// The numbers of the RRsets of the name and type, rising.
-    pub fn at(
-        &self,
-        rrsets: &[Rrset<'_>],
-        name: &Name,
-        rtype: RecordType,
-        count: &mut Count,
-    ) -> &[usize]
+    pub fn at(&self, rrsets: &[Rrset<'_>], name: &Name, rtype: RecordType) -> &[usize]
         requires { IsIndexOf rrsets.now self.now.numbers.items self.now.starts.items }
-        ensures numbers { result.now ≡ numbers_at rrsets.now name.now rtype.0 }
-        ensures count { CountsHalves rrsets.now result.now count.old count.new }
+        ensures { result.now ≡ numbers_at rrsets.now name.now rtype.0 }
     {
-        let (found, compared) = self.find(rrsets, name, rtype);
-        count.add(compared as u64);
-        match found {
+        match self.find(rrsets, name, rtype) {
             Ok(place) => self.group(place),
             Err(_) => &[],
         }
@@ -101,41 +92,30 @@ impl Index {
             → IsPlaceBehind index.firsts (name.now, rtype.0) result }
         ensures within { result ≤ length self.now.starts.items }
     {
-        let (found, _) = self.find(rrsets, name, rtype);
-        match found {
+        match self.find(rrsets, name, rtype) {
             Ok(place) => place + 1,
             Err(place) => place,
         }
     }
 
-    /// The place of the group of the name and type, or that which it would have, and how many were compared.
-    fn find(
-        &self,
-        rrsets: &[Rrset<'_>],
-        name: &Name,
-        rtype: RecordType,
-    ) -> (Result<usize, usize>, usize)
+    /// The place of the group of the name and type, or that which it would have, by halves.
+    fn find(&self, rrsets: &[Rrset<'_>], name: &Name, rtype: RecordType) -> Result<usize, usize>
         requires { IsIndexOf rrsets.now self.now.numbers.items self.now.starts.items }
         ensures found { (index : IsIndexOf rrsets.now self.now.numbers.items self.now.starts.items)
-            → IsFound index.firsts (name.now, rtype.0) result.0 }
-        ensures within { IfOk result.0 (λ place. place < length self.now.starts.items) }
-        ensures most { (digits : ℕ) → length self.now.starts.items < 2 ^ digits → result.1 ≤ digits }
-        ensures some { IfOk result.0 (λ _. 0 < result.1) }
-        ensures absent { IfErr result.0 (λ _. length self.now.starts.items + 1 < 2 * 2 ^ result.1) }
+            → IsFound index.firsts (name.now, rtype.0) result }
+        ensures within { IfOk result (λ place. place < length self.now.starts.items) }
     {
         let mut low = 0;
         let mut high = self.starts.len();
-        let mut count = 0;
         while low < high {
             let middle = low + (high - low) / 2;
-            count += 1;
             match compared(self.first(rrsets, middle), name, rtype) {
                 Ordering::Less => low = middle + 1,
                 Ordering::Greater => high = middle,
-                Ordering::Equal => return (Ok(middle), count),
+                Ordering::Equal => return Ok(middle),
             }
         }
-        (Err(low), count)
+        Err(low)
     }
 
     /// The first RRset of the group with the place.

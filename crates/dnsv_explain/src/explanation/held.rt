@@ -10,7 +10,7 @@ use crate::derivations::ways::trusted_line;
 use crate::derivations::{derive_keys, lowest_secured};
 use crate::evidence::Evidence;
 use dnsv_lines::Line;
-use dnsv_names::{Count, Name, RecordType};
+use dnsv_names::{Name, RecordType};
 use std::alloc::{AllocError, Global};
 
 /// Adds, for each ancestor of the name, the root first and the name last, the derivation of each DS RRset there that is
@@ -38,11 +38,10 @@ fn add_held_at(
 ) -> Result<(), AllocError>
     ensures { OnOk result (Adds (IsHeldAt (setting_in evidence.now) name.now) lines.old.items lines.new.items) }
 {
-    let mut compared = Count::new();
     let capture = evidence.capture();
-    let signed = capture.at(name, RecordType::DS, &mut compared);
+    let signed = capture.at(name, RecordType::DS);
     add_signed(alloc, evidence, lines, signed)?;
-    let keys = capture.at(name, RecordType::DNSKEY, &mut compared);
+    let keys = capture.at(name, RecordType::DNSKEY);
     add_first(alloc, evidence, lines, keys)?;
     Ok(())
 }

@@ -4,7 +4,7 @@ ghost use Rattle.dnsv_verdict.specs.Verdict.{HasAnchor};
 ghost use Rattle.dnsv_explain.specs.faults.Zones.{HasOwnAnchor, HasRrset};
 
 use crate::evidence::Evidence;
-use dnsv_names::{Count, Name, RecordType};
+use dnsv_names::{Name, RecordType};
 
 /// Whether a trust anchor is at or above the name.
 pub fn is_anchored(evidence: &Evidence<'_>, name: &Name) -> bool
@@ -30,6 +30,5 @@ pub fn has_own_anchor(evidence: &Evidence<'_>, name: &Name) -> bool
 pub fn has_rrset(evidence: &Evidence<'_>, name: &Name, rtype: RecordType) -> bool
     ensures { IsTrue result ↔ HasRrset evidence.now.rrsets name.now rtype.0 }
 {
-    let mut compared = Count::new();
-    !evidence.capture().at(name, rtype, &mut compared).is_empty()
+    !evidence.capture().at(name, rtype).is_empty()
 }

@@ -6,7 +6,6 @@ use crate::row::{Row, RowError, printed};
 use bumpalo::Bump;
 use dnsv_canonical::{Capture, CaptureError, Rrset};
 use dnsv_message::Section;
-use dnsv_names::Count;
 use std::alloc::Global;
 
 /// What the library answers, where it has the call.
@@ -63,42 +62,36 @@ fn totals(row: &Row) -> Result<String, RowError> {
     Ok(format!(in row.alloc(); "{rrsets} {records} {signatures} {parameters}")?)
 }
 
-/// `at CAPTURE NAME TYPE MOST`: the numbers of the RRsets of the name and type, and whether no more than so many pairs
-/// of a name and a type were compared with these.
+/// `at CAPTURE NAME TYPE`: the numbers of the RRsets of the name and type.
 fn at(row: &Row) -> Result<String, RowError> {
     let bump = Bump::new(row.alloc());
     let capture = capture(row, 0, &bump)?;
-    let mut count = Count::new();
-    let numbers = capture.at(&row.name(1)?, record_type(row, 2)?, &mut count);
+    let numbers = capture.at(&row.name(1)?, record_type(row, 2)?);
     let mut texts = Vec::new(row.alloc());
     for number in numbers {
         texts.push(format!(in row.alloc(); "{number}")?)?;
     }
-    texts.push(printed::truth(row.alloc(), count.value() <= row.number(3)?)?)?;
     printed::list(row.alloc(), texts.as_slice())
 }
 
-/// `each-at CAPTURE MOST`: how many RRsets are found alone by their owner and type, with no more than so many
-/// compared.
+/// `each-at CAPTURE`: how many RRsets are found alone by their owner and type.
 fn each_at(row: &Row) -> Result<String, RowError> {
     let bump = Bump::new(row.alloc());
     let capture = capture(row, 0, &bump)?;
-    let most = row.number(1)?;
     let mut found = 0usize;
     for (place, rrset) in capture.rrsets().iter().enumerate() {
-        if is_alone(&capture, place.saturating_add(1), rrset, most) {
+        if is_alone(&capture, place.saturating_add(1), rrset) {
             found = found.saturating_add(1);
         }
     }
     Ok(format!(in row.alloc(); "{found}")?)
 }
 
-fn is_alone(capture: &Capture<'_>, number: usize, rrset: &Rrset<'_>, most: u64) -> bool {
-    let mut count = Count::new();
-    let [found] = capture.at(rrset.owner(), rrset.rtype(), &mut count) else {
+fn is_alone(capture: &Capture<'_>, number: usize, rrset: &Rrset<'_>) -> bool {
+    let [found] = capture.at(rrset.owner(), rrset.rtype()) else {
         return false;
     };
-    *found == number && count.value() <= most
+    *found == number
 }
 
 /// Of each RRset what `rrsets` prints.

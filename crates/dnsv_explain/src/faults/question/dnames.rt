@@ -6,7 +6,7 @@ ghost use Rattle.dnsv_explain.specs.faults.Order.{AreDnameLines, names_down};
 
 use crate::evidence::Evidence;
 use dnsv_lines::{DnameAbove, Line, Reason};
-use dnsv_names::{Count, Name, RecordType};
+use dnsv_names::{Name, RecordType};
 use std::alloc::{AllocError, Global};
 
 /// A line for each name above the question's that owns DNAME RRsets, from the root down, with the lowest of them: no answer
@@ -40,10 +40,7 @@ fn add_dname(
         return Ok(());
     }
     let above = name.suffix(labels);
-    let mut compared = Count::new();
-    let numbers = evidence
-        .capture()
-        .at(&above, RecordType::DNAME, &mut compared);
+    let numbers = evidence.capture().at(&above, RecordType::DNAME);
     if numbers.is_empty() {
         return Ok(());
     }

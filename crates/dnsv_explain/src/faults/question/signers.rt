@@ -9,7 +9,7 @@ use crate::evidence::Evidence;
 use crate::faults::question::subjects::{has_signed_goal, is_denial, is_goal};
 use crate::numbered::numbered;
 use dnsv_canonical::{Capture, Rrset};
-use dnsv_names::{Count, Name, RecordType};
+use dnsv_names::{Name, RecordType};
 use std::alloc::{AllocError, Global};
 
 /// Who signs what may answer a question, and what may deny it, of the zones at or above its name: how many labels they
@@ -111,9 +111,8 @@ pub fn ds_signers(
 ) -> Result<Vec<usize>, AllocError>
     ensures { IfOk result (λ numbers. AreLabelsOf zone.now (HasDsSigner capture.now.rrsets zone.now) numbers.items) }
 {
-    let mut compared = Count::new();
     let mut numbers = Vec::new(alloc);
-    for number in capture.at(zone, RecordType::DS, &mut compared) {
+    for number in capture.at(zone, RecordType::DS) {
         add_ds_signers(capture.rrsets(), zone, *number, &mut numbers)?;
     }
     Ok(numbers)

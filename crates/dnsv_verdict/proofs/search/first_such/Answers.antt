@@ -8,12 +8,12 @@ use Rattle.dnsv_verdict.proofs.search.first_such.Goals as goal
 
 pub rrset_at-rrset-requires-clause-some : goal.rrset_at-rrset-requires-clause-some
 rrset_at-rrset-requires-clause-some g c =
-    let are = numbers_are c.args.capture.now.rrsets c.args.name.now c.args.rtype.0 c.at-at_name.result.now c.at-at_name.ensures.numbers in
+    let are = numbers_are c.args.capture.now.rrsets c.args.name.now c.args.rtype.0 c.at-at_name.result.now c.at-at_name.ensures in
     (one_at c.args.capture.now.rrsets c.args.name.now c.args.rtype.0 c.at-at_name.result.now c.loop-number.number-index are c.loop-number-test.true).is_rrset.0
 
 pub rrset_at-rrset-requires-clause-within : goal.rrset_at-rrset-requires-clause-within
 rrset_at-rrset-requires-clause-within g c =
-    let are = numbers_are c.args.capture.now.rrsets c.args.name.now c.args.rtype.0 c.at-at_name.result.now c.at-at_name.ensures.numbers in
+    let are = numbers_are c.args.capture.now.rrsets c.args.name.now c.args.rtype.0 c.at-at_name.result.now c.at-at_name.ensures in
     let one = one_at c.args.capture.now.rrsets c.args.name.now c.args.rtype.0 c.at-at_name.result.now c.loop-number.number-index are c.loop-number-test.true in
     let from_one = one.is_rrset.0 in
     let within = slice_get_within c.args.capture.now.rrsets (get_or c.at-at_name.result.now c.loop-number.number-index 0 - 1) one.rrset one.is_rrset.1 in
@@ -22,7 +22,7 @@ rrset_at-rrset-requires-clause-within g c =
 pub returns-in-Some : goal.returns-in-Some
 returns-in-Some g c =
     let number = get_or c.at-at_name.result.now c.loop-number.number-index 0 in
-    let are = numbers_are c.args.capture.now.rrsets c.args.name.now c.args.rtype.0 c.at-at_name.result.now c.at-at_name.ensures.numbers in
+    let are = numbers_are c.args.capture.now.rrsets c.args.name.now c.args.rtype.0 c.at-at_name.result.now c.at-at_name.ensures in
     first_such_found (g.T.Test.passes c.args.test.now) c.args.trust.now c.args.capture.now.rrsets c.args.name.now c.args.rtype.0 c.at-at_name.result.now are c.requires
     c.loop-number.number-index number c.rrset_at-rrset.result.now c.in-Some.signature c.in-Some.rrsig.now c.loop-number.invariant
     (slice_get-get_or c.at-at_name.result.now c.loop-number.number-index 0 c.loop-number-test.true)
@@ -40,6 +40,6 @@ loop-number-preserved g c =
 
 pub returns : goal.returns
 returns g c =
-    let are = numbers_are c.args.capture.now.rrsets c.args.name.now c.args.rtype.0 c.at-at_name.result.now c.at-at_name.ensures.numbers in
+    let are = numbers_are c.args.capture.now.rrsets c.args.name.now c.args.rtype.0 c.at-at_name.result.now c.at-at_name.ensures in
     none_found_at (g.T.Test.passes c.args.test.now) c.args.trust.now c.args.capture.now.rrsets c.args.name.now c.args.rtype.0 c.at-at_name.result.now are c.requires
     c.loop-number.number-index c.loop-number-test.false c.loop-number.invariant

@@ -6,5 +6,5 @@ use Rattle.dnsv_explain.proofs.faults.at.has_rrset.Goals as goal
 pub returns : goal.returns
 returns c =
     some_at c.args.evidence.now.rrsets c.args.name.now c.args.rtype.0 c.at.result.now
-    (c.at.ensures.numbers ∙ ap (λ rrsets. numbers_at rrsets c.args.name.now c.args.rtype.0) c.capture.ensures)
+    (c.at.ensures ∙ ap (λ rrsets. numbers_at rrsets c.args.name.now c.args.rtype.0) c.capture.ensures)
     c.is_empty.result c.is_empty.ensures

@@ -3,21 +3,16 @@ use Rattle.std.specs.List.{AllByRecursion}
 use Rattle.std.specs.declared.cmp.Ordering.TheVariants.{Greater}
 use Rattle.dnsv_canonical.specs.Index.Grouping.{Numbered, stands}
 use Rattle.dnsv_canonical.proofs.IndexLemmas.Layout.{length-firsts}
-use Rattle.dnsv_canonical.proofs.IndexLemmas.Search.{digits_left, greater_from, halves_left, less_up_to, none_behind}
+use Rattle.dnsv_canonical.proofs.IndexLemmas.Search.{greater_from, less_up_to, none_behind}
 use Rattle.dnsv_canonical.proofs.capture.index.Index.find.Goals as goal
 
 pub loop-low-init : goal.loop-low-init
 loop-low-init c = record {
   order = omega arith;
   within = omega (arith, c.len-high.ensures, c.args.self.now.starts.ok.0);
-  few = omega (arith, c.len-high.ensures, c.args.self.now.starts.ok.0);
   before = λ index. tt;
   behind = λ index. none_behind (λ (first : Numbered). stands first (c.args.name.now, c.args.rtype.0) ≡ Greater) index.firsts c.len-high.result
       (omega (arith, c.len-high.ensures, c.args.self.now.starts.ok.0, length-firsts c.args.rrsets.now c.args.self.now.numbers.items c.args.self.now.starts.items index));
-  digits = λ digits below. (digits, omega arith, omega (arith, below, c.len-high.ensures, c.args.self.now.starts.ok.0));
-  halves = λ left below.
-      let same : left ≡ 0 + left = omega arith in
-      subst (λ n. length c.args.self.now.starts.items + 1 < 2 * 2 ^ n) same (omega (arith, below, c.len-high.ensures, c.args.self.now.starts.ok.0));
 }
 
 pub loop-low-preserved-in-Less : goal.loop-low-preserved-in-Less
@@ -26,11 +21,8 @@ loop-low-preserved-in-Less c =
     record {
       order = omega (arith, c.loop-low-test.true);
       within = kept.within;
-      few = omega (arith, c.loop-low-test.true, kept.few, kept.order);
       before = λ index. less_up_to (c.args.name.now, c.args.rtype.0) index.firsts _ c.first.result.now index.are.rising (c.first.ensures index) (sym c.compared.ensures ∙ c.in-Less.is);
       behind = kept.behind;
-      digits = λ digits below. digits_left c.loop-low.count (c.loop-low.high - c.loop-low.low) _ digits (omega (arith, c.loop-low-test.true)) (omega (arith, c.loop-low-test.true)) (kept.digits digits below);
-      halves = λ left below. halves_left (length c.args.self.now.starts.items) c.loop-low.count (c.loop-low.high - c.loop-low.low) _ left (omega (arith, c.loop-low-test.true)) below kept.halves;
     }
 
 pub loop-low-preserved : goal.loop-low-preserved
@@ -39,11 +31,8 @@ loop-low-preserved c =
     record {
       order = omega (arith, c.loop-low-test.true);
       within = omega (arith, c.loop-low-test.true, kept.within);
-      few = omega (arith, c.loop-low-test.true, kept.few, kept.order);
       before = kept.before;
       behind = λ index. greater_from (c.args.name.now, c.args.rtype.0) index.firsts _ c.first.result.now index.are.rising (c.first.ensures index) (sym c.compared.ensures ∙ c.in-Greater.is);
-      digits = λ digits below. digits_left c.loop-low.count (c.loop-low.high - c.loop-low.low) _ digits (omega (arith, c.loop-low-test.true)) (omega (arith, c.loop-low-test.true)) (kept.digits digits below);
-      halves = λ left below. halves_left (length c.args.self.now.starts.items) c.loop-low.count (c.loop-low.high - c.loop-low.low) _ left (omega (arith, c.loop-low-test.true)) below kept.halves;
     }
 
 pub returns-in-Equal-clause-found : goal.returns-in-Equal-clause-found
@@ -58,8 +47,3 @@ returns-clause-found c = λ index.
       kept.before index,
       subst (λ n. AllByRecursion (λ (first : Numbered). stands first (c.args.name.now, c.args.rtype.0) ≡ Greater) (drop n index.firsts)) same (kept.behind index),
     )
-
-pub returns-clause-absent : goal.returns-clause-absent
-returns-clause-absent c =
-    let kept = c.loop-low.invariant in
-    subst (λ n. length c.args.self.now.starts.items + 1 < 2 * 2 ^ n) (omega arith) (kept.halves 0 (omega (arith, kept.order, c.loop-low-test.false)))

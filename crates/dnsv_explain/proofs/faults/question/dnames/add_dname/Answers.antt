@@ -19,7 +19,7 @@ returns-then-is_empty c =
     no_dname c.args.evidence.now.rrsets c.args.name.now c.args.labels c.requires
     (subst Without c.suffix-above.ensures.labels
     (none_at c.args.evidence.now.rrsets c.suffix-above.result c.at-numbers.result.now
-    (c.at-numbers.ensures.numbers ∙ ap (λ rrsets. numbers_at rrsets c.suffix-above.result 39) c.capture.ensures)
+    (c.at-numbers.ensures ∙ ap (λ rrsets. numbers_at rrsets c.suffix-above.result 39) c.capture.ensures)
     c.is_empty.result c.is_empty.ensures c.if-is_empty.true))
     c.args.lines.now.items
 
@@ -28,7 +28,7 @@ returns c =
     let rrsets = c.args.evidence.now.rrsets in
     let numbers = c.at-numbers.result.now in
     let above = c.suffix-above.result in
-    let are = c.at-numbers.ensures.numbers ∙ ap (λ rrsets. numbers_at rrsets above 39) c.capture.ensures in
+    let are = c.at-numbers.ensures ∙ ap (λ rrsets. numbers_at rrsets above 39) c.capture.ensures in
     let some = long numbers c.is_empty.result c.is_empty.ensures c.if-is_empty.false in
     let Lowest : Labels → Type 0 = λ zone. IsLowestDname rrsets zone (get_or numbers 0 0) in
     let Has : Labels → Type 0 = λ zone. HasRrset rrsets zone 39 in

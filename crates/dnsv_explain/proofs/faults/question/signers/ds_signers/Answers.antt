@@ -19,6 +19,6 @@ loop-number-preserved c =
 pub returns : goal.returns
 returns c =
     ds_labels c.args.capture.now.rrsets c.args.zone.now c.at-number-items.result.now c.loop-number.numbers.items
-    c.at-number-items.ensures.numbers
+    c.at-number-items.ensures
     (some_all (IsDsLabels c.args.capture.now.rrsets c.args.zone.now) c.at-number-items.result.now c.loop-number.number-index _ _
     c.loop-number-test.false c.loop-number.invariant)
