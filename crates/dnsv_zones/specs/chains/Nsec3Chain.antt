@@ -77,7 +77,7 @@ pub record IsNsec3ChainOf (zone : Zone) (apex : Labels) (hash : NameHash) (recor
       → Any (λ nsec3. nsec3.hash ≡ hash.of name) records
   pub wildcards : HasNoWildcardDelegation zone
 
--- Names whose hashes a proof asks for: the question's name, its ancestors, and the wildcards right below these.
+-- Names whose hashes a proof asks for: the question's name, its ancestors, and the wildcards right below its proper ancestors.
 pub data IsAsked (name : Labels) : Labels → Type 0 where
   itself : (above : Labels) → IsAtOrBelow name above → IsAsked name above
   wildcard : (above : Labels) → IsBelow name above → IsAsked name (wildcard_of above)

@@ -22,7 +22,8 @@ pub record IsAbsentBy (nsec : NsecRecord) (name : Labels) : Type 0 where
   pub no_cut_above : IsNoCutAbove nsec name
   pub nothing_below : ¬ IsAtOrBelow nsec.next name
 
--- the name has no owner, and one below it
+-- the name has no owner, and one below it: an empty non-terminal (RFC 4592 2.2.2), which owns no NSEC record, so that the next
+-- owner's name shows it (RFC 4034 4.1.1)
 pub record IsEmptyNonTerminalBy (nsec : NsecRecord) (name : Labels) : Type 0 where
   pub covers : Covers nsec name
   pub no_cut_above : IsNoCutAbove nsec name
