@@ -6,6 +6,7 @@ pub mod ByRrsetLemmas
 pub mod IndexLemmas
 pub mod LimitLemmas
 pub mod ListLemmas
+pub mod NumberLemmas
 pub mod ParameterLemmas
 pub mod ReadableLemmas
 pub mod SignedLemmas

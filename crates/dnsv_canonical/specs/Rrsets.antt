@@ -1,5 +1,5 @@
 -- The RRsets of messages and their signatures (RFC 2181 5, RFC 4035 5.3.1).
-use Rattle.std.specs.Prelude.{◌≡◌, ◌≢◌, ◌≤◌, ◌-◌, ℕ, suc, ◌==◌, nat_le, Bool, IsTrue, not, ◌&&◌, List, [], ◌∷◌, ◌++◌, map, filter, take, nat_eq, Some, slice_get}
+use Rattle.std.specs.Prelude.{◌≡◌, ◌≢◌, ◌≤◌, ◌-◌, ℕ, zero, suc, ◌==◌, nat_le, Bool, IsTrue, not, ◌&&◌, List, [], ◌∷◌, ◌++◌, map, filter, take, nat_eq, Option, None, Some, slice_get}
 use Rattle.std.specs.Int.{w16, to_be_bytes}
 use Rattle.std.specs.List.{enumerate_from, list_any, starts_with}
 use Rattle.std.specs.Str.{bytes_eq}
@@ -12,6 +12,11 @@ use Rattle.dnsv_message.specs.Message.{Contents}
 -- the element has the number, from 1 on, in the list
 abbrev pub IsNumbered : {X : Type 0} → List X → ℕ → X → Type 0
 IsNumbered xs number x = (1 ≤ number) × (slice_get xs (number - 1) ≡ Some x)
+
+-- that element, if there is one
+abbrev pub at_number : {X : Type 0} → List X → ℕ → Option X
+at_number xs zero = None
+at_number xs (suc place) = slice_get xs place
 
 -- an RRset: the number of its message, from 1 on, its section, the owner as its first record spells it, its type,
 -- the RDATA of its records as received, and the RDATA of its signatures

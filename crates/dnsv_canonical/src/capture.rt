@@ -4,19 +4,21 @@ mod index;
 mod limits;
 mod readable;
 
-ghost use Rattle.std.specs.Prelude.{◌≡◌, IfErr, List, OnErr, OnOk, length};
+ghost use Rattle.std.specs.Prelude.{◌≡◌, IfErr, List, MatchOption, OnErr, OnOk, length};
 ghost use Rattle.std.specs.List.{AllByRecursion, AllZip};
 ghost use Rattle.dnsv_message.specs.Message.{Contents, records_of};
 ghost use Rattle.dnsv_records.specs.Rrsig.{IsRrsig};
 ghost use Rattle.dnsv_canonical.specs.Evidence.{AreParameters, Evidence, IsReadable, IsReasonAgainst, IsWhole, IsWithinLimits, no_evidence, nsec3_rdata, signatures_at, with_message};
 ghost use Rattle.dnsv_canonical.specs.Index.{numbers_at};
 ghost use Rattle.dnsv_canonical.specs.Rdata.{IsWellFormed};
+ghost use Rattle.dnsv_canonical.specs.Rrsets.{IsNumbered, ReceivedRrset};
 ghost use Rattle.dnsv_canonical.specs.declared.capture.CaptureError.TheVariants.{OutOfMemory};
 
 use crate::capture::index::Index;
 use crate::capture::limits::{MESSAGE_LIMIT, are_small, fresh_parameters, records_with};
 use crate::capture::readable::check_rdata;
 use crate::expanded::Sections;
+use crate::number::numbered;
 use crate::received::message_rrsets;
 use crate::rrset::{Rrset, to_rrsets};
 use bumpalo::Bump;
@@ -203,6 +205,14 @@ impl<'b> Capture<'b> {
         ensures { result.now ≡ numbers_at self.now.rrsets name.now rtype.0 }
     {
         self.index.at(self.rrsets(), name, rtype)
+    }
+
+    /// The RRset with the number, from 1 on; `None` where none has it.
+    pub fn rrset(&self, number: usize) -> Option<&Rrset<'b>>
+        ensures { MatchOption result ((each : ReceivedRrset) → ¬ IsNumbered self.now.rrsets number each)
+            (λ found. IsNumbered self.now.rrsets number found.now) }
+    {
+        numbered(self.rrsets(), number)
     }
 
     /// The signatures of the RRset with the number, from 1 on; none where no RRset has it. They are numbered

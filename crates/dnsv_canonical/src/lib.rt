@@ -10,7 +10,7 @@ pub use laws::{
     first_appearances_are_all_once, one_signed_data, records_are_in_one_rrset,
     rrsets_are_well_formed, signed_data_begins_as_the_signature,
 };
-pub use number::{RecordNumber, SignatureNumber};
+pub use number::{RecordNumber, SignatureNumber, numbered};
 pub use rrset::{Rrset, canonical_rrset, signed_data};
 pub use section::{forms_rrsets, is_question};
 pub use signed::{is_expanded, signed_label_count};

@@ -1,4 +1,17 @@
 //! Numbers of what stands in the evidence.
+ghost use Rattle.std.specs.Prelude.{MatchOption};
+ghost use Rattle.dnsv_canonical.specs.Rrsets.{IsNumbered};
+
+/// The element with the number, from 1 on; `None` where none has it.
+pub fn numbered<T>(elements: &[T], number: usize) -> Option<&T>
+    ensures { MatchOption result ((each : T) → ¬ IsNumbered elements.now number each)
+        (λ found. IsNumbered elements.now number found.now) }
+{
+    if number == 0 {
+        return None;
+    }
+    elements.get(number - 1)
+}
 
 /// A record by its number: the RRset that it is in, and its place among that RRset's records in canonical order (RFC
 /// 4034 6.3), each counted from 1. Numbers are ordered by RRset, and then by place.

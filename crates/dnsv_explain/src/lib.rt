@@ -28,7 +28,6 @@ mod explanation;
 mod faults;
 mod interval;
 mod laws;
-mod numbered;
 mod places;
 mod shown;
 mod todo;

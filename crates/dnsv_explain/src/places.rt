@@ -3,8 +3,7 @@ ghost use Rattle.std.specs.Prelude.{◌↔◌, ℕ, Contains, IfOk, OnOk};
 ghost use Rattle.std.specs.List.Sorted.{IsStrictlyIncreasing};
 ghost use Rattle.dnsv_explain.specs.Places.{AddsPlace, ArePlacedBy, ArePlacesOf, NamesRrset};
 
-use crate::numbered::numbered;
-use dnsv_canonical::{Capture, Rrset};
+use dnsv_canonical::{Capture, Rrset, numbered};
 use dnsv_lines::{Line, RrsetPlace, push_rrsets};
 use std::alloc::{AllocError, Global};
 

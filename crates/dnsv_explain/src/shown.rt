@@ -4,8 +4,7 @@ ghost use Rattle.dnsv_verifier.specs.Asking.{AddsJust, ComesOfSome};
 ghost use Rattle.dnsv_explain.specs.intervals.Holding.{AreShownValidAt, HasTimes, IsHoldingOf, ShowsTimes, signature_shown};
 
 use crate::interval::{Times, holding};
-use crate::numbered::numbered;
-use dnsv_canonical::{Capture, Rrset, SignatureNumber};
+use dnsv_canonical::{Capture, Rrset, SignatureNumber, numbered};
 use dnsv_lines::{Interval, Line};
 use std::alloc::{AllocError, Global};
 

@@ -7,7 +7,7 @@ ghost use Rattle.dnsv_records.specs.Dnskey.{IsDnskey};
 
 use crate::row::{Row, RowError};
 use bumpalo::Bump;
-use dnsv_canonical::{Capture, CaptureError, Rrset};
+use dnsv_canonical::{Capture, CaptureError, Rrset, numbered};
 use dnsv_message::{Framer, Message};
 use dnsv_records::{Dnskey, Rrsig};
 use std::alloc::Global;
@@ -86,11 +86,10 @@ pub fn rrset<'a, 'b>(
     place: usize,
     capture: &'a Capture<'b>,
 ) -> Result<&'a Rrset<'b>, RowError> {
-    let number = row.number(place)?.saturating_sub(1);
-    let Ok(index) = usize::try_from(number) else {
+    let Ok(number) = usize::try_from(row.number(place)?) else {
         return Err(RowError::Malformed);
     };
-    match capture.rrsets().get(index) {
+    match capture.rrset(number) {
         Some(rrset) => Ok(rrset),
         None => Err(RowError::Malformed),
     }
@@ -102,11 +101,10 @@ pub fn signature<'a, 'b>(
     place: usize,
     rrset: &'a Rrset<'b>,
 ) -> Result<&'a Rrsig<'b>, RowError> {
-    let number = row.number(place)?.saturating_sub(1);
-    let Ok(index) = usize::try_from(number) else {
+    let Ok(number) = usize::try_from(row.number(place)?) else {
         return Err(RowError::Malformed);
     };
-    match rrset.signatures().get(index) {
+    match numbered(rrset.signatures(), number) {
         Some(rrsig) => Ok(rrsig),
         None => Err(RowError::Malformed),
     }

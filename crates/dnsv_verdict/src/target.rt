@@ -3,10 +3,9 @@ ghost use Rattle.std.specs.Prelude.{◌≡◌, [], ◌∷◌, IfOk, MatchOption,
 ghost use Rattle.dnsv_names.specs.Name.{Labels, IsName, wire};
 ghost use Rattle.dnsv_canonical.specs.Canonical.{IsCanonical};
 ghost use Rattle.dnsv_canonical.specs.CanonicalRdata.{canonical_form};
-ghost use Rattle.dnsv_canonical.specs.Rrsets.{IsNumbered, ReceivedRrset};
 ghost use Rattle.dnsv_verdict.specs.Way.{IsTarget};
 
-use dnsv_canonical::{Capture, Rrset, canonical_rrset};
+use dnsv_canonical::{Capture, canonical_rrset};
 use dnsv_names::Name;
 use std::alloc::{AllocError, Global};
 
@@ -21,22 +20,11 @@ pub fn target_of(
         ((target : Labels) → ¬ IsTarget capture.now.rrsets rrset target)
         (IsTarget capture.now.rrsets rrset)) }
 {
-    let Some(numbered) = numbered(capture, rrset) else {
+    let Some(numbered) = capture.rrset(rrset) else {
         return Ok(None);
     };
     let canonical = canonical_rrset(alloc, numbered)?;
     Ok(one_name(canonical.as_slice()))
-}
-
-/// The RRset with the number.
-fn numbered<'a, 'b>(capture: &'a Capture<'b>, rrset: usize) -> Option<&'a Rrset<'b>>
-    ensures { MatchOption result ((each : ReceivedRrset) → ¬ IsNumbered capture.now.rrsets rrset each)
-        (λ found. IsNumbered capture.now.rrsets rrset found.now) }
-{
-    if rrset == 0 {
-        return None;
-    }
-    capture.rrsets().get(rrset - 1)
 }
 
 /// The name whose wire form is the one RDATA.

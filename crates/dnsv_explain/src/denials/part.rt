@@ -5,8 +5,7 @@ ghost use Rattle.dnsv_explain.specs.Denials.{HasRrset, IsPartFit, IsPartLine, Is
 ghost use Rattle.dnsv_explain.specs.Saying.{Adds, AreEach};
 
 use crate::evidence::Evidence;
-use crate::numbered::numbered;
-use dnsv_canonical::RecordNumber;
+use dnsv_canonical::{RecordNumber, numbered};
 use dnsv_denial::{PartName, PartRelation, ProofPart};
 use dnsv_lines::{Line, Part, RecordPlace, Relation, Role};
 use dnsv_names::Name;

@@ -1,12 +1,12 @@
 -- The text of `check` and of `explain`: a question's verdict, what carries it, and why it stands.
-use Rattle.std.specs.Prelude.{◌≡◌, ⊤, ℕ, ◌-◌, Bool, true, false, List, [], ◌∷◌, ◌++◌, Option, Some, None, codes, is_some, map, slice_get}
+use Rattle.std.specs.Prelude.{◌≡◌, ⊤, ℕ, Bool, true, false, List, [], ◌∷◌, ◌++◌, Option, Some, None, codes, is_some, map}
 use Rattle.std.specs.Fmt.{decimal}
 use Rattle.std.specs.List.{flat_map}
 use Rattle.dnsv_names.specs.Name.{Labels, lower_case}
 use Rattle.dnsv_names.specs.Text.{text_of}
 use Rattle.dnsv_message.specs.Message.{Contents}
 use Rattle.dnsv_canonical.specs.Evidence.{evidence_of}
-use Rattle.dnsv_canonical.specs.Rrsets.{ReceivedRrset}
+use Rattle.dnsv_canonical.specs.Rrsets.{ReceivedRrset, at_number}
 use Rattle.dnsv_verifier.specs.declared.answer.Answer.{Answer}
 use Rattle.dnsv_verifier.specs.declared.entry.Entry.{Entry}
 use Rattle.dnsv_chain.specs.declared.anchor.Anchor.{Anchor}
@@ -77,7 +77,7 @@ proof_record_line (Some rrset) = codes "record " ++ lower_text rrset.owner ++ co
 
 -- those of a record by its number
 abbrev pub proof_line : List ReceivedRrset → RecordNumber → List ℕ
-proof_line rrsets number = proof_record_line (slice_get rrsets (number.rrset - 1))
+proof_line rrsets number = proof_record_line (at_number rrsets number.rrset)
 
 -- a name that is an alias, by an RRset and its signature
 abbrev pub alias_line : Link → List ℕ
@@ -139,7 +139,7 @@ proof_record_json (Some rrset) = record_json rrset ∷ []
 
 -- those of a record by its number
 abbrev pub proof_json : List ReceivedRrset → RecordNumber → List (List ℕ)
-proof_json rrsets number = proof_record_json (slice_get rrsets (number.rrset - 1))
+proof_json rrsets number = proof_record_json (at_number rrsets number.rrset)
 
 -- the records of a proof
 abbrev pub proof_member : List ReceivedRrset → List RecordNumber → List ℕ

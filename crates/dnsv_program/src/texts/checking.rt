@@ -16,7 +16,7 @@ use crate::texts::explaining::{push_why, report_and_why};
 use crate::texts::json::checking::verdict_json;
 use crate::texts::reason::push_reason;
 use bumpalo::Bump;
-use dnsv_canonical::{Capture, RecordNumber, Rrset};
+use dnsv_canonical::{Capture, RecordNumber, Rrset, numbered};
 use dnsv_chain::Anchors;
 use dnsv_explain::Explanation;
 use dnsv_names::{Name, RecordType};
@@ -239,9 +239,8 @@ fn push_number(
 ) -> Result<(), AllocError>
     ensures { OnOk result (string_bytes text.new ≡ string_bytes text.old ++ specs.proof_line rrsets.now number.now) }
 {
-    let place = number.rrset.saturating_sub(1);
-    if place < rrsets.len() {
-        push_record(text, &rrsets[place])?;
+    if let Some(rrset) = numbered(rrsets, number.rrset) {
+        push_record(text, rrset)?;
     }
     Ok(())
 }

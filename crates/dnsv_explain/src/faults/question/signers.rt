@@ -7,8 +7,7 @@ ghost use Rattle.dnsv_explain.specs.faults.Zones.{HasDenialSigner, HasGoalSigner
 
 use crate::evidence::Evidence;
 use crate::faults::question::subjects::{has_signed_goal, is_denial, is_goal};
-use crate::numbered::numbered;
-use dnsv_canonical::{Capture, Rrset};
+use dnsv_canonical::{Capture, Rrset, numbered};
 use dnsv_names::{Name, RecordType};
 use std::alloc::{AllocError, Global};
 

@@ -8,7 +8,7 @@ use crate::texts::checking::{Asked, status_of, verdict_word};
 use crate::texts::json::explaining::push_why;
 use crate::texts::json::todo::push_entries;
 use crate::texts::reason::push_reason;
-use dnsv_canonical::{RecordNumber, Rrset};
+use dnsv_canonical::{RecordNumber, Rrset, numbered};
 use dnsv_explain::Explanation;
 use dnsv_lines::{push_comma, push_name};
 use dnsv_names::Name;
@@ -155,9 +155,8 @@ fn push_number(
         ≡ string_bytes text.old ++ parted first.old (specs.proof_json rrsets.now number.now)) }
     ensures first { OnOk result (first.new ≡ still_first first.old (specs.proof_json rrsets.now number.now)) }
 {
-    let place = number.rrset.saturating_sub(1);
-    if place < rrsets.len() {
-        push_record(text, first, &rrsets[place])?;
+    if let Some(rrset) = numbered(rrsets, number.rrset) {
+        push_record(text, first, rrset)?;
     }
     Ok(())
 }

@@ -9,6 +9,6 @@ pub returns : goal.returns
 returns c =
     let rrset = c.in-Some.numbered.now in
     target_from c.args.capture.now.rrsets c.args.rrset rrset (map (λ r. r.items) c.as_slice.result.now) c.one_name.result
-    (MatchOption-at_some _ _ c.in-Some.numbered c.in-Some.is c.numbered.ensures)
+    (MatchOption-at_some _ _ c.in-Some.numbered c.in-Some.is c.rrset.ensures)
     (subst (λ forms. IsCanonical (map (canonical_form rrset.rtype) rrset.rdata) (map (λ r. r.items) forms)) (sym c.as_slice.ensures.value) c.in_ok-canonical.ensures)
     c.one_name.ensures
