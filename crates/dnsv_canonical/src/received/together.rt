@@ -1,5 +1,5 @@
 //! RRsets whose records stand together and their signatures behind them, as nearly all do.
-ghost use Rattle.std.specs.Prelude.{◌≡◌, ◌≤◌, ◌<◌, ◌^◌, ◌∷◌, IfOk, IfSome, IsTrue, length, map, take, true};
+ghost use Rattle.std.specs.Prelude.{◌≡◌, ◌≤◌, ◌<◌, ◌^◌, ◌++◌, ◌∷◌, [], IfOk, IfSome, IsTrue, OnOk, length, map, take, true};
 ghost use Rattle.dnsv_canonical.specs.Rrsets.{is_grouped, rrsets_in, same_rrset};
 ghost use Rattle.dnsv_canonical.specs.Runs.{IsRun};
 
@@ -86,7 +86,7 @@ fn run_from<'b>(
         if belongs(first, record) {
             rdata.push(record.rdata())?;
         } else if covers(record, rtype, &first.name) {
-            signatures.push(record.rdata())?;
+            push_one(&mut signatures, record.rdata())?;
         } else {
             break;
         }
@@ -97,6 +97,17 @@ fn run_from<'b>(
         signatures,
         count,
     })
+}
+
+/// Adds RDATA behind the others. The first gets room for itself alone, since mostly it is the only one.
+fn push_one<'b>(others: &mut Vec<&'b [u8]>, rdata: &'b [u8]) -> Result<(), AllocError>
+    ensures { OnOk result (others.new.items ≡ others.old.items ++ rdata.entry ∷ []) }
+{
+    if others.is_empty() {
+        others.reserve_exact(1)?;
+    }
+    others.push(rdata)?;
+    Ok(())
 }
 
 /// Whether the candidate belongs to the RRset of the first.

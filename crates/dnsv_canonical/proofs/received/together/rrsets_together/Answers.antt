@@ -1,4 +1,4 @@
-use Rattle.std.proofs.Common.{◌≡◌, ◌++◌, ◌+◌, ◌∷◌, [], ◌==◌, ◌&&◌, List, ℕ, true, cond, not, take, map, ap, sym, subst, ◌∙◌}
+use Rattle.std.proofs.Common.{◌++◌, ◌+◌, ◌∷◌, [], ◌==◌, ◌&&◌, List, ℕ, true, cond, not, take, map, ap, sym, subst, ◌∙◌}
 use Rattle.std.proofs.lemmas.List.{take_rest}
 use Rattle.dnsv_names.specs.Name.{same_name}
 use Rattle.dnsv_message.specs.declared.record.Record.{Record}
