@@ -34,13 +34,13 @@ key_cmp a b = ordering_then (nat_cmp a.0.0 b.0.0) (search_cmp a.1.0.now b.1.0.no
 abbrev same_key : Key → Key → Bool
 same_key a b = (a.0.0 == b.0.0) && same_name a.1.0.now b.1.0.now
 
-abbrev key_of : ℕ → Labels → Key
+abbrev pub key_of : ℕ → Labels → Key
 key_of rtype owner = (record { 0 = rtype }, record { 0 = record { ref_ptr = (0, 0); now = owner } })
 
 same_key_equiv : IsEquivalence same_key
 same_key_equiv = and_equiv (on_equiv (λ (k : Key). k.0.0) nat_eq_equiv) (on_equiv (λ (k : Key). k.1.0.now) same_name_equiv)
 
-same_key_ties : (a b : Key) → is_eq (key_cmp a b) ≡ same_key a b
+pub same_key_ties : (a b : Key) → is_eq (key_cmp a b) ≡ same_key a b
 same_key_ties a b = sym (both_tied _ _ (nat_cmp a.0.0 b.0.0) (search_cmp a.1.0.now b.1.0.now) (sym (unsigned_tied a.0.0 b.0.0)) (search_ties a.1.0.now b.1.0.now))
 
 abbrev pub Kept : Type 0 → Type 0

@@ -1,5 +1,6 @@
 -- Filters and first appearances, as a loop goes over a list.
 pub mod AppearanceLemmas
+pub mod RunLemmas
 use Rattle.std.proofs.Common.{◌≡◌, ℕ, ◌+◌, ◌<◌, ◌≤◌, ◌==◌, Bool, true, false, cond, not, ◌&&◌, ◌||◌, List, [], ◌∷◌, ◌++◌, length, get_or, take, map, if◌then◌else◌, refl, sym, ap, ◌∙◌, append_assoc, arith}
 use Rattle.std.specs.List.{enumerate_from, filter, list_any}
 use lib.Seq.{take-append-le, take-append_seam}

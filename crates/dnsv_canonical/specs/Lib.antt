@@ -10,3 +10,4 @@ pub mod Rrsets
 pub mod ByRrset
 pub mod Rdata
 pub mod Records
+pub mod Runs

@@ -64,15 +64,23 @@ pub fn distinct_rdata<'a, 'b>(
     // The type has 16 bits, which a caller needs to know of signatures.
     ensures fits { rtype.0 < 2 ^ 16 }
 {
-    let mut first_ones = Vec::new(alloc);
     let Some(received) = by_rrset.get(&(rtype, NameRefByWire(owner))) else {
-        return Ok(first_ones);
+        return Ok(Vec::new(alloc));
     };
+    each_once(alloc, Vec::from_slice(alloc, received)?)
+}
+
+/// The RDATA in its order, of equal ones the first.
+pub fn each_once<'b>(alloc: Global, received: Vec<&'b [u8]>) -> Result<Vec<&'b [u8]>, AllocError>
+    ensures { IfOk result (λ first_ones. map (λ r. r.now) first_ones.items
+        ≡ first_appearances bytes_eq (map (λ r. r.now) received.entry.items)) }
+{
     if received.len() < 2 {
-        return Ok(Vec::from_slice(alloc, received)?);
+        return Ok(received);
     }
+    let mut first_ones = Vec::new(alloc);
     let mut seen = BTreeSet::new(alloc);
-    for rdata in received {
+    for rdata in received.as_slice() {
         if seen.insert(*rdata)? {
             first_ones.push(*rdata)?;
         }

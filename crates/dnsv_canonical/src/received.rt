@@ -1,9 +1,13 @@
 //! RRsets as they stand in messages.
+
+mod together;
+
 ghost use Rattle.std.specs.Prelude.{◌≡◌, ◌++◌, ◌+◌, IfOk, OnOk, map, List, ℕ};
 ghost use Rattle.dnsv_message.specs.declared.record.Section.{Section};
 
 use crate::by_rrset::{distinct_rdata, take_rdata};
 use crate::expanded::{Expanded, Sections};
+use crate::received::together::rrsets_together;
 use crate::section::{is_grouped, rdata_by_rrset, signatures_by_rrset};
 use dnsv_message::Section;
 use dnsv_names::{Name, RecordType};
@@ -92,6 +96,23 @@ pub fn message_rrsets<'b>(
 
 /// Adds the RRsets of a section.
 fn add_section<'b>(
+    alloc: Global,
+    rrsets: &mut Vec<Received<'b>>,
+    message: usize,
+    section: Section,
+    records: &[Expanded<'b>],
+) -> Result<(), AllocError>
+    ensures { OnOk result (rrsets.new.items ≡ rrsets.old.items ++ rrsets_in message section records.now) }
+{
+    if let Some(mut together) = rrsets_together(alloc, message, section, records)? {
+        rrsets.append(&mut together)?;
+        return Ok(());
+    }
+    add_scattered(alloc, rrsets, message, section, records)
+}
+
+/// Adds the RRsets of a section, in whatever order its records stand.
+fn add_scattered<'b>(
     alloc: Global,
     rrsets: &mut Vec<Received<'b>>,
     message: usize,

@@ -5,10 +5,11 @@ ghost use Rattle.dnsv_names.specs.Name.{Labels, same_name};
 ghost use Rattle.dnsv_message.specs.declared.record.Record.{Record};
 ghost use Rattle.dnsv_canonical.specs.ByRrset.{rdata_at};
 ghost use Rattle.dnsv_canonical.specs.Rrsets.{forms_rrsets, is_grouped, IsQuestion, same_rrset, is_signature};
+ghost use Rattle.dnsv_canonical.specs.Runs.{SignsJust};
 
 use crate::by_rrset::{RdataByRrset, add};
 use crate::expanded::Expanded;
-use dnsv_message::Class;
+use dnsv_message::{Class, NameRef};
 use dnsv_names::{Name, RecordType};
 use std::alloc::{AllocError, Global};
 use std::collections::BTreeMap;
@@ -43,6 +44,23 @@ pub fn is_grouped(candidate: &Expanded<'_>) -> bool
     ensures { result ≡ is_grouped candidate.now }
 {
     candidate.class == Class::IN && forms_rrsets(candidate.rtype)
+}
+
+/// Whether the candidate is an IN RRSIG.
+pub fn is_rrsig(candidate: &Expanded<'_>) -> bool
+    ensures { result ≡ ((candidate.now.rtype.0 == 46) && (candidate.now.class.0 == 1)) }
+{
+    candidate.rtype == RecordType::RRSIG && candidate.class == Class::IN
+}
+
+/// Whether the candidate is a signature over the RRset of the owner and type.
+pub fn covers(candidate: &Expanded<'_>, rtype: RecordType, owner: &NameRef<'_>) -> bool
+    ensures { IsTrue result → SignsJust owner.now rtype.0 candidate.now }
+{
+    match covered_type(candidate) {
+        Some(covered) => covered == rtype && candidate.name == *owner,
+        None => false,
+    }
 }
 
 /// The type that the candidate covers if it is an IN RRSIG: the first two octets of its RDATA.

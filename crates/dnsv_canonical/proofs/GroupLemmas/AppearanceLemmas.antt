@@ -83,7 +83,7 @@ module _ {X : Type 0} (same : X → X → Bool) where
   abbrev are_apart : X → X → Type 0
   are_apart a b = same a b ≡ false
 
-  each_differs : (xs : List X) (x : X) → list_any (λ y. same y x) xs ≡ false → AllByRecursion (λ y. same y x ≡ false) xs
+  pub each_differs : (xs : List X) (x : X) → list_any (λ y. same y x) xs ≡ false → AllByRecursion (λ y. same y x ≡ false) xs
   each_differs [] x none = tt
   each_differs (y ∷ ys) x none = let parts = or_parts (same y x) (list_any (λ z. same z x) ys) none in (parts.0, each_differs ys x parts.1)
 
@@ -107,7 +107,7 @@ module _ {X : Type 0} (same : X → X → Bool) where
     same_of : (x y : X) → same x q ≡ true → same y x ≡ same y q
     same_of x y is = equivalence.symm y x ∙ equivalence.congr x q y is ∙ equivalence.symm q y
 
-    any_same : (x : X) (xs : List X) → same x q ≡ true → list_any (λ y. same y x) xs ≡ list_any is_q xs
+    pub any_same : (x : X) (xs : List X) → same x q ≡ true → list_any (λ y. same y x) xs ≡ list_any is_q xs
     any_same x [] is = refl
     any_same x (y ∷ ys) is = λ i. same_of x y is i || any_same x ys is i
 
@@ -127,7 +127,7 @@ module _ {X : Type 0} (same : X → X → Bool) where
 
 -- ---- RRsets
 
-same_rrset_equiv : IsEquivalence same_rrset
+pub same_rrset_equiv : IsEquivalence same_rrset
 same_rrset_equiv = and_equiv (on_equiv (λ (r : Record). r.rtype.0) nat_eq_equiv) (on_equiv (λ (r : Record). r.name) same_name_equiv)
 
 apart_rrsets : (a b : Record) → same_rrset a b ≡ false → a.rtype.0 ≡ b.rtype.0 → SameName a.name b.name → ⊥

@@ -5,8 +5,8 @@ use Rattle.dnsv_names.specs.Name.{same_name}
 use Rattle.dnsv_canonical.specs.ByRrset.{rdata_at}
 use Rattle.dnsv_canonical.specs.Rrsets.{first_appearances}
 use Rattle.dnsv_canonical.proofs.GroupLemmas.{rrset_appears, rrset_appeared, rdata_of, had_at, had_is, left_after}
-use Rattle.dnsv_canonical.proofs.received.add_section.Goals as goal
-use Rattle.dnsv_canonical.proofs.received.add_section.Goals.{then-not-is_empty+in_ok-distinct_rdata+in_ok-push, else-not-is_empty}
+use Rattle.dnsv_canonical.proofs.received.add_scattered.Goals as goal
+use Rattle.dnsv_canonical.proofs.received.add_scattered.Goals.{then-not-is_empty+in_ok-distinct_rdata+in_ok-push, else-not-is_empty}
 
 pub loop-record-preserved : goal.loop-record-preserved
 loop-record-preserved c =

@@ -3,7 +3,7 @@ use Rattle.std.specs.List.{filter, list_any}
 use Rattle.dnsv_message.specs.declared.record.Record.{Record}
 use Rattle.dnsv_canonical.specs.Rrsets.{rrset_of, first_appearances, same_rrset, is_grouped}
 use Rattle.dnsv_canonical.specs.ByRrset.{rdata_at}
-use Rattle.dnsv_canonical.proofs.received.add_section.Given as goal
+use Rattle.dnsv_canonical.proofs.received.add_scattered.Given as goal
 
 -- the RRsets that appeared so far, and that the RDATA of just these is taken
 abbrev pub invariant-loop-record : goal.invariant-loop-record

@@ -3,7 +3,7 @@ use Rattle.std.specs.Str.{bytes_eq}
 use Rattle.std.specs.List.{list_any}
 use Rattle.dnsv_canonical.specs.Rrsets.{first_appearances}
 use Rattle.dnsv_canonical.proofs.ByRrsetLemmas.{is_seen}
-use Rattle.dnsv_canonical.proofs.by_rrset.distinct_rdata.Given as goal
+use Rattle.dnsv_canonical.proofs.by_rrset.each_once.Given as goal
 
 -- what was there so far, of equal RDATA the first; and that it is what was seen
 abbrev pub invariant-loop-rdata : goal.invariant-loop-rdata
