@@ -24,12 +24,25 @@ pub fn add<'a, T: Drop>(
     ensures { OnOk result ((name : Labels) → values_at by_owner.new name
         ≡ values_at by_owner.old name ++ (if same_name name owner.now then value ∷ [] else [])) }
 {
-    let mut values = match by_owner.remove(&OwnerKey(WireName::of(owner))) {
+    add_at(alloc, by_owner, &WireName::of(owner), value)
+}
+
+/// The same, the owner's name by its wire form.
+pub fn add_at<'a, T: Drop>(
+    alloc: Global,
+    by_owner: &mut ByOwner<'a, T>,
+    owner: &WireName<'a>,
+    value: T,
+) -> Result<(), AllocError>
+    ensures { OnOk result ((name : Labels) → values_at by_owner.new name
+        ≡ values_at by_owner.old name ++ (if same_name name owner.now then value ∷ [] else [])) }
+{
+    let mut values = match by_owner.remove(&OwnerKey(owner.copied())) {
         Some(values) => values,
         None => Vec::new(alloc),
     };
     values.push(value)?;
-    by_owner.insert(OwnerKey(WireName::of(owner)), values)?;
+    by_owner.insert(OwnerKey(owner.copied()), values)?;
     Ok(())
 }
 
