@@ -5,8 +5,9 @@ from __future__ import annotations
 from typing import Iterable, Iterator, Sequence
 
 from denial_zones import DS, LOOSE, MIXED, NODES, NSECS, RFC5155, SMALL
-from dnssec_check_tools.wire import nsec
-from messages import DNSKEY, key_message, message, signed
+from dnssec_check_tools.capturing.frames import framed
+from dnssec_check_tools.wire import header, name_octets, nsec
+from messages import DNSKEY, key_message, message, record, rrsig, signed
 from zones import Hashing, Node, Zone, nsec3_chain, nsec_chain
 
 
@@ -32,6 +33,13 @@ def by_nsec() -> Iterator[str]:
     own = nsec("sub.example.", "NS SOA RRSIG NSEC DNSKEY")
     yield let("sub:key", signed("sub.example.", "DNSKEY", DNSKEY, signer="sub.example."))
     yield let("sub>sub", signed("sub.example.", "NSEC", own, signer="sub.example."))
+    yield "let x>x:two " + by_two_zones("x.example.", nsec("x.example.", "A RRSIG NSEC")).hex()
+
+
+def by_two_zones(owner: str, rdata: bytes) -> bytes:
+    """A message of an NSEC record that `example.` signed, and the root zone too."""
+    root = record(name_octets(owner), "RRSIG", rrsig("NSEC", 2, "."))
+    return framed([header(1, (0, 3, 0, 0)) + signed(owner, "NSEC", rdata) + root])
 
 
 def by_ds() -> Iterator[str]:

@@ -1,4 +1,5 @@
 -- The records of the evidence, and how those of a zone are kept.
+pub mod ByZone
 pub mod Evidence
 pub mod Gathered
 pub mod Kept

@@ -1,4 +1,5 @@
 //! The records of zones, gathered from the evidence.
+pub mod denial_records;
 pub mod nsec;
 pub mod nsec3;
 pub mod parameters;

@@ -1,4 +1,6 @@
 //! Calls of `dnsv_denial`.
+ghost use Rattle.dnsv_chain.specs.Trust.{SecuredIn};
+ghost use Rattle.dnsv_denial.specs.gathering.ByZone.{AreDenialRecords};
 
 mod each;
 mod evidence;
@@ -10,7 +12,7 @@ use crate::row::{Row, RowError, printed};
 use bumpalo::Bump;
 use dnsv_canonical::Capture;
 use dnsv_chain::Trust;
-use dnsv_denial::{Hashes, Proof, View};
+use dnsv_denial::{DenialRecords, Hashes, Proof, View};
 use dnsv_names::{Count, Name, RecordType};
 use evidence::{Evidence, evidence_in};
 use std::alloc::Global;
@@ -82,10 +84,19 @@ fn view_with_hashes_of<'a>(
     evidence: &'a Evidence<'a>,
     before: &Trust<'_>,
     name: &Name,
-) -> Result<View<'a, 'a>, RowError> {
+) -> Result<View<'a, 'a>, RowError>
+    requires { AreDenialRecords (SecuredIn evidence.now.trust) evidence.now.capture.now.rrsets evidence.now.denials }
+{
     let hashes = Hashes::new(alloc, evidence.capture, name, &mut Count::new())?;
-    View::with(alloc, evidence.capture, before, &hashes)?;
-    Ok(View::with(alloc, evidence.capture, &evidence.trust, &hashes)?)
+    let denials = DenialRecords::of(alloc, evidence.capture, before)?;
+    View::with(alloc, evidence.capture, before, &denials, &hashes)?;
+    Ok(View::with(
+        alloc,
+        evidence.capture,
+        &evidence.trust,
+        &evidence.denials,
+        &hashes,
+    )?)
 }
 
 /// `closer CAPTURE ANCHORS MOMENT NAME ZONE LABELS`: the zone and the record of the proof that the zone has no closer
@@ -133,6 +144,7 @@ fn hash_count(row: &Row, capture: &Capture<'_>) -> Result<String, RowError> {
         row.alloc(),
         evidence.capture,
         &evidence.trust,
+        &evidence.denials,
         &name,
         &mut count,
     )?;
@@ -170,11 +182,14 @@ fn view_of<'a>(
     alloc: Global,
     evidence: &'a Evidence<'a>,
     name: &Name,
-) -> Result<View<'a, 'a>, RowError> {
+) -> Result<View<'a, 'a>, RowError>
+    requires { AreDenialRecords (SecuredIn evidence.now.trust) evidence.now.capture.now.rrsets evidence.now.denials }
+{
     Ok(View::new(
         alloc,
         evidence.capture,
         &evidence.trust,
+        &evidence.denials,
         name,
         &mut Count::new(),
     )?)

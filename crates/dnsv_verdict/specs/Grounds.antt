@@ -2,7 +2,8 @@
 use Rattle.std.specs.Prelude.{◌≡◌, ℕ, Option, Some, None}
 use Rattle.dnsv_names.specs.Name.{Labels}
 use Rattle.dnsv_verifier.specs.Table.{IsTableOf, hopeful, table_answer}
-use Rattle.dnsv_chain.specs.Trust.{IsTrustOf}
+use Rattle.dnsv_chain.specs.Trust.{IsTrustOf, SecuredIn}
+use Rattle.dnsv_denial.specs.gathering.ByZone.{AreDenialRecords}
 use Rattle.dnsv_verdict.specs.Verdict.{Basis, IsSettledAsBy, basis_of}
 use Rattle.dnsv_verdict.specs.declared.grounds.Grounds.{Grounds}
 use Rattle.dnsv_verdict.specs.declared.grounds.Hope.{Hope}
@@ -16,11 +17,13 @@ abbrev pub basis_by : Grounds → Basis
 basis_by grounds =
     basis_of grounds.capture.now.rrsets grounds.anchors.now grounds.table.moment (table_answer grounds.table)
 
--- the trust is what the evidence, the anchors and the table give
+-- the trust is what the evidence, the anchors and the table give, and the denial records are those that zones secured by
+-- it
 abbrev pub HasTrust : Grounds → Type 0
 HasTrust grounds =
     IsTrustOf (table_answer grounds.table) grounds.table.moment grounds.capture.now.rrsets grounds.anchors.now
     grounds.trust
+    × AreDenialRecords (SecuredIn grounds.trust) grounds.capture.now.rrsets grounds.denials
 
 -- they have the evidence and the anchors, the table of what the verifier says of them, and its trust
 pub record AreGroundsOf (basis : Basis) (grounds : Grounds) : Type 0 where

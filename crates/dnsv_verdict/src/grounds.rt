@@ -18,7 +18,7 @@ use crate::trail::Trail;
 use crate::verdict::Verdict;
 use dnsv_canonical::Capture;
 use dnsv_chain::{Anchors, Trust, trust_depends_on_what_is_asked, trusted};
-use dnsv_denial::{Hashes, View};
+use dnsv_denial::{DenialRecords, Hashes, View};
 use dnsv_names::{Count, Name, RecordType};
 use dnsv_verifier::{Table, a_table_is_its_verifier, unknown_entries_may_turn_out_valid};
 use std::alloc::{AllocError, Global};
@@ -31,6 +31,8 @@ pub struct Grounds<'a> {
     pub table: Table<'a>,
     /// What the three make trusted.
     pub trust: Trust<'a>,
+    /// The records of denials that zones secured by the trust, gathered once for all names that are asked.
+    pub denials: DenialRecords<'a>,
 }
 
 /// What the evidence would settle if each of the entries that the verifier doesn't know were valid.
@@ -112,13 +114,20 @@ fn settled_on<'a>(
     name: &Name,
     rtype: RecordType,
 ) -> Result<Option<Verdict<'a>>, AllocError>
+    requires trust { HasTrust grounds.now }
     requires rrsets { hashes.now.rrsets ≡ grounds.now.capture.now.rrsets }
     requires name { hashes.now.name ≡ name.now }
     ensures { IfOk result (λ found. MatchOption found
         (¬ IsSettled (SecuredIn grounds.now.trust) grounds.now.capture.now.rrsets name.now rtype.0)
         (IsSettledAs (SecuredIn grounds.now.trust) grounds.now.capture.now.rrsets name.now rtype.0)) }
 {
-    let view = View::with(alloc, grounds.capture, &grounds.trust, hashes)?;
+    let view = View::with(
+        alloc,
+        grounds.capture,
+        &grounds.trust,
+        &grounds.denials,
+        hashes,
+    )?;
     Ok(settled(grounds.capture, &grounds.trust, name, rtype, &view))
 }
 
@@ -151,11 +160,13 @@ fn hope_for<'a>(
     }
     let hopeful = grounds.table.hopeful(alloc)?;
     let trust = trusted(alloc, grounds.capture, grounds.anchors, &hopeful)?;
+    let denials = DenialRecords::of(alloc, grounds.capture, &trust)?;
     let hoped = Grounds {
         capture: grounds.capture,
         anchors: grounds.anchors,
         table: hopeful,
         trust,
+        denials,
     };
     let Some(verdict) = settled_on(alloc, &hoped, hashes, name, rtype)? else {
         return Ok(None);

@@ -29,7 +29,7 @@ use crate::ways::a_question_leads_one_way;
 use bumpalo::Bump;
 use dnsv_canonical::{Capture, is_question};
 use dnsv_chain::{Anchors, trusted};
-use dnsv_denial::Hashes;
+use dnsv_denial::{DenialRecords, Hashes};
 use dnsv_names::{Count, Name, RecordType};
 use dnsv_verifier::{Table, Verifier, a_table_is_its_verifier, ask_all};
 use std::alloc::Global;
@@ -152,11 +152,13 @@ pub fn judge<'a, V: Verifier>(
     let mut asked = Count::new();
     let table = ask_all(alloc, bump, capture, moment, verifier, &mut asked)?;
     let trust = trusted(alloc, capture, anchors, &table)?;
+    let denials = DenialRecords::of(alloc, capture, &trust)?;
     let grounds = Grounds {
         capture,
         anchors,
         table,
         trust,
+        denials,
     };
     let mut hashed = Count::new();
     let mut trail = Trail::new(alloc, keeps);

@@ -1,4 +1,5 @@
 -- Of the records that are gathered from the evidence.
+pub mod ByZoneLemmas
 pub mod EvidenceLemmas
 pub mod GatherLemmas
 pub mod GatherZoneLemmas

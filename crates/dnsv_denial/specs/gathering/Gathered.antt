@@ -1,5 +1,5 @@
 -- How a view keeps the records of a zone. No public clause cites this module.
-use Rattle.std.specs.Prelude.{◌≡◌, ◌↔◌, ◌⊎◌, ⊤, Contains, IsTrue, ℕ, List, length, map}
+use Rattle.std.specs.Prelude.{◌≡◌, ◌↔◌, ◌⊎◌, ⊤, Contains, IsTrue, ℕ, List, map}
 use Rattle.std.specs.List.{AllByRecursion}
 use Rattle.std.specs.List.Sorted.{IsStrictlySortedBy}
 use Rattle.dnsv_names.specs.Name.{Labels}
@@ -31,6 +31,11 @@ AreNsecs rrsets = AreAll (λ entry. entry.number) read_entry (IsNsecOf rrsets)
 abbrev pub AreNsecsOf : (ℕ → ℕ → Type 0) → List ReceivedRrset → Labels → List NsecEntry → Type 0
 AreNsecsOf Secured rrsets zone = AreAll (λ entry. entry.number) read_entry (IsNsecAt Secured rrsets zone) (λ _. ⊤)
 
+-- those of the RRset with the number
+abbrev pub AreNsecsIn : (ℕ → ℕ → Type 0) → List ReceivedRrset → Labels → ℕ → List NsecEntry → Type 0
+AreNsecsIn Secured rrsets zone k =
+    AreAll (λ entry. entry.number) read_entry (IsNsecAt Secured rrsets zone) (λ n. n.rrset ≡ k)
+
 -- the entries are the usable NSEC3 records of the zone, whose owners spell hashes, that have such numbers
 abbrev pub AreNsec3s : List ReceivedRrset → Labels → (RecordNumber → Type 0) → List Nsec3Entry → Type 0
 AreNsec3s rrsets zone = AreAll (λ entry. entry.number) read_nsec3 (IsNsec3Of rrsets zone)
@@ -38,6 +43,11 @@ AreNsec3s rrsets zone = AreAll (λ entry. entry.number) read_nsec3 (IsNsec3Of rr
 -- the entries are the NSEC3 records of the zone
 abbrev pub AreNsec3sOf : (ℕ → ℕ → Type 0) → List ReceivedRrset → Labels → List Nsec3Entry → Type 0
 AreNsec3sOf Secured rrsets zone = AreAll (λ entry. entry.number) read_nsec3 (IsNsec3At Secured rrsets zone) (λ _. ⊤)
+
+-- those of the RRset with the number
+abbrev pub AreNsec3sIn : (ℕ → ℕ → Type 0) → List ReceivedRrset → Labels → ℕ → List Nsec3Entry → Type 0
+AreNsec3sIn Secured rrsets zone k =
+    AreAll (λ entry. entry.number) read_nsec3 (IsNsec3At Secured rrsets zone) (λ n. n.rrset ≡ k)
 
 -- the RRset is one of NSEC3 records of the zone, whose owner spells the hash, and one of these signatures of it is the
 -- zone's
@@ -60,8 +70,11 @@ pub record IsEntryOf (number : RecordNumber) (hash : List ℕ) (nsec3 : Nsec3) (
 abbrev pub IsDenialType : ℕ → Type 0
 IsDenialType rtype = (rtype ≡ 47) ⊎ (rtype ≡ 50)
 
--- each zone that secured an RRset of NSEC or NSEC3 records has such a number of labels
-abbrev pub HaveLabels : (ℕ → ℕ → Type 0) → List ReceivedRrset → List ℕ → Type 0
-HaveLabels Secured rrsets labels =
-    (zone : Labels) (k : ℕ) (by : IsSecuredBy Secured rrsets zone k) → IsDenialType by.rrset.rtype
-    → Contains labels (length zone)
+-- each RRset of NSEC or NSEC3 records that the zone secured has one of the numbers
+abbrev pub IsListing : (ℕ → ℕ → Type 0) → List ReceivedRrset → Labels → List ℕ → Type 0
+IsListing Secured rrsets zone numbers =
+    (k : ℕ) (by : IsSecuredBy Secured rrsets zone k) → IsDenialType by.rrset.rtype → Contains numbers k
+
+-- so of every zone
+abbrev pub AreListed : (ℕ → ℕ → Type 0) → List ReceivedRrset → (Labels → List ℕ) → Type 0
+AreListed Secured rrsets listed = (zone : Labels) → IsListing Secured rrsets zone (listed zone)

@@ -10,7 +10,7 @@ use Rattle.dnsv_zones.specs.chains.Rdata.{parameters_of}
 use Rattle.dnsv_canonical.specs.Rrsets.{ReceivedRrset}
 use Rattle.dnsv_chain.specs.Trust.{KeptTrust, SecuredIn}
 use Rattle.dnsv_denial.specs.gathering.Evidence.{IsNsec3At}
-use Rattle.dnsv_denial.specs.gathering.Gathered.{AreNsecsOf, AreNsec3sOf}
+use Rattle.dnsv_denial.specs.gathering.ByZone.{AreSecuredRecords}
 use Rattle.dnsv_denial.specs.proving.ChainOf.{IsShownBy, StandsAs}
 use Rattle.dnsv_denial.specs.words.EvidenceWords.{Chain, GoesBefore, parameters_cmp}
 use Rattle.dnsv_denial.specs.declared.forms.denial.Denial.{Denial}
@@ -22,9 +22,8 @@ use Rattle.dnsv_denial.specs.declared.records.zone_records.ZoneRecords.{ZoneReco
 -- ---- what is kept
 
 -- the records are those of the zone among the evidence
-pub record IsZoneOf (Secured : ℕ → ℕ → Type 0) (rrsets : List ReceivedRrset) (kept : ZoneRecords) : Type 0 where
-  pub nsecs : AreNsecsOf Secured rrsets kept.zone kept.nsecs.items
-  pub nsec3s : AreNsec3sOf Secured rrsets kept.zone kept.nsec3s
+abbrev pub IsZoneOf : (ℕ → ℕ → Type 0) → List ReceivedRrset → ZoneRecords → Type 0
+IsZoneOf Secured rrsets kept = AreSecuredRecords Secured rrsets kept.zone kept.records.now
 
 -- the hashes are those of the names that a question of the name asks for
 abbrev pub IsSetOf : Labels → NameHashes → Type 0

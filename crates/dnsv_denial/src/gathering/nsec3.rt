@@ -1,10 +1,12 @@
 //! The NSEC3 records of a zone among the evidence.
 ghost use Rattle.std.specs.Prelude.{◌≡◌, ◌++◌, ℕ, Contains, List, IfOk, MatchOption, OnOk};
+ghost use Rattle.std.specs.List.Sorted.{IsStrictlySortedBy};
+ghost use Rattle.std.specs.Ordering.{nat_cmp};
 ghost use Rattle.dnsv_records.specs.Nsec3.{IsUsable};
 ghost use Rattle.dnsv_canonical.specs.Rrsets.{IsNumbered, ReceivedRrset};
 ghost use Rattle.dnsv_chain.specs.Trust.{SecuredIn};
 ghost use Rattle.dnsv_denial.specs.gathering.Evidence.{IsHashedOwner};
-ghost use Rattle.dnsv_denial.specs.gathering.Gathered.{AreNsec3s, AreNsec3sOf, IsEntryOf, IsNsec3RrsetOf};
+ghost use Rattle.dnsv_denial.specs.gathering.Gathered.{AreNsec3s, AreNsec3sIn, AreNsec3sOf, IsEntryOf, IsListing, IsNsec3RrsetOf};
 
 use crate::gathering::secured::has_zone_signature;
 use crate::records::entry::Nsec3Entry;
@@ -14,24 +16,48 @@ use dnsv_names::{Hash20, Name, RecordType};
 use dnsv_records::{Nsec3, base32hex_read};
 use std::alloc::{AllocError, Global};
 
-/// The usable NSEC3 records of the capture that the zone secured, one label in front of it, in the order of their
-/// numbers (RFC 5155 3, 8.2).
+/// The usable NSEC3 records of the zone that it secured, one label in front of it, in the order of their numbers (RFC
+/// 5155 3, 8.2). They are looked for in the RRsets with these numbers.
 pub fn nsec3s_of<'a>(
     alloc: Global,
     capture: &'a Capture<'a>,
     trust: &Trust<'_>,
     zone: &Name,
+    numbers: &[usize],
 ) -> Result<Vec<Nsec3Entry<'a>>, AllocError>
+    requires rising { IsStrictlySortedBy nat_cmp numbers.now }
+    requires listed { IsListing (SecuredIn trust.now) capture.now.rrsets zone.now numbers.now }
     ensures { IfOk result (λ entries. AreNsec3sOf (SecuredIn trust.now) capture.now.rrsets zone.now entries.items) }
 {
     let mut entries = Vec::new(alloc);
-    for (place, rrset) in capture.rrsets().iter().enumerate() {
-        let number = place + 1;
-        if let Some(hash) = secured_hash(rrset, trust.signed(number), zone) {
-            push_nsec3s(alloc, &mut entries, number, rrset, zone, hash)?;
-        }
+    for number in numbers {
+        add_nsec3s(alloc, &mut entries, capture, trust, zone, *number)?;
     }
     Ok(entries)
+}
+
+/// Adds the usable records of the RRset with the number, if it has NSEC3 records of the zone and the zone secured it.
+fn add_nsec3s<'a>(
+    alloc: Global,
+    entries: &mut Vec<Nsec3Entry<'a>>,
+    capture: &'a Capture<'a>,
+    trust: &Trust<'_>,
+    zone: &Name,
+    number: usize,
+) -> Result<(), AllocError>
+    ensures { OnOk result ((more : List Nsec3Entry) × (entries.new.items ≡ entries.old.items ++ more)
+        × AreNsec3sIn (SecuredIn trust.now) capture.now.rrsets zone.now number more) }
+{
+    let rrsets = capture.rrsets();
+    if number == 0 || number > rrsets.len() {
+        return Ok(());
+    }
+    let rrset = &rrsets[number - 1];
+    let Some(hash) = secured_hash(rrset, trust.signed(number), zone) else {
+        return Ok(());
+    };
+    push_nsec3s(alloc, entries, number, rrset, zone, hash)?;
+    Ok(())
 }
 
 /// The hash that the owner of an NSEC3 RRset of the zone spells; `None` where the RRset is another, or the zone

@@ -1,37 +1,36 @@
-//! Which zones secured NSEC and NSEC3 records, by how many labels they have.
-ghost use Rattle.std.specs.Prelude.{◌≡◌, ◌↔◌, ℕ, Contains, IfOk, IsTrue, OnOk, length};
+//! Which RRsets of NSEC and NSEC3 records the zones signed, by their numbers.
+ghost use Rattle.std.specs.Prelude.{◌≡◌, ◌↔◌, ℕ, Contains, IfOk, IsTrue, OnOk};
 ghost use Rattle.dnsv_names.specs.Name.{Labels};
+ghost use Rattle.dnsv_chain.specs.ByOwner.{values_at};
 ghost use Rattle.dnsv_chain.specs.Trust.{SecuredIn};
 ghost use Rattle.dnsv_denial.specs.gathering.Evidence.{HasZoneSignature};
-ghost use Rattle.dnsv_denial.specs.gathering.Gathered.{HaveLabels, IsDenialType};
+ghost use Rattle.dnsv_denial.specs.gathering.Gathered.{AreListed, IsDenialType};
 
 use dnsv_canonical::{Capture, Rrset};
-use dnsv_chain::Trust;
-use dnsv_names::{Name, RecordType};
+use dnsv_chain::{ByOwner, Trust, add_at};
+use dnsv_names::RecordType;
 use std::alloc::{AllocError, Global};
+use std::collections::BTreeMap;
 
-/// How many labels the zones have that secured NSEC or NSEC3 records of the capture, each number once.
-pub fn labels_of_signers(
+/// Numbers of RRsets by zone. One may be there several times.
+pub type NumbersByZone<'c> = ByOwner<'c, usize>;
+
+/// For each zone the numbers of the RRsets of NSEC or NSEC3 records that it secured, and maybe of others that it signed.
+pub fn numbers_by_zone<'c>(
     alloc: Global,
-    capture: &Capture<'_>,
+    capture: &'c Capture<'c>,
     trust: &Trust<'_>,
-) -> Result<Vec<usize>, AllocError>
-    ensures { IfOk result (λ labels. HaveLabels (SecuredIn trust.now) capture.now.rrsets labels.items) }
+) -> Result<NumbersByZone<'c>, AllocError>
+    ensures { IfOk result (λ numbers. AreListed (SecuredIn trust.now) capture.now.rrsets (values_at numbers)) }
 {
-    let mut labels = Vec::new(alloc);
+    let mut numbers = BTreeMap::new(alloc);
     for (place, rrset) in capture.rrsets().iter().enumerate() {
+        let number = place + 1;
         if is_denial_type(rrset.rtype()) {
-            add_signers(&mut labels, rrset, trust.signed(place + 1))?;
+            add_signers(alloc, &mut numbers, rrset, trust.signed(number), number)?;
         }
     }
-    Ok(labels)
-}
-
-/// Whether one of these numbers of labels is the zone's.
-pub fn may_sign(labels: &[usize], zone: &Name) -> bool
-    ensures { IsTrue result ↔ Contains labels.now (length zone.now) }
-{
-    labels.contains(&zone.labels())
+    Ok(numbers)
 }
 
 /// Whether records of the type may deny a name or a type.
@@ -41,43 +40,42 @@ fn is_denial_type(rtype: RecordType) -> bool
     rtype == RecordType::NSEC || rtype == RecordType::NSEC3
 }
 
-/// Adds the numbers of labels of those who made the RRset's signatures with these numbers.
-fn add_signers(
-    labels: &mut Vec<usize>,
-    rrset: &Rrset<'_>,
+/// Adds the RRset's number to those of the zones that made its signatures with these numbers.
+fn add_signers<'c>(
+    alloc: Global,
+    numbers: &mut NumbersByZone<'c>,
+    rrset: &'c Rrset<'c>,
     secured: &[usize],
+    number: usize,
 ) -> Result<(), AllocError>
-    ensures kept { OnOk result ((n : ℕ) → Contains labels.old.items n → Contains labels.new.items n) }
+    ensures kept { OnOk result ((zone : Labels) (k : ℕ) → Contains (values_at numbers.old zone) k
+        → Contains (values_at numbers.new zone) k) }
     ensures added { OnOk result ((zone : Labels) → HasZoneSignature (λ s. Contains secured.now s) rrset.now zone
-        → Contains labels.new.items (length zone)) }
+        → Contains (values_at numbers.new zone) number) }
 {
-    for number in secured {
-        add_signer(labels, rrset, *number)?;
+    for signature in secured {
+        add_signer(alloc, numbers, rrset, *signature, number)?;
     }
     Ok(())
 }
 
-/// Adds the number of labels of who made the RRset's signature with the number.
-fn add_signer(labels: &mut Vec<usize>, rrset: &Rrset<'_>, number: usize) -> Result<(), AllocError>
-    ensures kept { OnOk result ((n : ℕ) → Contains labels.old.items n → Contains labels.new.items n) }
-    ensures added { OnOk result ((zone : Labels) → HasZoneSignature (λ s. s ≡ number) rrset.now zone
-        → Contains labels.new.items (length zone)) }
+/// Adds the RRset's number to those of the zone that made its signature with the number.
+fn add_signer<'c>(
+    alloc: Global,
+    numbers: &mut NumbersByZone<'c>,
+    rrset: &'c Rrset<'c>,
+    signature: usize,
+    number: usize,
+) -> Result<(), AllocError>
+    ensures kept { OnOk result ((zone : Labels) (k : ℕ) → Contains (values_at numbers.old zone) k
+        → Contains (values_at numbers.new zone) k) }
+    ensures added { OnOk result ((zone : Labels) → HasZoneSignature (λ s. s ≡ signature) rrset.now zone
+        → Contains (values_at numbers.new zone) number) }
 {
     let rrsigs = rrset.signatures();
-    if number == 0 || number > rrsigs.len() {
+    if signature == 0 || signature > rrsigs.len() {
         return Ok(());
     }
-    Ok(add_number(labels, rrsigs[number - 1].signer.labels())?)
-}
-
-/// Adds the number, if it isn't there.
-fn add_number(numbers: &mut Vec<usize>, number: usize) -> Result<(), AllocError>
-    ensures kept { OnOk result ((n : ℕ) → Contains numbers.old.items n → Contains numbers.new.items n) }
-    ensures added { OnOk result (Contains numbers.new.items number) }
-{
-    if numbers.contains(&number) {
-        return Ok(());
-    }
-    numbers.push(number)?;
+    add_at(alloc, numbers, &rrsigs[signature - 1].signer, number)?;
     Ok(())
 }

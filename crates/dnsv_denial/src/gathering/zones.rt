@@ -1,24 +1,20 @@
 //! The records of the zones at or above a name, and the hashes that a question of it asks for.
-ghost use Rattle.std.specs.Prelude.{◌≡◌, ◌↔◌, IfOk, Contains, map};
+ghost use Rattle.std.specs.Prelude.{◌≡◌, ◌↔◌, IfOk, Contains, List, map};
 ghost use Rattle.std.specs.List.{AllByRecursion};
 ghost use Rattle.std.specs.List.Sorted.{IsStrictlySortedBy};
 ghost use Rattle.dnsv_names.specs.Count.{counted};
 ghost use Rattle.dnsv_records.specs.declared.nsec3.Nsec3Parameters.{Nsec3Parameters};
 ghost use Rattle.dnsv_zones.specs.chains.HashedNames.{hashes_for};
 ghost use Rattle.dnsv_zones.specs.chains.Rdata.{parameters_of};
-ghost use Rattle.dnsv_chain.specs.Trust.{SecuredIn};
-ghost use Rattle.dnsv_denial.specs.gathering.Gathered.{HaveLabels};
-ghost use Rattle.dnsv_denial.specs.gathering.Kept.{AreZones, IsSetOf, IsZoneOf};
+ghost use Rattle.dnsv_canonical.specs.Rrsets.{ReceivedRrset};
+ghost use Rattle.dnsv_chain.specs.Trust.{KeptTrust, SecuredIn};
+ghost use Rattle.dnsv_denial.specs.gathering.ByZone.{AreDenialRecords};
+ghost use Rattle.dnsv_denial.specs.gathering.Kept.{AreZones, IsSetOf};
 ghost use Rattle.dnsv_denial.specs.words.EvidenceWords.{parameters_cmp};
 
-use crate::gathering::nsec::nsecs_of;
-use crate::gathering::nsec3::nsec3s_of;
+use crate::gathering::denial_records::DenialRecords;
 use crate::gathering::parameters::parameters_in_order;
-use crate::gathering::signers::{labels_of_signers, may_sign};
-use crate::records::nsec3_entries::Nsec3Entries;
 use crate::records::zone_records::{NameHashes, ZoneRecords};
-use dnsv_canonical::Capture;
-use dnsv_chain::Trust;
 use dnsv_names::{Count, Name};
 use dnsv_records::Nsec3Parameters;
 use dnsv_zones::hash_names;
@@ -27,49 +23,19 @@ use std::alloc::{AllocError, Global};
 /// The records of each zone at or above the name, from the root on.
 pub fn zones_of<'a>(
     alloc: Global,
-    capture: &'a Capture<'a>,
-    trust: &Trust<'_>,
+    denials: &'a DenialRecords<'a>,
     name: &Name,
 ) -> Result<Vec<ZoneRecords<'a>>, AllocError>
-    ensures { IfOk result (λ zones. AreZones (SecuredIn trust.now) capture.now.rrsets name.now zones.items) }
+    ensures { IfOk result (λ zones. (trust : KeptTrust) (rrsets : List ReceivedRrset)
+        → AreDenialRecords (SecuredIn trust) rrsets denials.now → AreZones (SecuredIn trust) rrsets name.now zones.items) }
 {
-    let signers = labels_of_signers(alloc, capture, trust)?;
     let mut zones = Vec::new(alloc);
     for labels in 0..name.labels() + 1 {
         let zone = name.suffix(labels);
-        let records = zone_records(alloc, capture, trust, &signers, zone)?;
-        zones.push(records)?;
+        let records = denials.of_zone(&zone);
+        zones.push(ZoneRecords { zone, records })?;
     }
     Ok(zones)
-}
-
-/// The records of the zone. They are looked for only where it has as many labels as one of the signers.
-fn zone_records<'a>(
-    alloc: Global,
-    capture: &'a Capture<'a>,
-    trust: &Trust<'_>,
-    signers: &[usize],
-    zone: Name,
-) -> Result<ZoneRecords<'a>, AllocError>
-    requires { HaveLabels (SecuredIn trust.now) capture.now.rrsets signers.now }
-    ensures zone { IfOk result (λ kept. kept.zone ≡ zone) }
-    ensures records { IfOk result (λ kept. IsZoneOf (SecuredIn trust.now) capture.now.rrsets kept) }
-{
-    if may_sign(signers, &zone) {
-        let nsecs = nsecs_of(alloc, capture, trust, &zone)?;
-        let records = nsec3s_of(alloc, capture, trust, &zone)?;
-        let nsec3s = Nsec3Entries::new(alloc, records)?;
-        return Ok(ZoneRecords {
-            zone,
-            nsecs,
-            nsec3s,
-        });
-    }
-    Ok(ZoneRecords {
-        zone,
-        nsecs: Vec::new(alloc),
-        nsec3s: Nsec3Entries::new(alloc, Vec::new(alloc))?,
-    })
 }
 
 /// The hashes of the names that a question of the name asks for, for each of the parameters in their order, each once.

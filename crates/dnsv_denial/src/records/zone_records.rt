@@ -24,15 +24,22 @@ pub struct NameHashes<'a> {
     pub hashed: HashedNames,
 }
 
+/// The NSEC and NSEC3 records that a zone secured.
+#[derive(Drop)]
+pub struct SecuredRecords<'a> {
+    /// Its NSEC records, in the order of their numbers.
+    pub nsecs: Vec<NsecEntry<'a>>,
+    /// Its NSEC3 records that can be used, whatever their parameters.
+    pub nsec3s: Nsec3Entries<'a>,
+}
+
 /// The records of a zone that evidence has.
 #[derive(Drop)]
 pub struct ZoneRecords<'a> {
     /// The zone's name, as the question's name spells it.
     pub zone: Name,
-    /// Its NSEC records, in the order of their numbers.
-    pub nsecs: Vec<NsecEntry<'a>>,
-    /// Its NSEC3 records, whatever their parameters.
-    pub nsec3s: Nsec3Entries<'a>,
+    /// Its records, where they are kept.
+    pub records: &'a SecuredRecords<'a>,
 }
 
 /// The records of the zone's chain with this number, in the order in which chains are asked: NSEC is 0, and NSEC3 with
@@ -50,7 +57,7 @@ pub fn zone_chain<'a>(
         → IsKeptOf (SecuredIn trust) rrsets zone.now.zone (chain_at sets.now number) result }
 {
     if number == 0 {
-        return KeptChain::Nsec(&zone.nsecs);
+        return KeptChain::Nsec(&zone.records.nsecs);
     }
     KeptChain::Nsec3(nsec3_records(name, zone, &sets[number - 1]))
 }
@@ -62,13 +69,13 @@ fn nsec3_records<'a>(
     set: &'a NameHashes<'a>,
 ) -> HashedRecords<'a>
     requires { IsSetOf name.now set.now }
-    ensures entries { result.entries.now ≡ zone.now.nsec3s }
+    ensures entries { result.entries.now ≡ zone.now.records.now.nsec3s }
     ensures parameters { result.parameters.now ≡ set.now.parameters.now }
     ensures name { result.name.now ≡ name.now }
     ensures hashes { HasHashesOf result }
 {
     HashedRecords {
-        entries: &zone.nsec3s,
+        entries: &zone.records.nsec3s,
         name,
         parameters: set.parameters,
         above: &set.hashed.above,

@@ -23,7 +23,8 @@ pub struct At<'s, 'a> {
 impl<'s, 'a> At<'s, 'a> {
     /// What the evidence of the grounds says of the name, by their trust.
     pub fn view(&self, alloc: Global) -> Result<View<'a, 's>, AllocError>
-        requires { self.now.hashes.now ≡ hashed_in self.now.grounds.now.capture.now.rrsets self.now.name.now }
+        requires trust { HasTrust self.now.grounds.now }
+        requires hashes { self.now.hashes.now ≡ hashed_in self.now.grounds.now.capture.now.rrsets self.now.name.now }
         ensures { IfOk result (λ view. view ≡ record {
           rrsets = self.now.grounds.now.capture.now.rrsets;
           trust = self.now.grounds.now.trust;
@@ -31,7 +32,13 @@ impl<'s, 'a> At<'s, 'a> {
         }) }
     {
         let grounds = self.grounds;
-        Ok(View::with(alloc, grounds.capture, &grounds.trust, self.hashes)?)
+        Ok(View::with(
+            alloc,
+            grounds.capture,
+            &grounds.trust,
+            &grounds.denials,
+            self.hashes,
+        )?)
     }
 }
 

@@ -23,7 +23,7 @@ use crate::evidence::Evidence;
 use crate::explanation::at::At;
 use crate::faults::sources::chain::SourceZone;
 use crate::faults::sources::chains::{add_nsec3s, add_nsecs};
-use dnsv_denial::{OrderedParameters, nsec3s_of, nsecs_of, parameters_in_order};
+use dnsv_denial::{OrderedParameters, parameters_in_order};
 use dnsv_lines::Line;
 use dnsv_names::RecordType;
 use std::alloc::{AllocError, Global};
@@ -105,10 +105,9 @@ fn add_zone(
         name: &name,
         speaks: labels == speaker,
     };
-    let (capture, trust) = (evidence.capture(), &at.grounds.trust);
-    let nsecs = nsecs_of(alloc, capture, trust, &name)?;
-    add_nsecs(alloc, at, lines, rtype, &zone, &nsecs)?;
-    let nsec3s = nsec3s_of(alloc, capture, trust, &name)?;
-    add_nsec3s(alloc, at, lines, rtype, &zone, &nsec3s, parameters)?;
+    let records = at.grounds.denials.of_zone(&name);
+    add_nsecs(alloc, at, lines, rtype, &zone, &records.nsecs)?;
+    let nsec3s = records.nsec3s.as_slice();
+    add_nsec3s(alloc, at, lines, rtype, &zone, nsec3s, parameters)?;
     Ok(())
 }

@@ -1,8 +1,16 @@
--- Records of a kind, gathered by place in an RRset and then by RRset.
-use Rattle.std.proofs.Common.{◌≡◌, ℕ, ◌+◌, ◌<◌, ◌≤◌, List, [], ◌∷◌, ◌++◌, refl, sym, ap, ◌∙◌, subst, inl, inr, ⊎_elim, arith, append-nil, append_assoc}
+-- Records of a kind, gathered by place in an RRset and then by the numbers of RRsets.
+use Rattle.std.proofs.Common.{◌≡◌, ℕ, ◌+◌, ◌-◌, ◌<◌, ◌≤◌, ◌⊎◌, List, [], ◌∷◌, ◌++◌, length, get_or, take, refl, sym, ap, ◌∙◌, subst, inl, inr, ⊎_elim, arith, append-nil, append_assoc}
 use Rattle.std.proofs.lemmas.Bool.{cases_lt}
-use Rattle.std.specs.Prelude.{⊤}
+use Rattle.std.proofs.lemmas.Cmp.{ranked}
+use Rattle.std.proofs.lemmas.List.{get_or-take, get_or_default, length-take-le, take_all, take_more}
+use Rattle.std.proofs.lemmas.List.Elements.{Contains-append_left, Contains-append_right, Contains-push_cases}
+use Rattle.std.proofs.lemmas.Map.Keys.{Less-from_sorted}
+use Rattle.std.proofs.lemmas.Option.{slice_get_within}
+use Rattle.std.specs.List.Sorted.{IsStrictlySortedBy}
+use Rattle.std.specs.Ordering.{nat_cmp}
+use Rattle.std.specs.Prelude.{⊤, Contains}
 use Rattle.std.specs.declared.cmp.Ordering.TheVariants.{Less}
+use Rattle.dnsv_canonical.specs.Rrsets.{IsNumbered}
 use Rattle.dnsv_denial.specs.gathering.Gathered.{AreAll}
 use Rattle.dnsv_denial.specs.words.EvidenceWords.{number_cmp}
 use Rattle.dnsv_canonical.specs.declared.number.RecordNumber.{RecordNumber}
@@ -17,6 +25,23 @@ number_is n k place rrset at = λ i. record { rrset = rrset i; place = at i }
 before_last : (k place : ℕ) (x : RecordNumber) → UpTo k place x → number_cmp x (record { rrset = k; place = place + 1 }) ≡ Less
 before_last k place x within =
     subst (λ z. number_cmp z (record { rrset = k; place = place + 1 }) ≡ Less) (sym (number_is x k x.place within.0 refl)) (same_rrset_less k x.place (place + 1) (omega (arith, within.1)))
+
+-- nothing has a number beyond the last, or 0
+pub unnumbered_there : {X : Type 0} (xs : List X) (k : ℕ) → (k ≡ 0) ⊎ ((k ≡ 0 → ⊥) × length xs < k) → (x : X) → IsNumbered xs k x → ⊥
+unnumbered_there xs k beyond x is =
+    let from_one = is.0 in
+    let within = slice_get_within xs (k - 1) x is.1 in
+    ⊎_elim (λ (zero_is : k ≡ 0). omega (arith, zero_is, from_one)) (λ (past : (k ≡ 0 → ⊥) × length xs < k). omega (arith, past.1, within, from_one)) beyond
+
+-- what is listed before is less
+before_next : (numbers : List ℕ) (i : ℕ) → IsStrictlySortedBy nat_cmp numbers → i < length numbers → (k : ℕ) → Contains (take i numbers) k → k < get_or numbers i 0
+before_next numbers i rising within k (j, early, at) =
+    let count = length-take-le i numbers (omega (arith, within)) in
+    let sooner : j < i = omega (arith, early, count) in
+    let here : get_or (take i numbers) j k ≡ get_or numbers j k = get_or-take i numbers j k sooner in
+    let less : nat_cmp (get_or numbers j 0) (get_or numbers i 0) ≡ Less = Less-from_sorted nat_cmp numbers j i 0 rising sooner within in
+    let same : get_or numbers j 0 ≡ k = get_or_default numbers j 0 k (omega (arith, sooner, within)) ∙ sym here ∙ at in
+    subst (λ n. n < get_or numbers i 0) same (ranked (get_or numbers j 0) (get_or numbers i 0) Less (sym less))
 
 module _ {E X : Type 0} (number : E → RecordNumber) (value : E → X) (Is : RecordNumber → X → Type 0) where
   pub record Grown (Within : RecordNumber → Type 0) (before now : List E) : Type 0 where
@@ -69,27 +94,39 @@ module _ {E X : Type 0} (number : E → RecordNumber) (value : E → X) (Is : Re
 
   -- ---- RRset by RRset
 
-  pub none_yet : ((n : RecordNumber) (x : X) → Is n x → 1 ≤ n.rrset) → AreAll number value Is (λ n. n.rrset ≤ 0) []
-  none_yet from_one = all_none number value Is (λ n. n.rrset ≤ 0) (λ n x within is. omega (arith, from_one n x is, within))
+  -- those of one RRset
+  pub none_in : (k : ℕ) (before : List E) → ((n : RecordNumber) (x : X) → n.rrset ≡ k → Is n x → ⊥) → Grown (λ n. n.rrset ≡ k) before before
+  none_in k before none = record {
+    more = [];
+    grown = sym (append-nil before);
+    are = all_none number value Is (λ n. n.rrset ≡ k) none;
+  }
 
-  pub none_here : (place : ℕ) (entries : List E) → ((n : RecordNumber) (x : X) → n.rrset ≡ place + 1 → Is n x → ⊥)
-      → AreAll number value Is (λ n. n.rrset ≤ place) entries → AreAll number value Is (λ n. n.rrset ≤ place + 1) entries
-  none_here place entries none so_far = all_said number value Is Is (λ n. n.rrset ≤ place) (λ n. n.rrset ≤ place + 1) entries
-      (λ n x within is. (omega (arith, within), is))
-      (λ n x within is. ⊎_elim (λ (below : n.rrset < place + 1). (omega (arith, below), is)) (λ (above : place + 1 ≤ n.rrset). absurd (none n x (omega (arith, above, within)) is)) (cases_lt n.rrset (place + 1)))
-      so_far
+  pub some_in : (Plain : RecordNumber → X → Type 0) (k : ℕ) (more : List E) → ((n : RecordNumber) (x : X) → n.rrset ≡ k → Plain n x → Is n x) → ((n : RecordNumber) (x : X) → Is n x → Plain n x)
+      → AreAll number value Plain (λ n. n.rrset ≡ k) more → AreAll number value Is (λ n. n.rrset ≡ k) more
+  some_in Plain k more to from are = all_said number value Plain Is (λ n. n.rrset ≡ k) (λ n. n.rrset ≡ k) more (λ n x same is. (same, to n x same is)) (λ n x same is. (same, from n x is)) are
 
-  pub some_here : (Plain : RecordNumber → X → Type 0) (place : ℕ) (entries more next : List E) → ((n : RecordNumber) (x : X) → n.rrset ≡ place + 1 → Plain n x → Is n x) → ((n : RecordNumber) (x : X) → Is n x → Plain n x)
-      → AreAll number value Plain (λ n. n.rrset ≡ place + 1) more → next ≡ entries ++ more → AreAll number value Is (λ n. n.rrset ≤ place) entries → AreAll number value Is (λ n. n.rrset ≤ place + 1) next
-  some_here Plain place entries more next to from are grown so_far = subst (AreAll number value Is (λ n. n.rrset ≤ place + 1)) (sym grown)
-      (all_joined number value Is (λ n. n.rrset ≤ place) (λ n. n.rrset ≡ place + 1) (λ n. n.rrset ≤ place + 1) entries more
-      (λ a b first second. earlier_rrset_less a b (omega (arith, first, second)))
-      (λ n within. omega (arith, within)) (λ n same. omega (arith, same))
-      (λ n x within is. ⊎_elim (λ (below : n.rrset < place + 1). inl (omega (arith, below))) (λ (above : place + 1 ≤ n.rrset). inr (omega (arith, above, within))) (cases_lt n.rrset (place + 1)))
-      so_far
-      (all_said number value Plain Is (λ n. n.rrset ≡ place + 1) (λ n. n.rrset ≡ place + 1) more (λ n x same is. (same, to n x same is)) (λ n x same is. (same, from n x is)) are))
+  -- those of the RRsets with the first of the numbers
+  abbrev pub AreListedBefore : List ℕ → ℕ → List E → Type 0
+  AreListedBefore numbers i entries = AreAll number value Is (λ n. Contains (take i numbers) n.rrset) entries
 
-  pub all_of_them : (place : ℕ) (entries : List E) → ((n : RecordNumber) (x : X) → Is n x → n.rrset ≤ place)
-      → AreAll number value Is (λ n. n.rrset ≤ place) entries → AreAll number value Is (λ n. ⊤) entries
-  all_of_them place entries within so_far = all_said number value Is Is (λ n. n.rrset ≤ place) (λ n. ⊤) entries
-      (λ n x upto is. (tt, is)) (λ n x any is. (within n x is, is)) so_far
+  pub none_listed : (numbers : List ℕ) → AreListedBefore numbers 0 []
+  none_listed numbers = all_none number value Is (λ n. Contains (take 0 numbers) n.rrset) (λ n x within is. omega (arith, within.1))
+
+  pub listed_next : (numbers : List ℕ) (i k : ℕ) (entries more next : List E) → IsStrictlySortedBy nat_cmp numbers → i < length numbers → k ≡ get_or numbers i 0
+      → AreAll number value Is (λ n. n.rrset ≡ k) more → next ≡ entries ++ more → AreListedBefore numbers i entries → AreListedBefore numbers (i + 1) next
+  listed_next numbers i k entries more next rising within is are grown so_far =
+      let front : take (i + 1) numbers ≡ take i numbers ++ k ∷ [] = take_more numbers i 0 within ∙ ap (λ m. take i numbers ++ m ∷ []) (sym is) in
+      subst (AreListedBefore numbers (i + 1)) (sym grown)
+      (all_joined number value Is (λ n. Contains (take i numbers) n.rrset) (λ n. n.rrset ≡ k) (λ n. Contains (take (i + 1) numbers) n.rrset) entries more
+      (λ a b first second. earlier_rrset_less a b (subst (λ m. a.rrset < m) (sym (second ∙ is)) (before_next numbers i rising within a.rrset first)))
+      (λ n listed. subst (λ xs. Contains xs n.rrset) (sym front) (Contains-append_left (take i numbers) (k ∷ []) n.rrset listed))
+      (λ n same. subst (λ xs. Contains xs n.rrset) (sym front) (Contains-append_right (take i numbers) (k ∷ []) n.rrset (0, omega arith, sym same)))
+      (λ n x listed its. ⊎_elim (λ (sooner : Contains (take i numbers) n.rrset). inl sooner) (λ (here : k ≡ n.rrset). inr (sym here))
+      (Contains-push_cases (take i numbers) k n.rrset (subst (λ xs. Contains xs n.rrset) front listed)))
+      so_far are)
+
+  pub all_listed : (numbers : List ℕ) (i : ℕ) (entries : List E) → ((n : RecordNumber) (x : X) → Is n x → Contains numbers n.rrset) → length numbers ≤ i
+      → AreListedBefore numbers i entries → AreAll number value Is (λ n. ⊤) entries
+  all_listed numbers i entries all past so_far = all_said number value Is Is (λ n. Contains (take i numbers) n.rrset) (λ n. ⊤) entries
+      (λ n x listed is. (tt, is)) (λ n x any is. (subst (λ xs. Contains xs n.rrset) (sym (take_all i numbers past)) (all n x is), is)) so_far

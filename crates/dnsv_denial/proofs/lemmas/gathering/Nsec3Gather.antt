@@ -1,8 +1,7 @@
 -- The NSEC3 records of a zone, gathered.
 use Rattle.std.specs.FinSet as set
-use Rattle.std.proofs.Common.{◌≡◌, ℕ, zero, suc, ◌++◌, ◌+◌, ◌-◌, ◌≤◌, List, [], ◌∷◌, length, map, refl, sym, ap, ◌∙◌, subst, arith, Bool, true, false}
-use Rattle.std.specs.Prelude.{Some, slice_get, IsTrue}
-use Rattle.std.proofs.lemmas.Option.{slice_get_within}
+use Rattle.std.proofs.Common.{◌≡◌, ℕ, zero, suc, ◌++◌, ◌+◌, ◌≤◌, List, [], ◌∷◌, length, map, refl, sym, ap, ◌∙◌, subst, inr, arith, Bool, true, false}
+use Rattle.std.specs.Prelude.{Contains, Some, slice_get, IsTrue}
 use Rattle.dnsv_names.specs.Name.{Labels}
 use Rattle.dnsv_records.specs.Base32Hex.{Spells}
 use Rattle.dnsv_records.specs.Nsec3.{IsNsec3, IsUsable}
@@ -15,12 +14,12 @@ use Rattle.dnsv_canonical.specs.Canonical.{IsCanonical}
 use Rattle.dnsv_canonical.specs.CanonicalRdata.{canonical_form}
 use Rattle.dnsv_canonical.specs.Rrsets.{IsNumbered, ReceivedRrset}
 use Rattle.dnsv_denial.specs.gathering.Evidence.{HasZoneSignature, IsHashedOwner, IsNsec3At, IsNsec3Of, IsRecordAt, IsSecuredBy}
-use Rattle.dnsv_denial.specs.gathering.Gathered.{AreAll, AreNsec3s, AreNsec3sOf, IsEntryOf, IsNsec3RrsetOf}
+use Rattle.dnsv_denial.specs.gathering.Gathered.{AreNsec3s, AreNsec3sIn, IsEntryOf, IsListing, IsNsec3RrsetOf}
 use Rattle.dnsv_denial.specs.records.Record.{flags_of, read_nsec3}
 use Rattle.dnsv_denial.specs.declared.records.entry.Nsec3Entry.{Nsec3Entry}
 use Rattle.dnsv_canonical.specs.declared.number.RecordNumber.{RecordNumber}
 use Rattle.dnsv_denial.proofs.lemmas.gathering.EvidenceLemmas.{one_numbered, one_record, nsec3_forms}
-use Rattle.dnsv_denial.proofs.lemmas.gathering.Gathering.{UpTo, Grown, grown_none, grown_one, grown_not, grown_all, none_yet, none_here, some_here, all_of_them}
+use Rattle.dnsv_denial.proofs.lemmas.gathering.Gathering.{UpTo, Grown, grown_none, grown_one, grown_not, grown_all, none_in, some_in}
 use Rattle.dnsv_denial.proofs.lemmas.gathering.NsecGather.{record_at, place_within}
 
 one_owner : (zone owner : Labels) (a b : List ℕ) → IsHashedOwner zone owner a → IsHashedOwner zone owner b → a ≡ b
@@ -91,34 +90,37 @@ module _ (rrsets : List ReceivedRrset) (zone : Labels) (k : ℕ) (rrset : Receiv
   nsec3s_end place before now past so_far = grown_all (λ each. each.number) read_nsec3 (IsNsec3Of rrsets zone) k place before now
       (λ n x same its. let bound = place_within rrsets k rrset its.rrset canonical its.rdata n numbered (forms_of rrset canonical rtype is) same its.at in omega (arith, bound, past)) so_far
 
--- ---- RRset by RRset
+-- ---- those of a zone in an RRset
 
-module _ (Secured : ℕ → ℕ → Type 0) (rrsets : List ReceivedRrset) (zone : Labels) where
-  abbrev pub GatheredNsec3s : ℕ → List Nsec3Entry → Type 0
-  GatheredNsec3s place entries = AreAll (λ entry. entry.number) read_nsec3 (IsNsec3At Secured rrsets zone) (λ n. n.rrset ≤ place) entries
+module _ (Secured : ℕ → ℕ → Type 0) (rrsets : List ReceivedRrset) (zone : Labels) (k : ℕ) where
+  abbrev pub Grown3OfZone : List Nsec3Entry → List Nsec3Entry → Type 0
+  Grown3OfZone before now = Grown (λ entry. entry.number) read_nsec3 (IsNsec3At Secured rrsets zone) (λ n. n.rrset ≡ k) before now
 
-  pub gather3_begins : GatheredNsec3s 0 []
-  gather3_begins = none_yet (λ entry. entry.number) read_nsec3 (IsNsec3At Secured rrsets zone) (λ n x is. is.is.at.is_rrset.0)
+  pub no_rrset3 : (before : List Nsec3Entry) → ((rrset : ReceivedRrset) → IsNumbered rrsets k rrset → ⊥) → Grown3OfZone before before
+  no_rrset3 before none = none_in (λ entry. entry.number) read_nsec3 (IsNsec3At Secured rrsets zone) k before
+      (λ n x same is. none is.is.rrset (subst (λ m. IsNumbered rrsets m is.is.rrset) same is.is.at.is_rrset))
 
-  pub gather3_passes : (place : ℕ) (rrset : ReceivedRrset) (entries : List Nsec3Entry) → IsNumbered rrsets (place + 1) rrset
-      → ((hash : List ℕ) → ¬ IsNsec3RrsetOf (Secured (place + 1)) rrset zone hash) → GatheredNsec3s place entries → GatheredNsec3s (place + 1) entries
-  gather3_passes place rrset entries numbered none so_far = none_here (λ entry. entry.number) read_nsec3 (IsNsec3At Secured rrsets zone) place entries
+  pub not_such : (rrset : ReceivedRrset) (before : List Nsec3Entry) → IsNumbered rrsets k rrset
+      → ((hash : List ℕ) → ¬ IsNsec3RrsetOf (Secured k) rrset zone hash) → Grown3OfZone before before
+  not_such rrset before numbered none = none_in (λ entry. entry.number) read_nsec3 (IsNsec3At Secured rrsets zone) k before
       (λ n x same is. let moved = subst (IsSecuredBy Secured rrsets zone) same is.secured in
-      let one : is.is.rrset ≡ rrset = one_numbered rrsets (place + 1) is.is.rrset rrset (subst (λ m. IsNumbered rrsets m is.is.rrset) same is.is.at.is_rrset) numbered in
-      let its : moved.rrset ≡ rrset = one_numbered rrsets (place + 1) moved.rrset rrset moved.is_rrset numbered in
+      let one : is.is.rrset ≡ rrset = one_numbered rrsets k is.is.rrset rrset (subst (λ m. IsNumbered rrsets m is.is.rrset) same is.is.at.is_rrset) numbered in
+      let its : moved.rrset ≡ rrset = one_numbered rrsets k moved.rrset rrset moved.is_rrset numbered in
       none x.hash (record {
         rtype = ap (λ (r : ReceivedRrset). r.rtype) (sym one) ∙ is.is.rtype;
         owner = subst (λ (r : ReceivedRrset). IsHashedOwner zone r.owner x.hash) one is.is.owner;
-        signed = subst (λ r. HasZoneSignature (Secured (place + 1)) r zone) its moved.signed;
-      })) so_far
+        signed = subst (λ r. HasZoneSignature (Secured k) r zone) its moved.signed;
+      }))
 
-  pub gather3_adds : (place : ℕ) (rrset : ReceivedRrset) (entries more next : List Nsec3Entry) → IsNumbered rrsets (place + 1) rrset → HasZoneSignature (Secured (place + 1)) rrset zone
-      → AreNsec3s rrsets zone (λ n. n.rrset ≡ place + 1) more → next ≡ entries ++ more → GatheredNsec3s place entries → GatheredNsec3s (place + 1) next
-  gather3_adds place rrset entries more next numbered signed are grown so_far =
-      some_here (λ entry. entry.number) read_nsec3 (IsNsec3At Secured rrsets zone) (IsNsec3Of rrsets zone) place entries more next
+  pub signed_nsec3s : (rrset : ReceivedRrset) (more : List Nsec3Entry) → IsNumbered rrsets k rrset → HasZoneSignature (Secured k) rrset zone
+      → AreNsec3s rrsets zone (λ n. n.rrset ≡ k) more → AreNsec3sIn Secured rrsets zone k more
+  signed_nsec3s rrset more numbered signed are = some_in (λ entry. entry.number) read_nsec3 (IsNsec3At Secured rrsets zone) (IsNsec3Of rrsets zone) k more
       (λ n x same is. record { is = is; secured = subst (IsSecuredBy Secured rrsets zone) (sym same) (record { rrset = rrset; is_rrset = numbered; signed = signed }) })
-      (λ n x is. is.is) are grown so_far
+      (λ n x is. is.is) are
 
-  pub gather3_ends : (place : ℕ) (entries : List Nsec3Entry) → length rrsets ≤ place → GatheredNsec3s place entries → AreNsec3sOf Secured rrsets zone entries
-  gather3_ends place entries past so_far = all_of_them (λ entry. entry.number) read_nsec3 (IsNsec3At Secured rrsets zone) place entries
-      (λ n x is. let there = slice_get_within rrsets (n.rrset - 1) is.is.rrset is.is.at.is_rrset.1 in let from_one = is.is.at.is_rrset.0 in omega (arith, there, from_one, past)) so_far
+-- each is listed
+pub nsec3_listed : (Secured : ℕ → ℕ → Type 0) (rrsets : List ReceivedRrset) (zone : Labels) (numbers : List ℕ) → IsListing Secured rrsets zone numbers
+    → (n : RecordNumber) (x : Nsec3Record) → IsNsec3At Secured rrsets zone n x → Contains numbers n.rrset
+nsec3_listed Secured rrsets zone numbers listed n x is =
+    let one : is.is.rrset ≡ is.secured.rrset = one_numbered rrsets n.rrset is.is.rrset is.secured.rrset is.is.at.is_rrset is.secured.is_rrset in
+    listed n.rrset is.secured (inr (ap (λ (r : ReceivedRrset). r.rtype) (sym one) ∙ is.is.rtype))

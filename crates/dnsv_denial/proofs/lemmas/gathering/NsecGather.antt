@@ -1,6 +1,6 @@
 -- The NSEC records of an RRset, put behind those before it.
 use Rattle.std.proofs.Common.{◌≡◌, ℕ, ◌+◌, ◌-◌, ◌<◌, ◌≤◌, List, [], ◌∷◌, ◌++◌, length, map, refl, sym, ap, ◌∙◌, subst, inl, inr, ⊎_elim, arith, append-nil, append_assoc}
-use Rattle.std.specs.Prelude.{⊤, Some, slice_get}
+use Rattle.std.specs.Prelude.{Contains, Some, slice_get}
 use Rattle.std.proofs.lemmas.Bool.{cases_lt}
 use Rattle.std.proofs.lemmas.Option.{slice_get_within}
 use Rattle.dnsv_names.specs.Name.{Labels}
@@ -13,12 +13,13 @@ use Rattle.dnsv_canonical.specs.Rrsets.{IsNumbered, ReceivedRrset}
 use Rattle.dnsv_canonical.proofs.CanonicalLemmas.{canonical_unique}
 use Rattle.dnsv_denial.specs.gathering.Evidence.{HasZoneSignature, IsRecordAt, IsNsecAt, IsNsecOf, IsSecuredBy}
 use Rattle.std.specs.declared.cmp.Ordering.TheVariants.{Less}
-use Rattle.dnsv_denial.specs.gathering.Gathered.{AreAll, AreNsecs, AreNsecsOf}
+use Rattle.dnsv_denial.specs.gathering.Gathered.{AreNsecs, AreNsecsIn, IsListing}
 use Rattle.dnsv_denial.specs.records.Record.{read_entry}
 use Rattle.dnsv_denial.specs.words.EvidenceWords.{number_cmp}
 use Rattle.dnsv_denial.specs.declared.records.entry.NsecEntry.{NsecEntry}
 use Rattle.dnsv_canonical.specs.declared.number.RecordNumber.{RecordNumber}
-use Rattle.dnsv_denial.proofs.lemmas.gathering.EvidenceLemmas.{one_numbered, one_nsec_of, nsec_forms, same_rrset_less, earlier_rrset_less, all_joined, all_none, all_single, all_said}
+use Rattle.dnsv_denial.proofs.lemmas.gathering.EvidenceLemmas.{one_numbered, one_nsec_of, nsec_forms, same_rrset_less, all_joined, all_none, all_single, all_said}
+use Rattle.dnsv_denial.proofs.lemmas.gathering.Gathering.{Grown, none_in, some_in}
 
 pub record GrownBy (rrsets : List ReceivedRrset) (Within : RecordNumber → Type 0) (before now : List NsecEntry) : Type 0 where
   pub more : List NsecEntry
@@ -97,47 +98,38 @@ nsecs_end rrsets k place rrset canonical before now numbered rtype is past so_fa
       so_far.are;
 }
 
--- ---- RRset by RRset
+-- ---- those of a zone in an RRset
 
-module _ (Secured : ℕ → ℕ → Type 0) (rrsets : List ReceivedRrset) (zone : Labels) where
-  abbrev pub Gathered : ℕ → List NsecEntry → Type 0
-  Gathered place entries = AreAll (λ entry. entry.number) read_entry (IsNsecAt Secured rrsets zone) (λ n. n.rrset ≤ place) entries
+module _ (Secured : ℕ → ℕ → Type 0) (rrsets : List ReceivedRrset) (zone : Labels) (k : ℕ) where
+  abbrev pub GrownOfZone : List NsecEntry → List NsecEntry → Type 0
+  GrownOfZone before now = Grown (λ entry. entry.number) read_entry (IsNsecAt Secured rrsets zone) (λ n. n.rrset ≡ k) before now
 
-  pub gather_begins : Gathered 0 []
-  gather_begins = all_none (λ entry. entry.number) read_entry (IsNsecAt Secured rrsets zone) (λ n. n.rrset ≤ 0)
-      (λ n x within is. let from_one = is.is.at.is_rrset.0 in omega (arith, from_one, within))
+  pub no_rrset : (before : List NsecEntry) → ((rrset : ReceivedRrset) → IsNumbered rrsets k rrset → ⊥) → GrownOfZone before before
+  no_rrset before none = none_in (λ entry. entry.number) read_entry (IsNsecAt Secured rrsets zone) k before
+      (λ n x same is. none is.is.rrset (subst (λ m. IsNumbered rrsets m is.is.rrset) same is.is.at.is_rrset))
 
-  pub gather_passes : (place : ℕ) (entries : List NsecEntry) → ((n : RecordNumber) (x : NsecRecord) → n.rrset ≡ place + 1 → IsNsecAt Secured rrsets zone n x → ⊥)
-      → Gathered place entries → Gathered (place + 1) entries
-  gather_passes place entries none so_far = all_said (λ entry. entry.number) read_entry (IsNsecAt Secured rrsets zone) (IsNsecAt Secured rrsets zone) (λ n. n.rrset ≤ place) (λ n. n.rrset ≤ place + 1) entries
-      (λ n x within is. (omega (arith, within), is))
-      (λ n x within is. ⊎_elim (λ (below : n.rrset < place + 1). (omega (arith, below), is)) (λ (above : place + 1 ≤ n.rrset). absurd (none n x (omega (arith, above, within)) is)) (cases_lt n.rrset (place + 1)))
-      so_far
+  pub not_nsec : (rrset : ReceivedRrset) (before : List NsecEntry) → IsNumbered rrsets k rrset → (rrset.rtype ≡ 47 → ⊥) → GrownOfZone before before
+  not_nsec rrset before numbered other = none_in (λ entry. entry.number) read_entry (IsNsecAt Secured rrsets zone) k before
+      (λ n x same is.
+      let one : is.is.rrset ≡ rrset = one_numbered rrsets k is.is.rrset rrset (subst (λ m. IsNumbered rrsets m is.is.rrset) same is.is.at.is_rrset) numbered in
+      other (ap (λ (r : ReceivedRrset). r.rtype) (sym one) ∙ is.is.rtype))
 
-  pub gather_adds : (place : ℕ) (rrset : ReceivedRrset) (entries more next : List NsecEntry) → IsNumbered rrsets (place + 1) rrset → HasZoneSignature (Secured (place + 1)) rrset zone
-      → AreNsecs rrsets (λ n. n.rrset ≡ place + 1) more → next ≡ entries ++ more → Gathered place entries → Gathered (place + 1) next
-  gather_adds place rrset entries more next numbered signed are grown so_far = subst (Gathered (place + 1)) (sym grown)
-      (all_joined (λ entry. entry.number) read_entry (IsNsecAt Secured rrsets zone) (λ n. n.rrset ≤ place) (λ n. n.rrset ≡ place + 1) (λ n. n.rrset ≤ place + 1) entries more
-      (λ a b first second. earlier_rrset_less a b (omega (arith, first, second)))
-      (λ n within. omega (arith, within)) (λ n same. omega (arith, same))
-      (λ n x within is. ⊎_elim (λ (below : n.rrset < place + 1). inl (omega (arith, below))) (λ (above : place + 1 ≤ n.rrset). inr (omega (arith, above, within))) (cases_lt n.rrset (place + 1)))
-      so_far
-      (all_said (λ entry. entry.number) read_entry (IsNsecOf rrsets) (IsNsecAt Secured rrsets zone) (λ n. n.rrset ≡ place + 1) (λ n. n.rrset ≡ place + 1) more
-      (λ n x same is. (same, record { is = is; secured = subst (IsSecuredBy Secured rrsets zone) (sym same) (record { rrset = rrset; is_rrset = numbered; signed = signed }) }))
-      (λ n x same is. (same, is.is)) are))
-
-  pub gather_ends : (place : ℕ) (entries : List NsecEntry) → length rrsets ≤ place → Gathered place entries → AreNsecsOf Secured rrsets zone entries
-  gather_ends place entries past so_far = all_said (λ entry. entry.number) read_entry (IsNsecAt Secured rrsets zone) (IsNsecAt Secured rrsets zone) (λ n. n.rrset ≤ place) (λ n. ⊤) entries
-      (λ n x within is. (tt, is))
-      (λ n x within is. let there = slice_get_within rrsets (n.rrset - 1) is.is.rrset is.is.at.is_rrset.1 in let from_one = is.is.at.is_rrset.0 in (omega (arith, there, from_one, past), is)) so_far
-
-  pub not_nsec : (place : ℕ) (rrset : ReceivedRrset) → IsNumbered rrsets (place + 1) rrset → (rrset.rtype ≡ 47 → ⊥) → (n : RecordNumber) (x : NsecRecord) → n.rrset ≡ place + 1 → IsNsecAt Secured rrsets zone n x → ⊥
-  not_nsec place rrset numbered other n x same is =
-      let one : is.is.rrset ≡ rrset = one_numbered rrsets (place + 1) is.is.rrset rrset (subst (λ m. IsNumbered rrsets m is.is.rrset) same is.is.at.is_rrset) numbered in
-      other (ap (λ (r : ReceivedRrset). r.rtype) (sym one) ∙ is.is.rtype)
-
-  pub not_signed : (place : ℕ) (rrset : ReceivedRrset) → IsNumbered rrsets (place + 1) rrset → (HasZoneSignature (Secured (place + 1)) rrset zone → ⊥) → (n : RecordNumber) (x : NsecRecord) → n.rrset ≡ place + 1 → IsNsecAt Secured rrsets zone n x → ⊥
-  not_signed place rrset numbered none n x same is =
+  pub not_signed : (rrset : ReceivedRrset) (before : List NsecEntry) → IsNumbered rrsets k rrset → (HasZoneSignature (Secured k) rrset zone → ⊥) → GrownOfZone before before
+  not_signed rrset before numbered none = none_in (λ entry. entry.number) read_entry (IsNsecAt Secured rrsets zone) k before
+      (λ n x same is.
       let moved = subst (IsSecuredBy Secured rrsets zone) same is.secured in
-      let one : moved.rrset ≡ rrset = one_numbered rrsets (place + 1) moved.rrset rrset moved.is_rrset numbered in
-      none (subst (λ r. HasZoneSignature (Secured (place + 1)) r zone) one moved.signed)
+      let one : moved.rrset ≡ rrset = one_numbered rrsets k moved.rrset rrset moved.is_rrset numbered in
+      none (subst (λ r. HasZoneSignature (Secured k) r zone) one moved.signed))
+
+  pub signed_nsecs : (rrset : ReceivedRrset) (more : List NsecEntry) → IsNumbered rrsets k rrset → HasZoneSignature (Secured k) rrset zone
+      → AreNsecs rrsets (λ n. n.rrset ≡ k) more → AreNsecsIn Secured rrsets zone k more
+  signed_nsecs rrset more numbered signed are = some_in (λ entry. entry.number) read_entry (IsNsecAt Secured rrsets zone) (IsNsecOf rrsets) k more
+      (λ n x same is. record { is = is; secured = subst (IsSecuredBy Secured rrsets zone) (sym same) (record { rrset = rrset; is_rrset = numbered; signed = signed }) })
+      (λ n x is. is.is) are
+
+-- each is listed
+pub nsec_listed : (Secured : ℕ → ℕ → Type 0) (rrsets : List ReceivedRrset) (zone : Labels) (numbers : List ℕ) → IsListing Secured rrsets zone numbers
+    → (n : RecordNumber) (x : NsecRecord) → IsNsecAt Secured rrsets zone n x → Contains numbers n.rrset
+nsec_listed Secured rrsets zone numbers listed n x is =
+    let one : is.is.rrset ≡ is.secured.rrset = one_numbered rrsets n.rrset is.is.rrset is.secured.rrset is.is.at.is_rrset is.secured.is_rrset in
+    listed n.rrset is.secured (inl (ap (λ (r : ReceivedRrset). r.rtype) (sym one) ∙ is.is.rtype))

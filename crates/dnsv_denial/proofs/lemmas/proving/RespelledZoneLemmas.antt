@@ -70,10 +70,10 @@ module _ (Secured : ℕ → ℕ → Type 0) (rrsets : List ReceivedRrset) (name 
     };
   }
 
-  nsec_as : (a b : Labels) → SameName a b → (n : RecordNumber) (nsec : NsecRecord) → IsNsecAt Secured rrsets a n nsec → IsNsecAt Secured rrsets b n nsec
+  pub nsec_as : (a b : Labels) → SameName a b → (n : RecordNumber) (nsec : NsecRecord) → IsNsecAt Secured rrsets a n nsec → IsNsecAt Secured rrsets b n nsec
   nsec_as a b same n nsec at = record { is = at.is; secured = secured_as a b same n.rrset at.secured }
 
-  nsec3_as : (a b : Labels) → SameName a b → (n : RecordNumber) (nsec3 : Nsec3Record) → IsNsec3At Secured rrsets a n nsec3 → IsNsec3At Secured rrsets b n nsec3
+  pub nsec3_as : (a b : Labels) → SameName a b → (n : RecordNumber) (nsec3 : Nsec3Record) → IsNsec3At Secured rrsets a n nsec3 → IsNsec3At Secured rrsets b n nsec3
   nsec3_as a b same n nsec3 at = record {
     is = record {
       rrset = at.is.rrset;

@@ -68,7 +68,7 @@ module _ (grounds : Grounds) (explained : Explained) (same : explained ≡ expla
   Its = setting_in explained
 
   good : IsTrustIn Its grounds.trust
-  good = subst (λ (each : Explained). IsTrustIn (setting_in each) grounds.trust) (sym same) trusted
+  good = subst (λ (each : Explained). IsTrustIn (setting_in each) grounds.trust) (sym same) trusted.0
 
   abbrev its_view : Viewed
   its_view = record { rrsets = explained.rrsets; trust = grounds.trust; name = name }

@@ -39,7 +39,7 @@ returns-clause-hope c =
       rrsets = refl;
       anchors = refl;
       table = c.in_ok-hopeful.ensures;
-      trust = c.in_ok-trust.ensures;
+      trust = (c.in_ok-trust.ensures, c.in_ok-denials.ensures);
       verdict = settled_as_by_trust (table_answer contents) contents.moment grounds.capture.now.rrsets grounds.anchors.now contents c.in_ok-trust.trust refl
           (λ entry asked. refl) c.trust_depends_on_what_is_asked.ensures.numbers c.in_ok-trust.ensures c.args.name.now c.args.rtype.0 c.in-Some.verdict
           (MatchOption-at_some _ _ c.in-Some.verdict c.in-Some.is c.in_ok-verdict.ensures);

@@ -40,7 +40,7 @@ returns-clause-refused g c =
 
 pub returns-clause-grounds : goal.returns-clause-grounds
 returns-clause-grounds g c =
-    record { rrsets = refl; anchors = refl; table = c.in_ok-table.ensures.table; trust = c.in_ok-trust.ensures }
+    record { rrsets = refl; anchors = refl; table = c.in_ok-table.ensures.table; trust = (c.in_ok-trust.ensures, c.in_ok-denials.ensures) }
 
 pub returns-clause-by_table : goal.returns-clause-by_table
 returns-clause-by_table g c =
@@ -74,6 +74,12 @@ pub returns-in_err-trust-clause-refused : goal.returns-in_err-trust-clause-refus
 returns-in_err-trust-clause-refused g c =
     let basis : Basis = basis_of c.args.capture.now.rrsets c.args.anchors.now c.args.moment (g.V.Verifier.meaning c.args.verifier.now) in
     let p = err_from_is_err_and c.from_residual-in_err-trust.result c.from_residual-in_err-trust.ensures.1 in
+    rw (p.1, p.2) (no_memory basis c.args.name.now c.args.rtype.0 (c.is_question.ensures.0 c.if-not-is_question.false))
+
+pub returns-in_err-denials-clause-refused : goal.returns-in_err-denials-clause-refused
+returns-in_err-denials-clause-refused g c =
+    let basis : Basis = basis_of c.args.capture.now.rrsets c.args.anchors.now c.args.moment (g.V.Verifier.meaning c.args.verifier.now) in
+    let p = err_from_is_err_and c.from_residual-in_err-denials.result c.from_residual-in_err-denials.ensures.1 in
     rw (p.1, p.2) (no_memory basis c.args.name.now c.args.rtype.0 (c.is_question.ensures.0 c.if-not-is_question.false))
 
 pub returns-in_err-followed-clause-refused : goal.returns-in_err-followed-clause-refused

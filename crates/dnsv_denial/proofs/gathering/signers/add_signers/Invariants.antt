@@ -1,6 +1,8 @@
--- those who made the signatures so far are there
+-- those who made the signatures so far have the RRset's number
+use Rattle.dnsv_chain.specs.ByOwner.{values_at}
 use Rattle.dnsv_denial.proofs.lemmas.gathering.SignerLemmas.{HasSignersTo}
 use Rattle.dnsv_denial.proofs.gathering.signers.add_signers.Given as goal
 
-abbrev pub invariant-loop-number : goal.invariant-loop-number
-invariant-loop-number l = HasSignersTo l.rrset l.secured l.fn.labels.items l.number-index l.labels.items
+abbrev pub invariant-loop-signature : goal.invariant-loop-signature
+invariant-loop-signature l =
+    HasSignersTo l.rrset l.secured l.number (values_at l.fn.numbers) l.signature-index (values_at l.numbers)

@@ -1,11 +1,12 @@
-use Rattle.std.proofs.Common.{List, inr, refl, subst, sym}
+use Rattle.std.proofs.Common.{List, ap, inr, refl, subst, sym}
 use Rattle.dnsv_names.specs.Name.{Labels, IsAtOrBelow, rightmost}
 use Rattle.dnsv_canonical.specs.Rrsets.{ReceivedRrset}
 use Rattle.dnsv_chain.specs.Trust.{SecuredIn as KeptIn}
+use Rattle.dnsv_denial.specs.gathering.ByZone.{AreSecuredRecords}
 use Rattle.dnsv_denial.specs.gathering.Gathered.{AreNsecsOf, AreNsec3sOf}
 use Rattle.dnsv_denial.specs.declared.records.entry.NsecEntry.{NsecEntry}
 use Rattle.dnsv_denial.specs.declared.records.entry.Nsec3Entry.{Nsec3Entry}
-use Rattle.dnsv_explain.specs.Explained.{setting_in}
+use Rattle.dnsv_explain.specs.Explained.{Explained, setting_in}
 use Rattle.dnsv_explain.specs.derivations.OwnDerivations.{SecuredIn}
 use Rattle.dnsv_explain.specs.faults.Listing.{AddsThose}
 use Rattle.dnsv_explain.specs.faults.Order.{AreLinesOfSources}
@@ -38,14 +39,15 @@ returns c =
     let zone = c.suffix-name.result in
     let speaker = rightmost name c.args.speaker in
     let good = its_trust c.args.evidence.now c.args.at.now c.requires.at in
-    let Nsecs : List ReceivedRrset → Type 0 = λ each. AreNsecsOf (KeptIn trust) each zone c.in_ok-nsecs.nsecs.items in
-    let Nsec3s : List ReceivedRrset → Type 0 = λ each. AreNsec3sOf (KeptIn trust) each zone c.in_ok-nsec3s.nsec3s.items in
+    let kept = c.of_zone-records.result.now in
+    let Records : List ReceivedRrset → Type 0 = λ each. AreSecuredRecords (KeptIn trust) each zone kept in
+    let are = subst Records (sym (ap (λ (each : Explained). each.rrsets) c.requires.at.evidence))
+    (c.of_zone-records.ensures trust c.args.at.now.grounds.now.capture.now.rrsets c.requires.at.trust.1) in
     let Good : List NsecEntry → Type 0 = λ each. AreNsecsOf (SecuredIn setting) setting.rrsets zone each in
     let Good3 : List Nsec3Entry → Type 0 = λ each. AreNsec3sOf (SecuredIn setting) setting.rrsets zone each in
     let nsecs = subst Good (sym c.deref.ensures.value)
-    (nsecs_good setting trust good zone c.in_ok-nsecs.nsecs.items (subst Nsecs c.capture-capture.ensures c.in_ok-nsecs.ensures)) in
-    let nsec3s = subst Good3 (sym c.deref-2.ensures.value)
-    (nsec3s_good setting trust good zone c.in_ok-nsec3s.nsec3s.items (subst Nsec3s c.capture-capture.ensures c.in_ok-nsec3s.ensures)) in
+    (nsecs_good setting trust good zone kept.nsecs.items are.nsecs) in
+    let nsec3s = subst Good3 (sym c.as_slice-nsec3s.ensures) (nsec3s_good setting trust good zone kept.nsec3s are.nsec3s) in
     let test = speaks_test name c.args.speaker c.args.labels zone c.requires.speaker c.requires.within c.suffix-name.ensures.labels in
     let To : Labels → Type 0 = λ each. AddsThose (AreLinesOfSources setting name c.args.rtype.0 speaker each) c.args.lines.now.items
     c.add_nsec3s.new.lines.items in

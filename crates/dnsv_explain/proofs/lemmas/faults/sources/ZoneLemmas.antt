@@ -146,7 +146,7 @@ module _ (explained : Explained) (at : At) (is : IsAt explained at) where
   Its = setting_in explained
 
   pub its_trust : IsTrustIn Its at.grounds.now.trust
-  its_trust = subst (λ (each : Explained). IsTrustIn (setting_in each) at.grounds.now.trust) (sym is.evidence) is.trust
+  its_trust = subst (λ (each : Explained). IsTrustIn (setting_in each) at.grounds.now.trust) (sym is.evidence) is.trust.0
 
   -- the hashes are of the same evidence
   pub its_rrsets : at.hashes.now.rrsets ≡ explained.rrsets

@@ -1,0 +1,131 @@
+//! The records by which zones deny names and types, gathered once for a capture and its trust.
+ghost use Rattle.std.specs.Prelude.{ℕ, Contains, IfOk, List};
+ghost use Rattle.std.specs.List.Sorted.{IsStrictlySortedBy};
+ghost use Rattle.std.specs.Ordering.{nat_cmp};
+ghost use Rattle.dnsv_names.specs.Name.{Labels};
+ghost use Rattle.dnsv_canonical.specs.Rrsets.{ReceivedRrset};
+ghost use Rattle.dnsv_chain.specs.ByOwner.{values_at};
+ghost use Rattle.dnsv_chain.specs.Trust.{KeptTrust, SecuredIn};
+ghost use Rattle.dnsv_denial.specs.gathering.Gathered.{AreListed, IsListing};
+ghost use Rattle.dnsv_denial.specs.declared.gathering.denial_records.SecuredZone.{SecuredZone};
+ghost use Rattle.dnsv_denial.specs.gathering.ByZone.{AreDenialRecords, AreSecuredRecords, IsZoneAmong};
+
+use crate::gathering::nsec::nsecs_of;
+use crate::gathering::nsec3::nsec3s_of;
+use crate::gathering::signers::{NumbersByZone, numbers_by_zone};
+use crate::records::nsec3_entries::Nsec3Entries;
+use crate::records::zone_records::SecuredRecords;
+use dnsv_canonical::Capture;
+use dnsv_chain::{Trust, at};
+use dnsv_names::{Name, WireName};
+use std::alloc::{AllocError, Global};
+
+/// The NSEC and NSEC3 records that a zone secured, with its name.
+#[derive(Drop)]
+pub struct SecuredZone<'c> {
+    /// The zone's name, as one of its signatures spells it.
+    pub name: WireName<'c>,
+    /// The records.
+    pub records: SecuredRecords<'c>,
+}
+
+/// The NSEC records of a capture, and the NSEC3 records that can be used, by the zones that secured them (RFC 4035 5.4,
+/// RFC 5155 8.2). An RRset that several zones secured is of each of them.
+#[derive(Drop)]
+pub struct DenialRecords<'c> {
+    /// The zones that secured any, in the order of their names by length and then by octets in lower case.
+    zones: Vec<SecuredZone<'c>>,
+    /// What any other zone has: nothing.
+    none: SecuredRecords<'c>,
+}
+
+impl<'c> DenialRecords<'c> {
+    /// Gathers the records. `trust` is that of the capture.
+    pub fn of(
+        alloc: Global,
+        capture: &'c Capture<'c>,
+        trust: &Trust<'_>,
+    ) -> Result<DenialRecords<'c>, AllocError>
+        ensures { IfOk result (AreDenialRecords (SecuredIn trust.now) capture.now.rrsets) }
+    {
+        let numbers = numbers_by_zone(alloc, capture, trust)?;
+        let mut zones = secured_zones(alloc, capture, trust, &numbers)?;
+        zones.sort_unstable_by(|a, b| a.name.search_cmp(&b.name));
+        let none = SecuredRecords {
+            nsecs: Vec::new(alloc),
+            nsec3s: Nsec3Entries::new(alloc, Vec::new(alloc))?,
+        };
+        Ok(DenialRecords { zones, none })
+    }
+
+    /// The records of the zone, in the order of their numbers. It takes no memory, and time in proportion to the logarithm
+    /// of the number of zones.
+    pub fn of_zone(&self, zone: &Name) -> &SecuredRecords<'c>
+        ensures { (trust : KeptTrust) (rrsets : List ReceivedRrset) → AreDenialRecords (SecuredIn trust) rrsets self.now
+            → AreSecuredRecords (SecuredIn trust) rrsets zone.now result.now }
+    {
+        let wanted = WireName::of(zone);
+        match self
+            .zones
+            .binary_search_by(|each| each.name.search_cmp(&wanted))
+        {
+            Ok(place) => &self.zones[place].records,
+            Err(_) => &self.none,
+        }
+    }
+}
+
+/// The records of each zone for which RRsets are listed.
+fn secured_zones<'c>(
+    alloc: Global,
+    capture: &'c Capture<'c>,
+    trust: &Trust<'_>,
+    numbers: &NumbersByZone<'c>,
+) -> Result<Vec<SecuredZone<'c>>, AllocError>
+    requires { AreListed (SecuredIn trust.now) capture.now.rrsets (values_at numbers.now) }
+    ensures each { IfOk result (λ zones. (each : SecuredZone) → Contains zones.items each
+        → AreSecuredRecords (SecuredIn trust.now) capture.now.rrsets each.name each.records) }
+    ensures all { IfOk result (λ zones. (zone : Labels) (k : ℕ) → Contains (values_at numbers.now zone) k
+        → IsZoneAmong zones.items zone) }
+{
+    let mut zones = Vec::new(alloc);
+    for entry in numbers {
+        let zone = entry.0;
+        let listed = at(numbers, &zone.0);
+        let records = secured_records(alloc, capture, trust, &zone.0.to_name(), listed)?;
+        let name = zone.0.copied();
+        zones.push(SecuredZone { name, records })?;
+    }
+    Ok(zones)
+}
+
+/// The records of the zone, which stand in RRsets with some of these numbers.
+fn secured_records<'c>(
+    alloc: Global,
+    capture: &'c Capture<'c>,
+    trust: &Trust<'_>,
+    zone: &Name,
+    listed: &[usize],
+) -> Result<SecuredRecords<'c>, AllocError>
+    requires { IsListing (SecuredIn trust.now) capture.now.rrsets zone.now listed.now }
+    ensures { IfOk result (AreSecuredRecords (SecuredIn trust.now) capture.now.rrsets zone.now) }
+{
+    let numbers = rising(alloc, listed)?;
+    let nsecs = nsecs_of(alloc, capture, trust, zone, &numbers)?;
+    let records = nsec3s_of(alloc, capture, trust, zone, &numbers)?;
+    Ok(SecuredRecords {
+        nsecs,
+        nsec3s: Nsec3Entries::new(alloc, records)?,
+    })
+}
+
+/// The numbers in their order, each once.
+fn rising(alloc: Global, listed: &[usize]) -> Result<Vec<usize>, AllocError>
+    ensures order { IfOk result (λ numbers. IsStrictlySortedBy nat_cmp numbers.items) }
+    ensures all { IfOk result (λ numbers. (k : ℕ) → Contains listed.now k → Contains numbers.items k) }
+{
+    let mut numbers = Vec::from_slice(alloc, listed)?;
+    numbers.sort_unstable();
+    numbers.dedup();
+    Ok(numbers)
+}
