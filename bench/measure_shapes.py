@@ -46,7 +46,8 @@ def write_files(shape: Shape, room: pathlib.Path) -> None:
     if shape.answered_from is not None:
         words = [str(PROGRAM), "list", "--capture", str(room / "capture"), "--moment", "1500"]
         todo = subprocess.run(words, check=True, stdout=subprocess.PIPE).stdout.splitlines(keepends=True)
-        good = [line.replace(b"todo", b"good", 1) for line in todo[shape.answered_from :]]
+        asked = [line for line in todo[shape.answered_from :] if shape.answered_by in line]
+        good = [line.replace(b"todo", b"good", 1) for line in asked]
         (room / "statements").write_bytes(b"".join(good))
 
 

@@ -1,12 +1,15 @@
 """Requests that strangers may bring about, each made to cost much for what it weighs. Each is made at a size, as large
 as one likes, and the bench measures it at the size named here and at four times as much."""
-from . import denials, files, keys, signatures
+from . import denials, derivations, files, keys, signatures
 
 SHAPES = {
     "long-data": (signatures.long_data, 24),
     "pairs": (signatures.pairs, 240),
     "digests": (keys.digests, 16),
     "alike": (keys.alike, 16),
+    "key-sets": (derivations.key_sets, 16),
+    "key-sets-aliases": (derivations.key_sets_aliases, 16),
+    "key-anchors": (derivations.key_anchors, 16),
     "expanded-nsec": (denials.expanded_nsec, 4),
     "expanded-nsec3": (denials.expanded_nsec3, 4),
     "hashes": (denials.hashes, 31),

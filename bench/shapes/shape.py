@@ -12,6 +12,11 @@ def check(name: str) -> tuple[str, ...]:
     return "check", "--moment", "1500", "--name", name, "--type", "1"
 
 
+def explain(name: str) -> tuple[str, ...]:
+    """The same, and why besides."""
+    return ("explain", *check(name)[1:])
+
+
 @dataclass
 class Shape:
     """A request and its files."""
@@ -21,3 +26,4 @@ class Shape:
     pairs: int = 0  # of a signature and a key that may have made it
     # The statements say `good` of each line that `list` prints from this place on; without it there are none.
     answered_from: Optional[int] = None
+    answered_by: bytes = b""  # and of those alone that have these octets

@@ -1,5 +1,6 @@
 pub mod At
 pub mod Denials
+pub mod Digests
 pub mod Explained
 pub mod Explanation
 pub mod Following

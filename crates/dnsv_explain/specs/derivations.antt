@@ -2,6 +2,7 @@
 pub mod Climb
 pub mod Derivations
 pub mod HeldTo
+pub mod KeptWays
 pub mod OwnDerivations
 pub mod OwnSearch
 pub mod SignerSearch

@@ -1,14 +1,16 @@
 //! What explanations stand on.
-ghost use Rattle.std.specs.Prelude.{◌≡◌, ◌↔◌, [], IfOk, IsTrue};
+ghost use Rattle.std.specs.Prelude.{◌≡◌, ◌↔◌, [], IfOk, IsTrue, MatchOption};
 ghost use Rattle.std.specs.Option.{option_map_or};
 ghost use Rattle.dnsv_verifier.specs.Admissible.{IsGood};
 ghost use Rattle.dnsv_verifier.specs.Table.{table_answer};
 ghost use Rattle.dnsv_chain.specs.Trust.{AreSecured, IsTrustOf};
 ghost use Rattle.dnsv_explain.specs.Explained.{IsTodo, setting_in};
+ghost use Rattle.dnsv_explain.specs.derivations.WaySearch.{AreFirstWays, IsWayOf};
 ghost use Rattle.dnsv_explain.specs.faults.Keys.{IsTrustedZone};
 
+use crate::derivations::ways::FoundWay;
 use crate::todo::number_among;
-use dnsv_canonical::{Capture, Rrset};
+use dnsv_canonical::{Capture, Rrset, numbered};
 use dnsv_chain::{Anchor, Anchors, Trust, is_good};
 use dnsv_lines::Todo;
 use dnsv_names::Name;
@@ -26,14 +28,15 @@ pub struct Evidence<'a> {
     table: &'a Table<'a>,
     trust: &'a Trust<'a>,
     todo: Option<&'a Entries<'a>>,
+    /// The first way into each RRset by its number, once they are worked out: each is asked for by many lines.
+    ways: &'a [Option<FoundWay>],
 }
 
 impl<'a> Model for Evidence<'a> {
     ghost use Rattle.std.specs.Prelude.{[]};
     ghost use Rattle.std.specs.Option.{option_map_or};
-    ghost use Rattle.dnsv_verifier.specs.Table.{table_answer};
-    ghost use Rattle.dnsv_chain.specs.Trust.{IsTrustOf};
     ghost use Rattle.dnsv_explain.specs.Explained.{Explained};
+    ghost use Rattle.dnsv_explain.specs.derivations.KeptWays.{AreOfEvidence};
 
     ghost Value = { Explained };
 
@@ -44,8 +47,12 @@ impl<'a> Model for Evidence<'a> {
       todo = option_map_or (λ entries. entries.now) evidence.todo [];
     } };
 
-    ghost invariant = { λ evidence. IsTrustOf (table_answer evidence.table.now) evidence.table.now.moment
-        evidence.capture.now.rrsets evidence.anchors.now evidence.trust.now };
+    ghost invariant = { λ evidence. AreOfEvidence (record {
+      rrsets = evidence.capture.now.rrsets;
+      anchors = evidence.anchors.now;
+      table = evidence.table.now;
+      todo = option_map_or (λ entries. entries.now) evidence.todo [];
+    }) evidence.trust.now evidence.ways.now };
 }
 
 impl<'a> Evidence<'a> {
@@ -72,7 +79,33 @@ impl<'a> Evidence<'a> {
             table,
             trust,
             todo,
+            ways: &[],
         }
+    }
+
+    /// The same evidence, with the first ways into its RRsets.
+    pub(crate) fn with_ways(&self, ways: &'a [Option<FoundWay>]) -> Evidence<'a>
+        requires { AreFirstWays (setting_in self.now) ways.now }
+        ensures { result ≡ self.now }
+    {
+        Evidence {
+            capture: self.capture,
+            anchors: self.anchors,
+            table: self.table,
+            trust: self.trust,
+            todo: self.todo,
+            ways,
+        }
+    }
+
+    /// The first way into the RRset with the number, `None` where the ways aren't worked out.
+    pub(crate) fn kept_way(&self, number: usize) -> Option<Option<FoundWay>>
+        ensures { MatchOption result (Unit {0}) (IsWayOf (setting_in self.now) number) }
+    {
+        let Some(way) = numbered(self.ways, number) else {
+            return None;
+        };
+        Some(*way)
     }
 
     pub(crate) fn capture(&self) -> &'a Capture<'a>

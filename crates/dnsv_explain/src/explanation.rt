@@ -18,6 +18,7 @@ ghost use Rattle.dnsv_explain.specs.Explained.{explained_by, setting_in};
 ghost use Rattle.dnsv_explain.specs.Explanation.{IsExplanation, IsExplanationOf, IsLinkTold, IsUnproved};
 ghost use Rattle.dnsv_explain.specs.Saying.{Adds, AreEach};
 
+use crate::derivations::ways::first_ways;
 use crate::evidence::Evidence;
 use crate::explanation::at::{At, evidence_of};
 use crate::explanation::end::{add_end, add_places_named};
@@ -103,7 +104,9 @@ fn explanation_of(
     if is_unproved(&judged.report.verdict) {
         return Ok(failed(alloc, judged, rtype)?);
     }
-    let evidence = evidence_of(&judged.grounds, None);
+    let bare = evidence_of(&judged.grounds, None);
+    let ways = first_ways(alloc, &bare)?;
+    let evidence = bare.with_ways(&ways);
     let mut lines = Vec::new(alloc);
     add_links(alloc, &evidence, judged, &mut lines, rtype)?;
     let hashes = &judged.hashes[judged.report.links.as_slice().len()];
@@ -127,7 +130,9 @@ fn failed(alloc: Global, judged: &Judged<'_>, rtype: RecordType) -> Result<Expla
     ensures { IfOk result (IsExplanation (explained_by judged.now.grounds []) rtype.0 judged.now.report.links
         judged.now.report.last judged.now.report.verdict) }
 {
-    let evidence = evidence_of(&judged.grounds, None);
+    let bare = evidence_of(&judged.grounds, None);
+    let ways = first_ways(alloc, &bare)?;
+    let evidence = bare.with_ways(&ways);
     let mut lines = Vec::new(alloc);
     let last = &judged.hashes[judged.report.links.as_slice().len()];
     let at = At {

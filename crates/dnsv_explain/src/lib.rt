@@ -23,6 +23,7 @@ pub use shown::holding_of;
 
 mod denials;
 mod derivations;
+mod digested;
 mod evidence;
 mod explanation;
 mod faults;

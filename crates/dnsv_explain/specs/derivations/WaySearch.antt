@@ -1,5 +1,6 @@
 -- How the first way is looked for. No public clause cites this module.
-use Rattle.std.specs.Prelude.{◌≡◌, ◌≢◌, ◌<◌, ◌≤◌, ℕ, List, Contains, get_or, length, map}
+use Rattle.std.specs.Prelude.{◌≡◌, ◌≢◌, ◌<◌, ◌≤◌, ℕ, List, Contains, MatchOption, Option, get_or, length, map}
+use Rattle.std.specs.List.{AllByRecursion}
 use Rattle.std.specs.declared.cmp.Ordering.TheVariants.{Less}
 use Rattle.dnsv_names.specs.Name.{Labels, SameName}
 use Rattle.dnsv_records.specs.declared.dnskey.Dnskey.{Dnskey}
@@ -20,6 +21,7 @@ use Rattle.dnsv_lines.specs.declared.line.derivation.Voucher.TheVariants as vouc
 use Rattle.dnsv_explain.specs.declared.derivations.ways.FoundWay.{FoundWay}
 use Rattle.dnsv_explain.specs.declared.derivations.ways.keys.GoodSignature.{GoodSignature}
 use Rattle.dnsv_explain.specs.declared.derivations.ways.keys.KeySet.{KeySet}
+use Rattle.dnsv_explain.specs.declared.derivations.ways.keys.SetKey.{SetKey}
 use Rattle.dnsv_explain.specs.declared.derivations.ways.matcher.Matcher.{Matcher}
 use Rattle.dnsv_explain.specs.declared.derivations.ways.matcher.Matcher.TheVariants as matcher
 
@@ -33,17 +35,30 @@ pub record AreKeysInOrder (set : ReceivedRrset) (keys : List DnskeyRecord) : Typ
   pub canonical : IsCanonical set.rdata (map (λ key. key.rdata) keys)
   pub each : (key : DnskeyRecord) → Contains keys key → IsKeyOf set key
 
--- the RRset has the number, and these are its keys in order
-pub record IsKeySet (setting : Setting) (set : KeySet) : Type 0 where
-  pub numbered : IsNumbered setting.rrsets set.number set.rrset.now
-  pub in_order : AreKeysInOrder set.rrset.now set.keys.items
-
 -- no signature of RRset k with a lower number is good under the key
 pub record IsLowestGood
     (setting : Setting) (k : ℕ) (rrset : ReceivedRrset) (key : DnskeyRecord) (found : GoodSignature) : Type 0 where
   pub good : IsGoodUnder setting (signature_of k found.number) rrset key
   pub todo : IsTodo setting.todo good.good.entry found.todo.0
   pub lowest : (t : ℕ) → IsGoodUnder setting (signature_of k t) rrset key → found.number ≤ t
+
+-- it is told how the key signs RRset k: by its lowest signature that is good under it, if there is one
+abbrev pub IsSetKey : Setting → ℕ → ReceivedRrset → SetKey → Type 0
+IsSetKey setting k rrset each = MatchOption each.signing
+    ((s : ℕ) → ¬ IsGoodUnder setting (signature_of k s) rrset each.key.now)
+    (λ signing. (signing.digested ≡ each.key.now) × IsLowestGood setting k rrset each.key.now signing.signature)
+
+-- these are the keys, and so of each
+pub record AreSetKeys (setting : Setting) (k : ℕ) (rrset : ReceivedRrset) (keys : List DnskeyRecord) (made : List SetKey)
+    : Type 0 where
+  pub are : map (λ each. each.key.now) made ≡ keys
+  pub each : AllByRecursion (IsSetKey setting k rrset) made
+
+-- the RRset has the number, and these are its keys in order
+pub record IsKeySet (setting : Setting) (set : KeySet) : Type 0 where
+  pub numbered : IsNumbered setting.rrsets set.number set.rrset.now
+  pub in_order : AreKeysInOrder set.rrset.now (map (λ (each : SetKey). each.key.now) set.keys.items)
+  pub each : AllByRecursion (IsSetKey setting set.number set.rrset.now) set.keys.items
 
 -- none of the signatures up to the number is
 abbrev pub IsNoneTo : Setting → ℕ → ReceivedRrset → DnskeyRecord → ℕ → Type 0
@@ -107,6 +122,14 @@ pub record IsFoundWay (setting : Setting) (k : ℕ) (found : FoundWay) : Type 0 
 
 abbrev pub IsNoWay : Setting → ℕ → Type 0
 IsNoWay setting k = (way : Way) → ¬ IsWayInto setting k way
+
+-- this is the first way into RRset k, or there is none
+abbrev pub IsWayOf : Setting → ℕ → Option FoundWay → Type 0
+IsWayOf setting k way = MatchOption way (IsNoWay setting k) (IsFoundWay setting k)
+
+-- each of these is so for the RRset with its number
+abbrev pub AreFirstWays : Setting → List (Option FoundWay) → Type 0
+AreFirstWays setting ways = (k : ℕ) (way : Option FoundWay) → IsNumbered ways k way → IsWayOf setting k way
 
 -- no way goes before this rank
 abbrev pub IsNoWayBefore : Setting → ℕ → ℕ × ℕ × ℕ → Type 0

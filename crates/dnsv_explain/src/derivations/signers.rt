@@ -11,6 +11,7 @@ ghost use Rattle.dnsv_explain.specs.derivations.Ways.{IsSignedLine};
 use crate::derivations::ways::first_way;
 use crate::derivations::ways::keys::key_name;
 use crate::evidence::Evidence;
+use crate::faults::keys::is_signer;
 use dnsv_canonical::{Rrset, SignatureNumber, in_canonical_order, numbered};
 use dnsv_lines::{KeyName, SignedRrset, Todo};
 use dnsv_names::RecordType;
@@ -126,13 +127,13 @@ fn lowest_in<'a>(
     if set.rtype() != RecordType::DNSKEY {
         return Ok(None);
     }
-    let Some(signer) = lowest_good_key(alloc, evidence, rrset, rrsig, k, set)? else {
+    if !is_signer(set.owner(), rrsig) {
         return Ok(None);
-    };
+    }
     if !is_trusted(alloc, evidence, k, set)? {
         return Ok(None);
     }
-    Ok(Some(signer))
+    Ok(lowest_good_key(alloc, evidence, rrset, rrsig, k, set)?)
 }
 
 /// The lowest key of the DNSKEY RRset, which has the number `k`, under which the signature of the RRset is good.

@@ -9,11 +9,11 @@ ghost use Rattle.std.specs.Prelude.{◌≡◌, IfOk, MatchOption};
 ghost use Rattle.dnsv_canonical.specs.Rrsets.{IsNumbered};
 ghost use Rattle.dnsv_explain.specs.Explained.{setting_in};
 ghost use Rattle.dnsv_explain.specs.derivations.Ways.{IsTrustedLine, IsTrustedSet};
-ghost use Rattle.dnsv_explain.specs.derivations.WaySearch.{IsFoundWay, IsNoWay};
+ghost use Rattle.dnsv_explain.specs.derivations.WaySearch.{AreFirstWays, IsWayOf};
 
 use crate::derivations::ways::by_anchor::way_by_anchor;
 use crate::derivations::ways::by_ds::way_by_ds;
-use crate::derivations::ways::keys::{GoodSignature, KeySet, keys_in_order};
+use crate::derivations::ways::keys::{GoodSignature, KeySet, keys_in_order, set_keys};
 use crate::evidence::Evidence;
 use dnsv_canonical::{Rrset, SignatureNumber, numbered};
 use dnsv_lines::{KeyName, TrustedKeys, Voucher};
@@ -59,7 +59,37 @@ pub fn trusted_line(
     }))
 }
 
-/// The first way into the DNSKEY RRset, which has the number.
+/// The first way into each RRset, by its number: none into one that isn't trusted, or is no DNSKEY RRset.
+pub fn first_ways(
+    alloc: Global,
+    evidence: &Evidence<'_>,
+) -> Result<Vec<Option<FoundWay>>, AllocError>
+    ensures { IfOk result (λ ways. AreFirstWays (setting_in evidence.now) ways.items) }
+{
+    let mut ways = Vec::new(alloc);
+    for (place, rrset) in evidence.rrsets().iter().enumerate() {
+        ways.push(way_into(alloc, evidence, place + 1, rrset)?)?;
+    }
+    Ok(ways)
+}
+
+/// The first way into the RRset, which has the number.
+fn way_into(
+    alloc: Global,
+    evidence: &Evidence<'_>,
+    number: usize,
+    rrset: &Rrset<'_>,
+) -> Result<Option<FoundWay>, AllocError>
+    requires { IsNumbered evidence.now.rrsets number rrset.now }
+    ensures { IfOk result (IsWayOf (setting_in evidence.now) number) }
+{
+    if rrset.rtype() != RecordType::DNSKEY {
+        return Ok(None);
+    }
+    Ok(first_way(alloc, evidence, number, rrset)?)
+}
+
+/// The first way into the DNSKEY RRset, which has the number. It is looked for once, where ways are kept.
 pub fn first_way(
     alloc: Global,
     evidence: &Evidence<'_>,
@@ -68,15 +98,32 @@ pub fn first_way(
 ) -> Result<Option<FoundWay>, AllocError>
     requires numbered { IsNumbered evidence.now.rrsets number rrset.now }
     requires rtype { rrset.now.rtype ≡ 48 }
-    ensures { IfOk result (λ way. MatchOption way (IsNoWay (setting_in evidence.now) number) (IsFoundWay (setting_in evidence.now) number)) }
+    ensures { IfOk result (IsWayOf (setting_in evidence.now) number) }
+{
+    if let Some(way) = evidence.kept_way(number) {
+        return Ok(way);
+    }
+    Ok(found_way(alloc, evidence, number, rrset)?)
+}
+
+/// The first way into the DNSKEY RRset, which has the number, as it is looked for.
+fn found_way(
+    alloc: Global,
+    evidence: &Evidence<'_>,
+    number: usize,
+    rrset: &Rrset<'_>,
+) -> Result<Option<FoundWay>, AllocError>
+    requires numbered { IsNumbered evidence.now.rrsets number rrset.now }
+    requires rtype { rrset.now.rtype ≡ 48 }
+    ensures { IfOk result (IsWayOf (setting_in evidence.now) number) }
 {
     let keys = keys_in_order(alloc, rrset)?;
     let set = KeySet {
         number,
         rrset,
-        keys,
+        keys: set_keys(alloc, evidence, number, rrset, &keys)?,
     };
-    if let Some(way) = way_by_anchor(alloc, evidence, &set)? {
+    if let Some(way) = way_by_anchor(evidence, &set) {
         return Ok(Some(way));
     }
     Ok(way_by_ds(alloc, evidence, &set)?)

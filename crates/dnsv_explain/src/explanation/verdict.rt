@@ -7,6 +7,7 @@ ghost use Rattle.dnsv_explain.specs.Explained.{explained_by};
 ghost use Rattle.dnsv_explain.specs.Explanation.{IsHopeTold, IsVerdictTold, told_kind};
 ghost use Rattle.dnsv_explain.specs.Saying.{Adds};
 
+use crate::derivations::ways::first_ways;
 use crate::evidence::Evidence;
 use crate::explanation::at::{At, evidence_of};
 use crate::explanation::held::add_held;
@@ -79,7 +80,9 @@ fn add_hope<'a>(
     let Some(kind) = kind_of(&hope.verdict) else {
         return Ok(());
     };
-    let hoped = evidence_of(&hope.grounds, Some(unknown));
+    let bare = evidence_of(&hope.grounds, Some(unknown));
+    let ways = first_ways(alloc, &bare)?;
+    let hoped = bare.with_ways(&ways);
     lines.push(Line::Hope(kind))?;
     let at = At {
         grounds: &hope.grounds,

@@ -1,6 +1,5 @@
 //! What is said of a zone that isn't trusted.
 
-mod digested;
 mod entries;
 mod lead;
 mod named;
@@ -18,11 +17,11 @@ ghost use Rattle.dnsv_explain.specs.faults.ZoneLines.{AreZoneLines, HasNoWay, zo
 ghost use Rattle.dnsv_lines.specs.declared.line.fault.zone.WhyZone.TheVariants as zone_why;
 ghost use Rattle.dnsv_explain.specs.faults.searches.KeySearch.{HasItsKeys, setting_of};
 
+use crate::digested::digested_keys;
 use crate::evidence::Evidence;
 use crate::faults::at::{has_own_anchor, has_rrset, is_anchored};
 use crate::faults::keyed::KeyedEvidence;
 use crate::faults::keys::keys_at;
-use crate::faults::zones::digested::digested_keys;
 use crate::faults::zones::entries::said_entries;
 use crate::faults::zones::ranks::add_ranks;
 use crate::faults::zones::ways::add_ways;

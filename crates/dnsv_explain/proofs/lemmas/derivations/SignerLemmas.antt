@@ -4,6 +4,7 @@ use Rattle.std.proofs.lemmas.Bool.{cases_lt}
 use Rattle.std.proofs.lemmas.Cmp.{nat_list_cmp_total, tied_itself}
 use Rattle.std.proofs.lemmas.Option.{slice_get_within}
 use Rattle.std.specs.Ordering.{ordering_reverse}
+use Rattle.std.specs.Prelude.{MatchOption}
 use Rattle.std.specs.declared.cmp.Ordering.TheVariants.{Less, Equal, Greater}
 use Rattle.dnsv_records.proofs.OneRecord.{one_rrsig}
 use Rattle.dnsv_records.specs.declared.rrsig.Rrsig.{Rrsig}
@@ -14,12 +15,12 @@ use Rattle.dnsv_verifier.specs.Admissible.{DnskeyRecord, IsGood}
 use Rattle.dnsv_chain.specs.Trusted.{IsKeyOf, IsSecured, IsTrusted}
 use Rattle.dnsv_explain.specs.Explained.{Setting}
 use Rattle.dnsv_explain.specs.Following.{IsGoodUnder}
-use Rattle.dnsv_explain.specs.derivations.SignerSearch.{IsFirstAmong, IsFirstTo, IsLowestGoodKey, IsLowestIn, IsSignatureAt}
+use Rattle.dnsv_explain.specs.derivations.SignerSearch.{IsFirstAmong, IsFirstTo, IsLowestGoodKey, IsLowestIn, IsLowestOf, IsSignatureAt}
 use Rattle.dnsv_explain.specs.derivations.Ways.{IsFirstSigner, IsSignedLine, IsSigner}
 use Rattle.dnsv_canonical.specs.declared.number.SignatureNumber.{SignatureNumber}
 use Rattle.dnsv_explain.specs.declared.derivations.signers.Signer.{Signer}
 use Rattle.std.specs.List.{AllZip}
-use Rattle.dnsv_names.specs.Name.{Labels}
+use Rattle.dnsv_names.specs.Name.{Labels, SameName}
 use Rattle.dnsv_names.specs.declared.number.RecordType.{RecordType}
 use Rattle.dnsv_explain.proofs.lemmas.NumberedLemmas.{same_number}
 use Rattle.dnsv_explain.proofs.lemmas.intervals.ShownLemmas.{rdata_at, read_at}
@@ -172,6 +173,11 @@ module _ (setting : Setting) (number : SignatureNumber) (rrset : ReceivedRrset) 
   pub none_good : ((key : DnskeyRecord) → IsKeyOf set key → ¬ Good key) → (key : DnskeyRecord) → ¬ IsSigner setting number k key
   none_good none key is = none key (its_key key is) (under_good is.rrset key is.good)
 
+  pub not_signer : ¬ SameName rrsig.signer set.owner → (key : DnskeyRecord) → ¬ IsSigner setting number k key
+  not_signer never key is =
+      let Of : Labels → Type 0 = λ owner. SameName owner rrsig.signer in
+      never (sym (subst Of (its_key key is).owner (under_good is.rrset key is.good).admissible.zone_key.owner))
+
   pub not_trusted : ¬ IsTrusted setting.meaning setting.moment setting.rrsets setting.anchors set → (key : DnskeyRecord)
       → ¬ IsSigner setting number k key
   not_trusted never key is =
@@ -194,6 +200,12 @@ module _ (setting : Setting) (number : SignatureNumber) (rrset : ReceivedRrset) 
     todo = lowest.todo;
     lowest = λ other is. lowest.lowest other (its_key other is) (under_good is.rrset other is.good);
   }
+
+  pub lowest_or_none : (found : Option Signer)
+      → MatchOption found ((key : DnskeyRecord) → IsKeyOf set key → ¬ Good key) (IsLowestGoodKey setting rrset rrsig k set)
+      → IsTrusted setting.meaning setting.moment setting.rrsets setting.anchors set → IsLowestOf setting number k found
+  lowest_or_none None none trusted = none_good none
+  lowest_or_none (Some signer) lowest trusted = lowest_trusted signer lowest trusted
 
 -- ---- all RRsets
 

@@ -1,9 +1,11 @@
 -- What has a way in is trusted.
 pub mod FirstLemmas
+pub mod KeptLemmas
 pub mod KeysLemmas
 pub mod RankLemmas
 pub mod ReadLemmas
 pub mod SearchLemmas
+pub mod SetLemmas
 pub mod TrustedLemmas
 use Rattle.std.proofs.Common.{◌≡◌, ℕ, subst}
 use Rattle.dnsv_canonical.specs.Rrsets.{IsNumbered, ReceivedRrset}

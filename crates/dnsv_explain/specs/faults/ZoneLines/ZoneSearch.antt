@@ -3,7 +3,6 @@ use Rattle.std.specs.Prelude.{◌≡◌, ◌↔◌, ◌++◌, ℕ, Bool, true, f
 use Rattle.std.specs.List.{AllByRecursion}
 use Rattle.dnsv_names.specs.Name.{Labels}
 use Rattle.dnsv_records.specs.declared.rrsig.Rrsig.{Rrsig}
-use Rattle.dnsv_digest.specs.Digest.{ds_digest_of}
 use Rattle.dnsv_canonical.specs.Rrsets.{ReceivedRrset}
 use Rattle.dnsv_chain.specs.Trusted.{SignsItsSet}
 use Rattle.dnsv_verifier.specs.Admissible.{DnskeyRecord}
@@ -41,12 +40,6 @@ AreKeysAt rrsets zone keys = (key : DnskeyRecord) → Contains keys key ↔ IsKe
 pub record IsKeyOfAt (zone : Labels) (rrset : ReceivedRrset) (key : DnskeyRecord) : Type 0 where
   pub at : IsKeysAt zone rrset
   pub its : IsKeyOf rrset key
-
--- the key's digests by the digest types that are supported
-pub record AreDigestsOf (key : DnskeyRecord) (by_sha1 by_sha256 by_sha384 : Option (List ℕ)) : Type 0 where
-  pub sha1 : by_sha1 ≡ ds_digest_of 1 key.owner key.rdata
-  pub sha256 : by_sha256 ≡ ds_digest_of 2 key.owner key.rdata
-  pub sha384 : by_sha384 ≡ ds_digest_of 4 key.owner key.rdata
 
 -- one of the keys is such
 pub record HasAmong (Such : DnskeyRecord → Type 0) (keys : List DnskeyRecord) : Type 0 where

@@ -1,5 +1,5 @@
 //! Ways into a DNSKEY RRset by trust anchors.
-ghost use Rattle.std.specs.Prelude.{◌≡◌, IfOk, MatchOption};
+ghost use Rattle.std.specs.Prelude.{MatchOption};
 ghost use Rattle.dnsv_explain.specs.Explained.{setting_in};
 ghost use Rattle.dnsv_explain.specs.derivations.WaySearch.{IsFoundWay, IsKeySet, IsNoWayBefore, IsVoucherOf};
 
@@ -9,25 +9,20 @@ use crate::derivations::ways::matcher::{Matcher, way_with};
 use crate::evidence::Evidence;
 use dnsv_chain::Anchor;
 use dnsv_lines::Voucher;
-use std::alloc::{AllocError, Global};
 
 /// The first way into the DNSKEY RRset by an anchor: by the anchor of lowest number, then by the lowest key.
-pub fn way_by_anchor(
-    alloc: Global,
-    evidence: &Evidence<'_>,
-    set: &KeySet<'_>,
-) -> Result<Option<FoundWay>, AllocError>
+pub fn way_by_anchor(evidence: &Evidence<'_>, set: &KeySet<'_>) -> Option<FoundWay>
     requires { IsKeySet (setting_in evidence.now) set.now }
-    ensures { IfOk result (λ way. MatchOption way (IsNoWayBefore (setting_in evidence.now) set.now.number (1, 0, 0))
-        (IsFoundWay (setting_in evidence.now) set.now.number)) }
+    ensures { MatchOption result (IsNoWayBefore (setting_in evidence.now) set.now.number (1, 0, 0))
+        (IsFoundWay (setting_in evidence.now) set.now.number) }
 {
     for (place, anchor) in evidence.anchors().iter().enumerate() {
         let voucher = voucher_of(place + 1, anchor);
-        if let Some(way) = way_with(alloc, evidence, set, Matcher::Anchor(anchor), voucher)? {
-            return Ok(Some(way));
+        if let Some(way) = way_with(set, Matcher::Anchor(anchor), voucher) {
+            return Some(way);
         }
     }
-    Ok(None)
+    None
 }
 
 /// How the anchor, which has the number, is told.

@@ -56,17 +56,17 @@ fn way_in(
     let values = ds.ds_records();
     let records = in_canonical_order(alloc, ds, values)?;
     for (place, each) in records.iter().enumerate() {
-        let is_usable = is_usable(values, each.record);
-        if !is_usable {
-            continue;
-        }
         let number = RecordNumber {
             rrset: from,
             place: place + 1,
         };
         let matcher = Matcher::Ds(ds.owner(), each.record);
         let voucher = Voucher::Ds(number, each.record.digest_type);
-        if let Some(way) = way_with(alloc, evidence, set, matcher, voucher)? {
+        let Some(way) = way_with(set, matcher, voucher) else {
+            continue;
+        };
+        // Few records match, and each is compared with all of the RRset.
+        if is_usable(values, each.record) {
             return Ok(Some(way));
         }
     }

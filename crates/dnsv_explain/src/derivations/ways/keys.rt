@@ -1,10 +1,11 @@
 //! The keys of a DNSKEY RRset, and the signatures of it that are good under them.
-ghost use Rattle.std.specs.Prelude.{◌≡◌, ℕ, IfOk, IsTrue, MatchOption};
+ghost use Rattle.std.specs.Prelude.{◌≡◌, ℕ, IfOk, MatchOption};
 ghost use Rattle.dnsv_canonical.specs.Rrsets.{IsNumbered};
 ghost use Rattle.dnsv_explain.specs.Explained.{setting_in};
 ghost use Rattle.dnsv_explain.specs.Following.{IsGoodUnder, IsNamed};
-ghost use Rattle.dnsv_explain.specs.derivations.WaySearch.{AreKeysInOrder, IsLowestGood, signature_of};
+ghost use Rattle.dnsv_explain.specs.derivations.WaySearch.{AreKeysInOrder, AreSetKeys, IsLowestGood, IsSetKey, signature_of};
 
+use crate::digested::DigestedKey;
 use crate::evidence::Evidence;
 use dnsv_canonical::{ReadRecord, Rrset, in_canonical_order};
 use dnsv_lines::{KeyName, Todo};
@@ -19,7 +20,24 @@ pub struct KeySet<'a> {
     pub number: usize,
     pub rrset: &'a Rrset<'a>,
     /// Its keys, each RDATA once, in the order of RDATA.
-    pub keys: Vec<KeyRecord<'a>>,
+    pub keys: Vec<SetKey<'a>>,
+}
+
+/// A key of a DNSKEY RRset.
+#[derive(Drop)]
+pub struct SetKey<'a> {
+    pub key: &'a KeyRecord<'a>,
+    /// How it signs the RRset, if it does: only then something has to match it.
+    pub signing: Option<Signing<'a>>,
+}
+
+/// How a key signs its RRset.
+#[derive(Drop)]
+pub struct Signing<'a> {
+    /// The key with its digests.
+    pub digested: DigestedKey<'a>,
+    /// The lowest signature of the RRset that is good under the key.
+    pub signature: GoodSignature,
 }
 
 /// A signature that is good under a key.
@@ -82,22 +100,45 @@ pub fn lowest_good(
     Ok(None)
 }
 
-/// The lowest such signature, if the key is one that matches.
-pub fn lowest_where(
+/// The keys, which are those of the RRset with the number in order, each with how it signs the RRset.
+pub fn set_keys<'a>(
     alloc: Global,
     evidence: &Evidence<'_>,
     number: usize,
     rrset: &Rrset<'_>,
-    key: &KeyRecord<'_>,
-    is_match: bool,
-) -> Result<Option<GoodSignature>, AllocError>
+    keys: &'a [KeyRecord<'a>],
+) -> Result<Vec<SetKey<'a>>, AllocError>
     requires { IsNumbered evidence.now.rrsets number rrset.now }
-    ensures { IfOk result (λ lowest. MatchOption lowest
-        ((s : ℕ) → IsTrue is_match → ¬ IsGoodUnder (setting_in evidence.now) (signature_of number s) rrset.now key.now)
-        (λ found. IsTrue is_match × IsLowestGood (setting_in evidence.now) number rrset.now key.now found)) }
+    ensures { IfOk result (λ made. AreSetKeys (setting_in evidence.now) number rrset.now keys.now made.items) }
 {
-    if !is_match {
-        return Ok(None);
+    let mut made = Vec::new(alloc);
+    for key in keys {
+        made.push(set_key(alloc, evidence, number, rrset, key)?)?;
     }
-    Ok(lowest_good(alloc, evidence, number, rrset, key)?)
+    Ok(made)
+}
+
+/// The key, with how it signs the RRset, which has the number.
+fn set_key<'a>(
+    alloc: Global,
+    evidence: &Evidence<'_>,
+    number: usize,
+    rrset: &Rrset<'_>,
+    key: &'a KeyRecord<'a>,
+) -> Result<SetKey<'a>, AllocError>
+    requires { IsNumbered evidence.now.rrsets number rrset.now }
+    ensures key { IfOk result (λ made. made.key.now ≡ key.now) }
+    ensures signing { IfOk result (IsSetKey (setting_in evidence.now) number rrset.now) }
+{
+    let Some(signature) = lowest_good(alloc, evidence, number, rrset, key)? else {
+        return Ok(SetKey { key, signing: None });
+    };
+    let signing = Signing {
+        digested: DigestedKey::new(key),
+        signature,
+    };
+    Ok(SetKey {
+        key,
+        signing: Some(signing),
+    })
 }

@@ -6,9 +6,9 @@ ghost use Rattle.dnsv_explain.specs.faults.Listing.{AreOfNumbered};
 ghost use Rattle.dnsv_explain.specs.faults.ZoneLines.{AreAnchorWanted, AreAnchorsSaid, AreRecordsOf, AreRecordsSaid, AreSaid, wanted_anchor};
 ghost use Rattle.dnsv_explain.specs.faults.ZoneLines.ZoneSearch.{AddsJudged, AddsMatching, AreJudged, AreKeysAt, HasMatch, IsJudgedAs, wanted_of};
 
+use crate::digested::DigestedKey;
 use crate::evidence::Evidence;
 use crate::faults::keys::are_equal;
-use crate::faults::zones::digested::DigestedKey;
 use crate::faults::zones::lead::Lead;
 use crate::faults::zones::named::word_of;
 use crate::faults::zones::ways::is_ds_way;

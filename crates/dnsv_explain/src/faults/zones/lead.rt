@@ -2,11 +2,10 @@
 ghost use Rattle.std.specs.Prelude.{◌≡◌, ◌↔◌, IfOk, IsTrue};
 ghost use Rattle.dnsv_names.specs.Octets.{number_at};
 ghost use Rattle.dnsv_chain.specs.Ds.{IsIgnored, IsMatch};
-ghost use Rattle.dnsv_explain.specs.Following.{IsNamed};
 ghost use Rattle.dnsv_explain.specs.faults.Entries.{HasTag, HasUnknownDigest, IsIgnoredBeside, IsMatchOf, IsWantedBy, told_entry, wanted_key};
 ghost use Rattle.dnsv_explain.specs.faults.ZoneLines.ZoneSearch.{IsMeant, wanted_of};
 
-use crate::faults::zones::digested::DigestedKey;
+use crate::digested::{DigestedKey, names};
 use dnsv_chain::{goes_before, is_match};
 use dnsv_digest::DigestAlgorithm;
 use dnsv_lines::{Entry, EntryNumber, KeyName};
@@ -150,13 +149,6 @@ fn algorithm_in(rdata: &[u8]) -> u8
         return 0;
     }
     rdata[3]
-}
-
-/// Whether the key has the tag and the algorithm of the DS record.
-pub fn names(ds: &Ds<'_>, key: &KeyRecord<'_>) -> bool
-    ensures { IsTrue result ↔ IsNamed key.now (record { tag = ds.now.key_tag; algorithm = ds.now.algorithm }) }
-{
-    ds.key_tag.0 == key.key_tag().0 && ds.algorithm.0 == key.dnskey().algorithm.0
 }
 
 /// Whether the DS record matches the key, by its own owner.

@@ -3,7 +3,7 @@ ghost use Rattle.std.specs.Prelude.{◌↔◌, IsTrue};
 ghost use Rattle.dnsv_explain.specs.faults.Entries.{HasTag, IsMatchOf, IsWantedBy};
 ghost use Rattle.dnsv_explain.specs.faults.ZoneLines.ZoneSearch.{HasAmong, IsKeyWordBy, IsWordBy, wanted_of};
 
-use crate::faults::zones::digested::DigestedKey;
+use crate::digested::DigestedKey;
 use crate::faults::zones::lead::Lead;
 use dnsv_lines::WhyEntry;
 

@@ -14,5 +14,5 @@ returns c =
     λ table rrsets anchors keys. AreTrustedKeys (table_answer table) table.moment rrsets anchors c.args.zone.now keys in
     let Of : Explained → Type 0 = λ all. Are all.table all.rrsets all.anchors c.keys.result.now in
     has_trusted_keys (setting_in c.args.self.now) c.args.zone.now c.keys.result.now c.is_empty.result
-    (subst Of c.self.view_is (subst (Are _ _ _) (sym c.keys.ensures) (c.self.invariant.keys c.args.zone.now)))
+    (subst Of c.self.view_is (subst (Are _ _ _) (sym c.keys.ensures) (c.self.invariant.trust.keys c.args.zone.now)))
     c.is_empty.ensures

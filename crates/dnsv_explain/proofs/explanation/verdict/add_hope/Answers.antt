@@ -12,23 +12,23 @@ returns-in_default c =
     absurd (has_kind c.args.evidence.now c.args.name.now c.args.rtype.0 (basis_by c.args.hope.now.grounds) c.args.hope.now.verdict
     c.requires.hope.verdict (sym c.kind_of.ensures ∙ c.in_default.is))
 
-pub evidence_of-hoped-requires : goal.evidence_of-hoped-requires
-evidence_of-hoped-requires c = c.requires.hope.trust
+pub evidence_of-bare-requires : goal.evidence_of-bare-requires
+evidence_of-bare-requires c = c.requires.hope.trust
 
 pub add_settled-requires-clause-at : goal.add_settled-requires-clause-at
 add_settled-requires-clause-at c = record {
   trust = c.requires.hope.trust;
-  evidence = todo_same c.args.hope.now.grounds c.evidence_of-hoped.result c.args.unknown.now c.evidence_of-hoped.ensures;
+  evidence = todo_same c.args.hope.now.grounds c.with_ways-hoped.result c.args.unknown.now (c.with_ways-hoped.ensures ∙ c.evidence_of-bare.ensures);
   hashes = c.requires.hashes ∙ ap (λ (each : List ReceivedRrset). hashed_in each c.args.name.now) (sym c.requires.hope.rrsets);
 }
 
 pub add_settled-requires-clause-verdict : goal.add_settled-requires-clause-verdict
 add_settled-requires-clause-verdict c =
-    hope_settled c.args.evidence.now c.evidence_of-hoped.result c.args.grounds.now c.args.hope.now c.args.unknown.now c.args.name.now
-    c.args.rtype.0 c.requires.evidence c.evidence_of-hoped.ensures c.requires.hope
+    hope_settled c.args.evidence.now c.with_ways-hoped.result c.args.grounds.now c.args.hope.now c.args.unknown.now c.args.name.now
+    c.args.rtype.0 c.requires.evidence (c.with_ways-hoped.ensures ∙ c.evidence_of-bare.ensures) c.requires.hope
 
 pub returns : goal.returns
 returns c =
-    hope_told c.args.evidence.now c.evidence_of-hoped.result c.args.grounds.now c.args.hope.now c.args.unknown.now c.args.name.now
-    c.args.rtype.0 c.requires.evidence c.evidence_of-hoped.ensures c.requires.hope c.in-Some.kind c.args.lines.now.items _ _
+    hope_told c.args.evidence.now c.with_ways-hoped.result c.args.grounds.now c.args.hope.now c.args.unknown.now c.args.name.now
+    c.args.rtype.0 c.requires.evidence (c.with_ways-hoped.ensures ∙ c.evidence_of-bare.ensures) c.requires.hope c.in-Some.kind c.args.lines.now.items _ _
     (sym c.kind_of.ensures ∙ c.in-Some.is) c.in_ok-push.ensures.items c.in_ok-add_settled.ensures

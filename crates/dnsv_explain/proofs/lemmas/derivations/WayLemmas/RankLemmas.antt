@@ -1,9 +1,8 @@
 -- How the first way into a DNSKEY RRset is found: anchors and DS records in their order.
-use Rattle.std.proofs.Common.{◌≡◌, ◌<◌, ◌≤◌, ◌↔◌, ◌+◌, ◌-◌, ◌⊎◌, inl, inr, ℕ, List, [], ◌∷◌, Some, Bool, length, map, get_or, refl, sym, ap, ◌∙◌, subst, ⊎_elim, arith}
+use Rattle.std.proofs.Common.{◌≡◌, ◌<◌, ◌≤◌, ◌↔◌, ◌+◌, ◌-◌, ◌⊎◌, inl, inr, ℕ, List, [], ◌∷◌, Some, length, map, get_or, refl, sym, ap, ◌∙◌, subst, ⊎_elim, arith}
 use Rattle.std.proofs.lemmas.Bool.{cases_lt}
 use Rattle.std.proofs.lemmas.Option.{get_or_from_slice_get, slice_get_within}
 use Rattle.std.specs.List.{AllZip, Contains, slice_get}
-use Rattle.std.specs.Prelude.{IsTrue}
 use Rattle.dnsv_names.specs.Name.{Labels, SameName}
 use Rattle.dnsv_records.proofs.OneRecord.{one_ds}
 use Rattle.dnsv_records.specs.Ds.{IsDs}
@@ -365,11 +364,11 @@ module _ (setting : Setting) (k : ℕ) (set : ReceivedRrset) (is_set : IsNumbere
       (cases_lt other (place + 1)))
       (record_less setting k rrset other from (place + 1 + 1) less))
 
-  pub record_passed : (place : ℕ) (each : Ds) (is_usable : Bool) → RecordAt place each → (IsTrue is_usable ↔ IsUsable values each)
-      → (IsTrue is_usable → IsNoneUnder setting k set (IsMatch ds.owner each))
+  pub record_passed : (place : ℕ) (each : Ds) → RecordAt place each
+      → (IsUsable values each → IsNoneUnder setting k set (IsMatch ds.owner each))
       → IsNoWayBefore setting k (1, from, place + 1) → IsNoWayBefore setting k (1, from, place + 1 + 1)
-  record_passed place each is_usable at test under none =
-      none_at place each at (λ way is usable matching. none_by setting k set is_set (IsMatch ds.owner each) (under (test.1 usable)) way is matching) none
+  record_passed place each at under none =
+      none_at place each at (λ way is usable matching. none_by setting k set is_set (IsMatch ds.owner each) (under usable) way is matching) none
 
   pub places_end : (n : ℕ) → length canonical ≤ n → IsNoWayBefore setting k (1, from, n + 1) → IsNoWayBefore setting k (1, from + 1, 0)
   places_end n past none = records_then setting k from (n + 1) (from + 1) 0 none (λ way rrset other is by before less.

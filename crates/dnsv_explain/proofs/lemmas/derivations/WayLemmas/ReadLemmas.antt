@@ -42,15 +42,14 @@ module _ {X : Type 0} (rdata : X → List ℕ) (record_of : X → Ds)
       → (IsTrue is_usable ↔ IsUsable values (record_of x)) → is_usable ≡ false → NoneTo place → NoneTo (place + 1)
   unusable_passed place x is_usable within at test unusable none =
       record_passed setting k set is_set from ds is_ds may.rtype (map rdata records) canonical values its_values place (record_of x)
-      is_usable (there place x within at) test (λ usable. absurd (false≢true (sym unusable ∙ usable))) none
+      (there place x within at) (λ usable. absurd (false≢true (sym unusable ∙ test.1 usable))) none
 
-  pub unmatched_passed : (place : ℕ) (x : X) (is_usable : Bool) (owner : Labels) → place < length items → x ≡ get_or items place x
-      → (IsTrue is_usable ↔ IsUsable values (record_of x)) → owner ≡ ds.owner
-      → IsNoneUnder setting k set (IsMatch owner (record_of x)) → NoneTo place → NoneTo (place + 1)
-  unmatched_passed place x is_usable owner within at test its under none =
+  pub unmatched_passed : (place : ℕ) (x : X) (owner : Labels) → place < length items → x ≡ get_or items place x
+      → owner ≡ ds.owner → IsNoneUnder setting k set (IsMatch owner (record_of x)) → NoneTo place → NoneTo (place + 1)
+  unmatched_passed place x owner within at its under none =
       let Under : Labels → Type 0 = λ each. IsNoneUnder setting k set (IsMatch each (record_of x)) in
       record_passed setting k set is_set from ds is_ds may.rtype (map rdata records) canonical values its_values place (record_of x)
-      is_usable (there place x within at) test (λ usable. subst Under its under) none
+      (there place x within at) (λ usable. subst Under its under) none
 
   pub found_by : (place : ℕ) (x : X) (is_usable : Bool) (owner : Labels) (found : FoundWay) → place < length items
       → x ≡ get_or items place x → (IsTrue is_usable ↔ IsUsable values (record_of x)) → IsTrue is_usable → owner ≡ ds.owner

@@ -1,5 +1,5 @@
 -- How the first way into a DNSKEY RRset is found: signatures and keys.
-use Rattle.std.proofs.Common.{◌≡◌, ◌≢◌, ◌<◌, ◌≤◌, ◌+◌, ◌-◌, ℕ, List, [], Bool, length, map, get_or, refl, sym, ap, ◌∙◌, subst, ⊎_elim, arith}
+use Rattle.std.proofs.Common.{◌≡◌, ◌≢◌, ◌<◌, ◌≤◌, ◌+◌, ◌-◌, ℕ, List, [], length, map, get_or, refl, sym, ap, ◌∙◌, subst, ⊎_elim, arith}
 use Rattle.std.proofs.lemmas.Bool.{cases_lt}
 use Rattle.std.proofs.lemmas.Cmp.{nat_list_cmp_total, tied_itself}
 use Rattle.std.proofs.lemmas.List.{get_or-map, get_or_default, length-map}
@@ -7,7 +7,6 @@ use Rattle.std.proofs.lemmas.List.Elements.{Contains-get_or}
 use Rattle.std.proofs.lemmas.Map.Keys.{Less-from_sorted}
 use Rattle.std.proofs.lemmas.Option.{slice_get_within, slice_get-get_or, get_or_from_slice_get}
 use Rattle.std.specs.List.{AllZip, Contains, slice_get}
-use Rattle.std.specs.Prelude.{◌↔◌, IsTrue}
 use Rattle.std.specs.List.Sorted.{IsStrictlySortedBy}
 use Rattle.std.specs.declared.cmp.Ordering.TheVariants.{Less, Equal}
 use Rattle.dnsv_records.proofs.OneRecord.{one_dnskey, one_rrsig}
@@ -188,11 +187,10 @@ module _ (setting : Setting) (k : ℕ) (set : ReceivedRrset) (keys : List Dnskey
   abbrev Such : DnskeyRecord → Type 0
   Such = SignsAs setting k set Matches
 
-  pub way_not_by : (i : ℕ) (key : DnskeyRecord) (is_match : Bool) → key ≡ get_or keys i key → (IsTrue is_match ↔ Matches key)
-      → ((s : ℕ) → IsTrue is_match → ¬ IsGoodUnder setting (signature_of k s) set key)
+  pub way_not_by : (i : ℕ) (key : DnskeyRecord) → key ≡ get_or keys i key
+      → ((s : ℕ) → Matches key → ¬ IsGoodUnder setting (signature_of k s) set key)
       → IsNoneYet keys Such i → IsNoneYet keys Such (i + 1)
-  way_not_by i key is_match at test never none =
-      none_more set keys in_order Such i key at (λ such. never such.0 (test.1 such.1) such.2) none
+  way_not_by i key at never none = none_more set keys in_order Such i key at (λ such. never such.0 such.1 such.2) none
 
   pub way_under : (i : ℕ) (key : DnskeyRecord) (voucher : Voucher) (name : KeyName) (s : GoodSignature) → i < length keys → key ≡ get_or keys i key
       → IsNoneYet keys Such i → Matches key → IsNamed key name → IsLowestGood setting k set key s

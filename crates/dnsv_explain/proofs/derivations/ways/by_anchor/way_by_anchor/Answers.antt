@@ -12,14 +12,14 @@ pub loop-place-preserved : goal.loop-place-preserved
 loop-place-preserved c =
     anchors_more (setting_in c.args.evidence.now) c.args.set.now.number c.args.set.now.rrset.now c.requires.numbered (c.loop-place.place + 1) c.anchor-item.result
     (numbered_at c.args.evidence.now.anchors c.anchors-anchor-items.result.now c.loop-place.place c.anchor-item.result
-    c.anchors-anchor-items.ensures c.loop-place-test.true c.anchor-item.is) c.loop-place.invariant (MatchOption-at_none _ _ c.in_default.is c.in_ok-way.ensures)
+    c.anchors-anchor-items.ensures c.loop-place-test.true c.anchor-item.is) c.loop-place.invariant (MatchOption-at_none _ _ c.in_default.is (c.way_with.ensures (setting_in c.args.evidence.now) c.requires))
 
 pub returns-in-Some : goal.returns-in-Some
 returns-in-Some c =
     anchor_found (setting_in c.args.evidence.now) c.args.set.now.number c.args.set.now.rrset.now c.requires.numbered (c.loop-place.place + 1) c.anchor-item.result
     c.voucher_of-voucher.result c.in-Some.way
     (numbered_at c.args.evidence.now.anchors c.anchors-anchor-items.result.now c.loop-place.place c.anchor-item.result
-    c.anchors-anchor-items.ensures c.loop-place-test.true c.anchor-item.is) c.voucher_of-voucher.ensures c.loop-place.invariant (MatchOption-at_some _ _ c.in-Some.way c.in-Some.is c.in_ok-way.ensures)
+    c.anchors-anchor-items.ensures c.loop-place-test.true c.anchor-item.is) c.voucher_of-voucher.ensures c.loop-place.invariant (MatchOption-at_some _ _ c.in-Some.way c.in-Some.is (c.way_with.ensures (setting_in c.args.evidence.now) c.requires))
 
 pub returns : goal.returns
 returns c =

@@ -20,36 +20,37 @@ returns-then-not-may_delegate c =
 pub loop-place-init : goal.loop-place-init
 loop-place-init c = places_begin (setting_in c.args.evidence.now) c.args.set.now.number c.args.from c.requires.before
 
-pub loop-place-preserved-then-not-is_usable : goal.loop-place-preserved-then-not-is_usable
-loop-place-preserved-then-not-is_usable c =
-    unusable_passed (λ each. each.rdata.now) (λ each. each.record.now) (setting_in c.args.evidence.now)
-    c.args.set.now.number c.args.set.now.rrset.now c.requires.set.numbered c.args.from c.args.ds.now c.requires.ds
-    (c.may_delegate.ensures.0 c.if-not-may_delegate.false) c.ds_records-values.result.now c.ds_records-values.ensures
-    c.in_ok-records.records.items c.deref-each-items.result.now c.deref-each-items.ensures.value
-    c.in_ok-records.ensures.order c.in_ok-records.ensures.read
-    c.loop-place.place c.each-item.result c.is_usable-is_usable.result c.loop-place-test.true c.each-item.is
-    c.is_usable-is_usable.ensures c.if-not-is_usable.true c.loop-place.invariant
-
-pub loop-place-preserved : goal.loop-place-preserved
-loop-place-preserved c =
+pub loop-place-preserved-in_default : goal.loop-place-preserved-in_default
+loop-place-preserved-in_default c =
     unmatched_passed (λ each. each.rdata.now) (λ each. each.record.now) (setting_in c.args.evidence.now)
     c.args.set.now.number c.args.set.now.rrset.now c.requires.set.numbered c.args.from c.args.ds.now c.requires.ds
     (c.may_delegate.ensures.0 c.if-not-may_delegate.false) c.ds_records-values.result.now c.ds_records-values.ensures
     c.in_ok-records.records.items c.deref-each-items.result.now c.deref-each-items.ensures.value
     c.in_ok-records.ensures.order c.in_ok-records.ensures.read
-    c.loop-place.place c.each-item.result c.is_usable-is_usable.result c.owner-in-loop-place.result.now c.loop-place-test.true c.each-item.is
-    c.is_usable-is_usable.ensures c.owner-in-loop-place.ensures (MatchOption-at_none _ _ c.in_default.is c.in_ok-way.ensures) c.loop-place.invariant
+    c.loop-place.place c.each-item.result c.owner-in-loop-place.result.now c.loop-place-test.true c.each-item.is
+    c.owner-in-loop-place.ensures
+    (MatchOption-at_none _ _ c.in_default.is (c.way_with.ensures (setting_in c.args.evidence.now) c.requires.set)) c.loop-place.invariant
 
-pub returns-in-Some : goal.returns-in-Some
-returns-in-Some c =
+pub loop-place-preserved : goal.loop-place-preserved
+loop-place-preserved c =
+    unusable_passed (λ each. each.rdata.now) (λ each. each.record.now) (setting_in c.args.evidence.now)
+    c.args.set.now.number c.args.set.now.rrset.now c.requires.set.numbered c.args.from c.args.ds.now c.requires.ds
+    (c.may_delegate.ensures.0 c.if-not-may_delegate.false) c.ds_records-values.result.now c.ds_records-values.ensures
+    c.in_ok-records.records.items c.deref-each-items.result.now c.deref-each-items.ensures.value
+    c.in_ok-records.ensures.order c.in_ok-records.ensures.read
+    c.loop-place.place c.each-item.result c.is_usable.result c.loop-place-test.true c.each-item.is
+    c.is_usable.ensures c.if-is_usable.false c.loop-place.invariant
+
+pub returns-then-is_usable : goal.returns-then-is_usable
+returns-then-is_usable c =
     found_by (λ each. each.rdata.now) (λ each. each.record.now) (setting_in c.args.evidence.now)
     c.args.set.now.number c.args.set.now.rrset.now c.requires.set.numbered c.args.from c.args.ds.now c.requires.ds
     (c.may_delegate.ensures.0 c.if-not-may_delegate.false) c.ds_records-values.result.now c.ds_records-values.ensures
     c.in_ok-records.records.items c.deref-each-items.result.now c.deref-each-items.ensures.value
     c.in_ok-records.ensures.order c.in_ok-records.ensures.read
-    c.loop-place.place c.each-item.result c.is_usable-is_usable.result c.owner-in-loop-place.result.now c.in-Some.way c.loop-place-test.true c.each-item.is
-    c.is_usable-is_usable.ensures c.if-not-is_usable.false c.owner-in-loop-place.ensures c.loop-place.invariant
-    (MatchOption-at_some _ _ c.in-Some.way c.in-Some.is c.in_ok-way.ensures)
+    c.loop-place.place c.each-item.result c.is_usable.result c.owner-in-loop-place.result.now c.in-Some.way c.loop-place-test.true c.each-item.is
+    c.is_usable.ensures c.if-is_usable.true c.owner-in-loop-place.ensures c.loop-place.invariant
+    (MatchOption-at_some _ _ c.in-Some.way c.in-Some.is (c.way_with.ensures (setting_in c.args.evidence.now) c.requires.set))
 
 pub returns : goal.returns
 returns c =

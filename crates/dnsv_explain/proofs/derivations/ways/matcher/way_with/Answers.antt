@@ -1,39 +1,36 @@
 use Rattle.std.proofs.lemmas.Option.{MatchOption-at_none, MatchOption-at_some}
-use Rattle.dnsv_explain.specs.Explained.{setting_in}
-use Rattle.dnsv_explain.proofs.lemmas.derivations.WayLemmas.SearchLemmas.{none_of_all, none_yet, same_keys, way_not_by, way_under}
-use Rattle.dnsv_explain.specs.derivations.WaySearch.{MatchesBy, SignsAs}
+use Rattle.dnsv_explain.specs.derivations.WaySearch.{MatchesBy}
+use Rattle.dnsv_explain.proofs.lemmas.derivations.WayLemmas.SetLemmas.{set_begin, set_found, set_key_at, set_more, set_none}
 use Rattle.dnsv_explain.proofs.derivations.ways.matcher.way_with.Goals as goal
 
-pub loop-key-init : goal.loop-key-init
-loop-key-init c =
-    let set = c.args.set.now in
-    let keys = c.deref-key-items.result.now in
-    none_yet set.rrset.now keys (same_keys set.rrset.now set.keys.items keys c.deref-key-items.ensures.value c.requires.in_order)
-    (SignsAs (setting_in c.args.evidence.now) set.number set.rrset.now (MatchesBy c.args.matcher))
+pub loop-each-init : goal.loop-each-init
+loop-each-init c = λ setting is.
+    set_begin setting c.args.set.now is c.deref-each-items.result.now c.deref-each-items.ensures.value (MatchesBy c.args.matcher)
 
-pub loop-key-preserved : goal.loop-key-preserved
-loop-key-preserved c =
+pub loop-each-preserved : goal.loop-each-preserved
+loop-each-preserved c = λ setting is.
     let set = c.args.set.now in
-    let keys = c.deref-key-items.result.now in
-    way_not_by (setting_in c.args.evidence.now) set.number set.rrset.now keys
-    (same_keys set.rrset.now set.keys.items keys c.deref-key-items.ensures.value c.requires.in_order) (MatchesBy c.args.matcher)
-    c.loop-key.key-index c.key-item.result c.is_match-is_match.result c.key-item.is c.is_match-is_match.ensures
-    (MatchOption-at_none _ _ c.in_default.is c.in_ok-signature.ensures) c.loop-key.invariant
+    let items = c.deref-each-items.result.now in
+    let x = c.each-item.result in
+    let its = set_key_at setting set is items c.deref-each-items.ensures.value (MatchesBy c.args.matcher) c.loop-each.each-index x
+    c.loop-each-test.true c.each-item.is in
+    set_more setting set is items c.deref-each-items.ensures.value (MatchesBy c.args.matcher) c.loop-each.each-index x
+    c.loop-each-test.true c.each-item.is
+    (MatchOption-at_none _ _ c.in_default.is (c.signature_where.ensures setting set.number set.rrset.now its)) (c.loop-each.invariant setting is)
 
 pub returns-in-Some : goal.returns-in-Some
-returns-in-Some c =
+returns-in-Some c = λ setting is.
     let set = c.args.set.now in
-    let keys = c.deref-key-items.result.now in
-    let found = MatchOption-at_some _ _ c.in-Some.signature c.in-Some.is c.in_ok-signature.ensures in
-    way_under (setting_in c.args.evidence.now) set.number set.rrset.now keys
-    (same_keys set.rrset.now set.keys.items keys c.deref-key-items.ensures.value c.requires.in_order) (MatchesBy c.args.matcher)
-    c.loop-key.key-index c.key-item.result c.args.voucher c.key_name.result c.in-Some.signature c.loop-key-test.true c.key-item.is
-    c.loop-key.invariant (c.is_match-is_match.ensures.0 found.0) c.key_name.ensures found.1
+    let items = c.deref-each-items.result.now in
+    let x = c.each-item.result in
+    let its = set_key_at setting set is items c.deref-each-items.ensures.value (MatchesBy c.args.matcher) c.loop-each.each-index x
+    c.loop-each-test.true c.each-item.is in
+    set_found setting set is items c.deref-each-items.ensures.value (MatchesBy c.args.matcher) c.loop-each.each-index x
+    c.args.voucher c.key_name.result c.in-Some.signature c.loop-each-test.true c.each-item.is (c.loop-each.invariant setting is)
+    c.key_name.ensures
+    (MatchOption-at_some _ _ c.in-Some.signature c.in-Some.is (c.signature_where.ensures setting set.number set.rrset.now its))
 
 pub returns : goal.returns
-returns c =
-    let set = c.args.set.now in
-    let keys = c.deref-key-items.result.now in
-    none_of_all set.rrset.now keys (same_keys set.rrset.now set.keys.items keys c.deref-key-items.ensures.value c.requires.in_order)
-    (SignsAs (setting_in c.args.evidence.now) set.number set.rrset.now (MatchesBy c.args.matcher))
-    c.loop-key.key-index c.loop-key-test.false c.loop-key.invariant
+returns c = λ setting is.
+    set_none setting c.args.set.now is c.deref-each-items.result.now c.deref-each-items.ensures.value (MatchesBy c.args.matcher)
+    c.loop-each.each-index c.loop-each-test.false (c.loop-each.invariant setting is)

@@ -6,5 +6,5 @@ use Rattle.dnsv_explain.proofs.derivations.ways.matcher.Matcher.is_match.Goals a
 
 pub returns-in-Ds : goal.returns-in-Ds
 returns-in-Ds c =
-    let By : Matcher → Type 0 = λ each. IsTrue c.is_match-in-Ds.result ↔ MatchesBy each c.args.key.now in
-    subst By (sym c.in-Ds.is) c.is_match-in-Ds.ensures
+    let By : Matcher → Type 0 = λ each. IsTrue c.is_ds_match.result ↔ MatchesBy each c.args.key.now in
+    subst By (sym c.in-Ds.is) c.is_ds_match.ensures

@@ -2,8 +2,8 @@
 ghost use Rattle.std.specs.Prelude.{◌≡◌, ◌↔◌, IfOk, IsTrue, Some};
 ghost use Rattle.dnsv_chain.specs.Ds.{HasDigestOf, IsMatch};
 ghost use Rattle.dnsv_digest.specs.Digest.{ds_digest_of};
+ghost use Rattle.dnsv_explain.specs.Following.{IsNamed};
 
-use crate::faults::zones::lead::names;
 use dnsv_digest::{Digest, DigestAlgorithm, ds_digest};
 use dnsv_records::Ds;
 use dnsv_verifier::KeyRecord;
@@ -22,7 +22,7 @@ pub struct DigestedKey<'a> {
 
 impl<'a> Model for DigestedKey<'a> {
     ghost use Rattle.dnsv_verifier.specs.Admissible.{DnskeyRecord};
-    ghost use Rattle.dnsv_explain.specs.faults.ZoneLines.ZoneSearch.{AreDigestsOf};
+    ghost use Rattle.dnsv_explain.specs.Digests.{AreDigestsOf};
 
     ghost Value = { DnskeyRecord };
 
@@ -100,4 +100,11 @@ fn is_digest(digest: &Option<Digest>, ds: &Ds<'_>) -> bool
         Some(digest) => digest.octets() == ds.digest.as_slice(),
         None => false,
     }
+}
+
+/// Whether the key has the tag and the algorithm of the DS record.
+pub fn names(ds: &Ds<'_>, key: &KeyRecord<'_>) -> bool
+    ensures { IsTrue result ↔ IsNamed key.now (record { tag = ds.now.key_tag; algorithm = ds.now.algorithm }) }
+{
+    ds.key_tag.0 == key.key_tag().0 && ds.algorithm.0 == key.dnskey().algorithm.0
 }

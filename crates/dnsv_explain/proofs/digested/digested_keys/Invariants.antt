@@ -1,5 +1,5 @@
 use Rattle.std.proofs.Common.{◌≡◌, take}
-use Rattle.dnsv_explain.proofs.faults.zones.digested.digested_keys.Given as goal
+use Rattle.dnsv_explain.proofs.digested.digested_keys.Given as goal
 
 -- the keys so far
 abbrev pub invariant-loop-key : goal.invariant-loop-key
