@@ -3,15 +3,18 @@ those that are changed."""
 
 from __future__ import annotations
 
+import math
 import random
+import time
 from dataclasses import dataclass, field
-from typing import Iterator, Optional
+from typing import Callable, Iterator, Optional
 
 from .changes import Draw, Source, changed
 from .faults import Fault, shrunk, tried
 from .limits import processor_seconds
 from .target import Desk, Target
 
+Report = Callable[[Fault, bytes], None]
 # Of more that end in ways of their own no more are kept, nor of a kind of fault.
 KEPT_MOST = 4000
 KINDS_MOST = 20
@@ -31,19 +34,21 @@ class Tally:
 class Loop:
     """The inputs of a target and what came of them."""
 
-    def __init__(self, target: Target, seed: str, desk: Desk) -> None:
-        self.target, self.desk, self.tally = target, desk, Tally()
+    def __init__(self, target: Target, seed: str, desk: Desk, report: Report = lambda *_: None) -> None:
+        """Each kind of fault is reported as soon as it's met."""
+        self.target, self.desk, self.tally, self.report = target, desk, Tally(), report
         self.draw = random.Random(f"{target.name} {seed}")
         self.inputs = target.inputs()
         self.refused: list[bytes] = []
         self.source = Source(self.inputs, target.words, target.parts)
 
-    def run(self, seconds: float) -> Tally:
-        """The corpus as it is, and then what is made of it."""
-        end = processor_seconds() + seconds
+    def run(self, seconds: float, clock: float = math.inf) -> Tally:
+        """The corpus as it is, and then what is made of it, for so many seconds of a processor and no more by the
+        clock."""
+        end, last = processor_seconds() + seconds, time.monotonic() + clock
         for octets in self.drawn(len(self.inputs)):
             self.take(octets)
-            if processor_seconds() >= end or len(self.tally.faults) >= KINDS_MOST:
+            if processor_seconds() >= end or time.monotonic() >= last or len(self.tally.faults) >= KINDS_MOST:
                 break
         return self.tally
 
@@ -77,3 +82,4 @@ class Loop:
             self.desk.taken = 0
             again: Optional[Fault] = tried(self.target, smaller, self.desk)[1]
             self.tally.faults[fault.kind] = again or fault, smaller
+            self.report(again or fault, smaller)
