@@ -5,6 +5,7 @@ from . import denials, files, keys, signatures
 SHAPES = {
     "long-data": (signatures.long_data, 24),
     "pairs": (signatures.pairs, 240),
+    "exponents": (signatures.exponents, 1),
     "digests": (keys.digests, 16),
     "alike": (keys.alike, 16),
     "expanded-nsec": (denials.expanded_nsec, 4),
