@@ -1,4 +1,4 @@
-"""Programs that a tool runs by the thousand: begun by one call of the system, with what they write in files that have no
+"""Programs that a tool runs by the thousand: begun by one call of the system, with what they write in files without a
 name."""
 import contextlib
 import fcntl
