@@ -40,6 +40,7 @@ __all__ = [
     "record",
     "response",
     "rrsig",
+    "rrsig_of",
     "twin_key",
     "zone_key",
 ]
@@ -65,9 +66,9 @@ def response(number: int, asked: bytes, *sections: list[bytes]) -> bytes:
     return framed([header(number, [1, *counts]) + question(asked) + records])
 
 
-def twin_key(number: int, total: int, front: bytes = b"", back: bytes = b"") -> bytes:
+def twin_key(number: int, total: int, front: bytes = b"", back: bytes = b"", algorithm: int = ALGORITHM) -> bytes:
     """A key. Those of one total have one tag, since two of their numbers of 16 bits sum up to it."""
-    return dnskey(257, front + struct.pack("!HH", number, total - number) + back)
+    return dnskey(257, front + struct.pack("!HH", number, total - number) + back, algorithm)
 
 
 def zone_key(number: int, flags: int) -> bytes:

@@ -5,6 +5,7 @@ from . import denials, derivations, files, keys, signatures
 SHAPES = {
     "long-data": (signatures.long_data, 24),
     "pairs": (signatures.pairs, 240),
+    "exponents": (signatures.exponents, 1),
     "digests": (keys.digests, 16),
     "alike": (keys.alike, 16),
     "key-sets": (derivations.key_sets, 16),

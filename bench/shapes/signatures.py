@@ -5,7 +5,22 @@ from __future__ import annotations
 import random
 from typing import Iterable
 
-from wire import A, DNSKEY, QUESTION, RRSIG, TXT, ZONE, key_tag, label, label_count, record, response, rrsig, twin_key
+from wire import (
+    A,
+    DNSKEY,
+    QUESTION,
+    RRSIG,
+    TXT,
+    ZONE,
+    key_tag,
+    label,
+    label_count,
+    record,
+    response,
+    rrsig,
+    rrsig_of,
+    twin_key,
+)
 
 from .shape import Shape
 
@@ -13,6 +28,7 @@ EACH = 16  # the most keys, and the most signatures, that an RRset may have
 TOTAL, FRONT = 65_000, bytes(60)
 TAG = key_tag(twin_key(0, TOTAL, FRONT))
 LONG_TEXT = (b"\xff" + bytes(255)) * 223
+SIGNATURES_BY_RSA, RSA_SHA256 = 5, 8
 LONG_ZONE = label(b"z" * 63) * 3 + label(b"z" * 30) + ZONE
 
 
@@ -40,6 +56,33 @@ def long_data(keys: int) -> Shape:
     parts += [signed(draw, number, ZONE, TXT, LONG_TEXT) for number in range(rrsets)]
     capture = [response(number, ZONE, part) for number, part in enumerate(parts)]
     return Shape({"capture": capture, "anchors": []}, pairs=keys * rrsets * EACH)
+
+
+def exponents(messages: int) -> Shape:
+    """So many messages, each with 16 RSA keys of one tag, whose moduli and exponents have 4,096 bits, and five
+    signatures of an RRset of its own, which each key may have made. Nothing is said of any signature, and there is no
+    anchor."""
+    draw, capture = random.Random(20261125), []
+    modulus, exponent = b"\xff" + draw.randbytes(506), b"\xbf" + draw.randbytes(510) + b"\x01"
+    lengthy = b"\x00" + len(exponent).to_bytes(2, "big") + exponent + modulus  # RFC 3110 2
+    for number in range(messages):
+        rdata = [twin_key(each, TOTAL, lengthy, b"\x01", RSA_SHA256) for each in in_message(number)]
+        owner, tag = label(b"h%d" % number) + QUESTION, key_tag(rdata[0])
+        made = [rsa_signature(draw, A, tag) for _ in range(SIGNATURES_BY_RSA)]
+        records = [*(record(QUESTION, DNSKEY, each) for each in rdata), record(owner, A, bytes(4))]
+        capture.append(response(number, ZONE, records + [record(owner, RRSIG, each) for each in made]))
+    pairs_of_all = EACH * messages * SIGNATURES_BY_RSA * messages
+    return Shape({"capture": capture, "anchors": []}, pairs=pairs_of_all)
+
+
+def in_message(number: int) -> range:
+    return range(EACH * number, EACH * number + EACH)
+
+
+def rsa_signature(draw: random.Random, rtype: int, tag: int) -> bytes:
+    """One of 4,096 bits, of a name of three labels, that is below each modulus."""
+    octets = b"\x00" + draw.randbytes(511)
+    return rrsig_of(rtype, 3, ZONE, tag, octets, algorithm=RSA_SHA256)
 
 
 def pairs(size: int) -> Shape:

@@ -2,6 +2,7 @@
 
 from __future__ import annotations
 
+import os
 from dataclasses import dataclass
 from pathlib import Path
 
@@ -34,6 +35,9 @@ OF_TESTS = (
 )
 # What the linters read of other packages is there when they look.
 OF_LINT = ("black", "mypy", "pylint", *OF_TOOLS, "python3-jinja2", "python3-rich")
+# What the readers take that tools/fuzz tries: a minute of a processor each, or as FUZZ_SECONDS says; of a few a third.
+FUZZ_SECONDS, FUZZ_SEED = int(os.environ.get("FUZZ_SECONDS", "60")), "1"
+OF_FEW_LINES = ("questions", "records")
 # The tests that take longest.
 LONG = ("tests/judge", "tests/program")
 
@@ -73,13 +77,22 @@ def of_loans(crate: str) -> Guard:
     return Guard(f"does-not-compile/{crate}", ("tools/does-not-compile", crate), kit=("rattle",))
 
 
+def of_fuzz(target: str) -> Guard:
+    """A reader of the tools, tried on the inputs that one seed makes."""
+    seconds = FUZZ_SECONDS // 3 if target in OF_FEW_LINES else FUZZ_SECONDS
+    words = ("tools/fuzz", target, "--seconds", str(seconds), "--seed", FUZZ_SEED)
+    return Guard(f"fuzz/{target}", words, packages=(*OF_TOOLS, "python3-zstandard"), built=(PROGRAM,))
+
+
 def guards() -> list[Guard]:
     """All but the gate. Those that take long come first, so that none of them is left for the end."""
     folders = [TESTS, *sorted(folder.parent for folder in TESTS.glob("*/__init__.py"))]
+    fuzzed = sorted(file.stem for file in (TREE / "tools" / "fuzzing" / "targets").glob("[a-z]*.py"))
     crates = sorted(folder.parent.name for folder in (TREE / "crates").glob("*/does-not-compile"))
     return [
         *sorted(map(of_tests, folders), key=lambda guard: guard.name not in LONG),
         Guard("faults", ("tools/faults",), packages=("gcc", "libc6-dev"), built=(PROGRAM, ROWS)),
+        *map(of_fuzz, fuzzed),
         *map(of_loans, crates),
         Guard("lint", ("tools/lint",), packages=OF_LINT),
         Guard("examples", ("tools/examples",), built=(PROGRAM,)),

@@ -5,13 +5,13 @@ import os
 import pathlib
 import shutil
 import signal
-import subprocess
 from dataclasses import dataclass
-from typing import Any, Dict, Iterable, List, NamedTuple, Optional, Sequence
+from typing import Any, Dict, List, NamedTuple, Optional
 
 from .asking.faults import Failure
 from .asking.questions import Question
 from .listed import Listed
+from .started import Process, content_of, nameless
 
 NAME = "dnssec_check"
 PACKAGE = pathlib.Path(__file__).resolve().parent
@@ -27,6 +27,7 @@ LIST, CHECK, EXPLAIN = "list", "check", "explain"
 OPEN = "/proc/self/fd"  # where a process finds the files that it has open
 
 Json = Dict[str, Any]
+Files = Dict[str, int]
 
 
 class Run(NamedTuple):
@@ -57,49 +58,36 @@ class Unlisted(Exception):
 
 @dataclass(frozen=True)
 class Program:
-    """The program by its path. It's run in a folder, whose files have the names of the options that name them."""
+    """The program by its path. What it reads is open here: files by the options that name them, each by its number."""
 
     path: str
 
-    def run(self, words: List[str], folder: str, kept: Sequence[int] = ()) -> Run:
-        """A run to which the files that are open under these numbers are kept open."""
+    def run(self, words: List[str], files: Files) -> Run:
         try:
-            done = subprocess.run(
-                [self.path, *words],
-                cwd=folder,
-                stdin=subprocess.DEVNULL,
-                capture_output=True,
-                check=False,
-                pass_fds=kept,
-            )
+            return self.ended([self.path, *words], files)
         except OSError as fault:
             raise Failure(f"{self.path}: {fault.strerror}") from fault
-        return Run(done.returncode, done.stdout.decode(), done.stderr.decode("utf-8", "replace"))
 
-    def listed(self, folder: str, moment: int, most: int) -> Listed:
+    @staticmethod
+    def ended(command: List[str], files: Files) -> Run:
+        with nameless() as output, nameless() as errors:
+            with Process(command, output.fileno(), errors.fileno(), files.values()) as process:
+                status = process.wait()
+            return Run(status, content_of(output).decode(), content_of(errors).decode("utf-8", "replace"))
+
+    def listed(self, capture: int, moment: int, most: int) -> Listed:
         """The lines that a verifier has to answer at the moment, of which so many octets are read."""
-        return Listed([self.path, LIST, *named(["capture"]), f"--moment={moment}"], folder, "capture", most)
+        return Listed([self.path, LIST, *named({"capture": capture}), f"--moment={moment}"], capture, most)
 
-    def told(
-        self,
-        subcommand: str,
-        folder: str,
-        files: Iterable[str],
-        moment: int,
-        question: Question,
-        keys: Optional[int] = None,
-    ) -> Told:
-        """What CHECK or EXPLAIN says of the question; the folder has these files, and the keys of TSIG are open under
-        a number, where there are some."""
+    def told(self, subcommand: str, files: Files, moment: int, question: Question) -> Told:
+        """What CHECK or EXPLAIN says of the question."""
         name, kind = f"--name={question.name[:NAME_MOST]}", f"--type={question.kind}"
-        kept = [] if keys is None else [keys]
-        paths = [*named(files), *(f"--keys={OPEN}/{number}" for number in kept)]
-        done = self.run([subcommand, *paths, f"--moment={moment}", name, kind, "--json"], folder, kept)
-        return told_by(done, subcommand)
+        words = [subcommand, *named(files), f"--moment={moment}", name, kind, "--json"]
+        return told_by(self.run(words, files), subcommand)
 
 
-def named(files: Iterable[str]) -> List[str]:
-    return [f"--{name}={name}" for name in files]
+def named(files: Files) -> List[str]:
+    return [f"--{option}={OPEN}/{number}" for option, number in files.items()]
 
 
 def told_by(done: Run, subcommand: str) -> Told:

@@ -35,7 +35,7 @@ from typing import Iterator, List
 from .command import parser_of, read, run, shown, tell, write
 from .outputs import overwritten
 from .verifying.entries import Entry, Lacking, Refusal, entry_of
-from .verifying.verifier import Kept, Spent, Verifier, add_budget
+from .verifying.verifier import Kept, Spent, Verifier, add_budget, digest_of
 
 
 def entries_of(path: str, passes_over: bool) -> List[Entry]:
@@ -56,7 +56,7 @@ def statements_of(entries: List[Entry], verifier: Verifier) -> Iterator[str]:
     late: List[str] = []
     for entry in entries:
         try:
-            yield verifier.statement_of(entry.line, entry.place)
+            yield verifier.statement_of(entry.line, entry.place, digest_of(entry.line))
         except Lacking as why:
             tell(f"left out {entry.place}: {why}")
         except Spent as why:

@@ -6,15 +6,19 @@ import unittest
 from tool import PACKAGE, TOOLS
 
 SCRIPTS = (
-    "pages", "faults", "examples", "as-json", "cases.py", "check", "packages", "lint", "does-not-compile", "wrong-bodies"
+    "pages", "faults", "examples", "as-json", "cases.py", "check", "packages", "lint", "does-not-compile", "wrong-bodies",
+    "fuzz"
 )
-FOLDERS = (PACKAGE, *(TOOLS / name for name in ("failing", "as_json", "checking", "wrong_bodies")))
+FOLDERS = (PACKAGE, *(TOOLS / name for name in ("failing", "as_json", "checking", "wrong_bodies", "fuzzing")))
 NAMES = [*SCRIPTS, *(str(path.relative_to(TOOLS)) for folder in FOLDERS for path in sorted(folder.rglob("*.py")))]
 # What each part imports besides itself; dnspython (`dns`), distributed and rich only where they're needed.
 PARTS = {
     "pages": {"dnssec_check_tools"},
     "faults": {"cases", "dnssec_check_tools", "failing"},
     "failing": {"cases", "dnssec_check_tools", "messages", "zones"},  # the last two of rows
+    "fuzz": {"dnssec_check_tools", "fuzzing"},
+    "fuzzing": {"dnssec_check_tools"},
+    "fuzzing/targets": {"cryptography", "dns", "dnssec_check_tools"},
     "examples": {"cases", "dnssec_check_tools"},
     "as-json": {"as_json", "cases", "dnssec_check_tools"},
     "as_json": {"as_json"},
@@ -27,15 +31,15 @@ PARTS = {
     "dnssec_check_tools/capture.py": {"command", "capturing", "outputs"},
     "dnssec_check_tools/judge.py": {"command", "asking", "judging", "outputs", "program", "verifying"},
     "dnssec_check_tools/command.py": {"outputs"},
-    "dnssec_check_tools/program.py": {"asking", "listed"},
-    "dnssec_check_tools/listed.py": {"asking"},
+    "dnssec_check_tools/program.py": {"asking", "listed", "started"},
+    "dnssec_check_tools/listed.py": {"asking", "started"},
     "dnssec_check_tools/verifying/curves.py": {"cryptography"},
     "dnssec_check_tools/capturing": {"command"},
     "dnssec_check_tools/asking": {"command", "capturing", "dns"},
     "dnssec_check_tools/explaining": {"asking"},
     "dnssec_check_tools/explaining/page.py": {"asking", "jinja2", "markupsafe"},
     "dnssec_check_tools/wire.py": {"dns"},
-    "dnssec_check_tools/judging": {"asking", "capturing", "explaining", "program", "verifying", "dns"},
+    "dnssec_check_tools/judging": {"asking", "capturing", "explaining", "program", "started", "verifying", "dns"},
     "dnssec_check_tools/judging/cluster.py": {"asking", "distributed", "program"},
     "dnssec_check_tools/judging/workers.py": {"command", "program"},
     "dnssec_check_tools/judging/progress.py": {"rich"},

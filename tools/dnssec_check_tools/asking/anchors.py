@@ -5,7 +5,7 @@ from typing import Any, Dict, List, Optional
 
 from ..command import read, shown, tell
 
-from .faults import Failure, Refusal
+from .faults import Failure, Refusal, escaped
 from .moments import moment_text
 from .root_anchors import Timed, is_xml, timed_anchors
 from .zone_file import DS, WrongEntry, ZoneFile
@@ -65,7 +65,7 @@ def lines_of_zone(octets: bytes, path: str) -> List[str]:
     except WrongEntry as fault:
         raise Refusal(
             f"the anchors {path}: neither lines `DS ..` and `KEY ..` nor DS and DNSKEY records: "
-            f"line {fault.line}: {fault}"
+            f"line {fault.line}: {escaped(str(fault))}"
         ) from fault
     return anchors
 
@@ -73,7 +73,8 @@ def lines_of_zone(octets: bytes, path: str) -> List[str]:
 def anchor_line(owner: Any, record: Any, is_ds: bool) -> str:
     name = wire_text(owner)
     if is_ds:
-        return f"DS {name} {record.key_tag} {int(record.algorithm)} {int(record.digest_type)} {record.digest.hex()}"
+        digest = record.digest.hex() or "-"
+        return f"DS {name} {record.key_tag} {int(record.algorithm)} {int(record.digest_type)} {digest}"
     key = base64.b64encode(record.key).decode()
     return f"KEY {name} {int(record.flags)} {record.protocol} {int(record.algorithm)} {key}"
 

@@ -1,4 +1,5 @@
 """The types of records by mnemonic and by number, from the table of dnspython."""
+import functools
 from typing import Any, Optional
 from .faults import lacking
 
@@ -31,5 +32,6 @@ def type_of(text: str) -> Optional[int]:
         return None
 
 
+@functools.lru_cache(None)  # of no more numbers than there are types
 def mnemonic_of(number: int) -> str:
     return table().to_text(number).replace("_", "-")

@@ -18,17 +18,17 @@ class Question(NamedTuple):
 
 
 def name_of(text: str) -> str:
-    """The name with a dot at its end; octets that no argument or no text can have are written `\\DDD`."""
+    """The name with a dot at its end, but for one that ends within an escape, which the program refuses; octets that no
+    argument or no text can have are written `\\DDD`."""
     name = "".join(
         f"\\{ord(each) & 0xFF:03}" if each == "\0" or "\udc80" <= each <= "\udcff" else each for each in text
     )
-    return name if ends_with_dot(name) else name + "."
+    return name if is_escaping(name) or (name.endswith(".") and not is_escaping(name[:-1])) else name + "."
 
 
-def ends_with_dot(name: str) -> bool:
-    """Whether the last dot is one, and no octet of a label behind a backslash."""
-    front = name[:-1]
-    return name.endswith(".") and (len(front) - len(front.rstrip("\\"))) % 2 == 0
+def is_escaping(front: str) -> bool:
+    """Whether what comes next is an octet of a label, since a backslash is before it that is none itself."""
+    return (len(front) - len(front.rstrip("\\"))) % 2 == 1
 
 
 def question_of_word(word: str) -> Optional[Question]:

@@ -3,7 +3,7 @@ used."""
 from xml.etree import ElementTree
 from typing import Any, List, NamedTuple, Optional
 
-from .faults import Refusal
+from .faults import Refusal, escaped
 from .moments import of_date
 from .zone_file import WrongEntry, ZoneFile
 
@@ -42,7 +42,7 @@ def tree_of(octets: bytes, path: str) -> ElementTree.Element:
         if "<!DOCTYPE" not in text:
             return ElementTree.fromstring(text)
     except (UnicodeDecodeError, ElementTree.ParseError) as fault:
-        raise Refusal(f"the anchors {path}: no XML: {fault}") from fault
+        raise Refusal(f"the anchors {path}: no XML: {escaped(str(fault))}") from fault
     raise Refusal(f"the anchors {path}: XML with a DOCTYPE, which trust anchors have none of (RFC 9718)")
 
 
@@ -54,4 +54,4 @@ def timed(zone: str, element: ElementTree.Element, place: str) -> Timed:
         (entry,) = ZoneFile(" ".join(words)).entries()
         return Timed(entry.owner, entry.record, of_date(start or ""), None if end is None else of_date(end))
     except (WrongEntry, ValueError) as fault:
-        raise Refusal(f"{place}: {fault}") from fault
+        raise Refusal(f"{place}: {escaped(str(fault))}") from fault

@@ -1,5 +1,6 @@
 """The DS and DNSKEY records of a zone file (RFC 1035 5.1), by the tokenizer of dnspython."""
 import re
+import struct
 from typing import Any, Iterator, List, NamedTuple, Optional
 
 from .faults import lacking
@@ -8,6 +9,8 @@ TTL = re.compile(r"[0-9]+|([0-9]+[smhdw])+", re.ASCII | re.IGNORECASE)
 BASE64 = re.compile(r"[A-Za-z0-9+/]*={0,2}")
 CLASS = re.compile(r"IN|CLASS1", re.IGNORECASE)
 DS, DNSKEY = 43, 48
+# What the library raises besides its own of what it can't read; struct.error of an octet `\\DDD` above 255.
+FAULTS = (ValueError, IndexError, NotImplementedError, struct.error)
 KINDS = {"DS": DS, "TYPE43": DS, "DNSKEY": DNSKEY, "TYPE48": DNSKEY}
 
 
@@ -56,7 +59,7 @@ class ZoneFile:
                 if first.is_eof():
                     return
                 found = None if first.is_eol() else self.entry(line, first)
-            except (self.dns.exception.DNSException, ValueError, IndexError, NotImplementedError) as fault:
+            except (self.dns.exception.DNSException, *FAULTS) as fault:
                 raise WrongEntry(line, str(fault)) from fault
             if found:
                 yield found
@@ -71,9 +74,14 @@ class ZoneFile:
         elif self.is_over():
             return None
         kind, words = self.kind(), self.words()
+        if not "".join(words).isascii():
+            raise ValueError("a field with a character that isn't ASCII")  # of which the library takes digits
         if kind == DNSKEY and words[:1] != ["\\#"] and not BASE64.fullmatch("".join(words[3:])):
             raise ValueError("a key that isn't base64")  # of which the library passes over foreign characters
-        return Entry(line, self.owner, kind, self.dns.rdata.from_text("IN", kind, " ".join(words), self.origin, False))
+        record = self.dns.rdata.from_text("IN", kind, " ".join(words), self.origin, False)
+        if kind == DNSKEY and not record.key:
+            raise ValueError("a key without octets")
+        return Entry(line, self.owner, kind, record)
 
     def words(self) -> List[str]:
         """What is left of the entry."""

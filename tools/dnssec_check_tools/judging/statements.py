@@ -1,13 +1,16 @@
 """What has to be verified of a capture, answered line by line into the file of statements, within the budget."""
-import hashlib
+import itertools
 import os
-from typing import Dict, Iterable, Iterator, List, Set
+import tempfile
+from typing import BinaryIO, Dict, Iterable, Iterator, List, Optional, Set, Tuple
 
 from ..program import Program, refuse_unlisted
+from ..started import beyond_standard, nameless
 from ..verifying.entries import Lacking, Refusal
-from ..verifying.verifier import Budget, Kept, Spent, Verifier
+from ..verifying.verifier import Budget, Kept, Spent, Verifier, digest_of
 
-FILE = "statements"
+STATEMENTS = "statements"
+IN_MEMORY_MOST = 1_000_000
 KEPT = Kept()  # for all captures that a process judges
 
 
@@ -21,33 +24,58 @@ class Answers:
 
     def of(self, lines: Iterable[str]) -> Iterator[str]:
         """Those of the lines that were in none before."""
-        for line in filter(self.is_new, lines):
+        for line in lines:
+            digest = digest_of(line)
+            if digest in self.seen:
+                continue
+            self.seen.add(digest)
             try:
-                yield self.verifier.statement_of(line, "a signature")
+                yield self.verifier.statement_of(line, "a signature", digest)
             except (Lacking, Refusal, Spent) as why:
                 self.reasons[str(why)] = self.reasons.get(str(why), 0) + 1
-
-    def is_new(self, line: str) -> bool:
-        digest, count = hashlib.sha256(line.encode()).digest(), len(self.seen)
-        self.seen.add(digest)
-        return len(self.seen) > count
 
     def notes(self) -> List[str]:
         return [f"{count} signatures aren't verified: {why}" for why, count in self.reasons.items()]
 
 
-def write_statements(folder: str, moments: List[int], budget: Budget, program: Program, kept: Kept = KEPT) -> List[str]:
-    """Writes the file of statements on the capture in the folder; answers why signatures aren't verified. Unlisted
-    where the program failed."""
-    answers = Answers(budget, kept)
-    with open(os.path.join(folder, FILE), "w", encoding="ascii") as file:
+def statements_on(
+    capture: int, moments: List[int], budget: Budget, program: Program, place: Optional[str] = None, kept: Kept = KEPT
+) -> Tuple[BinaryIO, List[str]]:
+    """The file of statements on a capture, which is an open file, and why signatures aren't verified. Unlisted where
+    the program failed."""
+    answers, notes = Answers(budget, kept), []
+
+    def lines() -> Iterator[bytes]:
         for moment in moments:
-            listed = program.listed(folder, moment, budget.octets)
-            file.writelines(answers.of(listed.lines()))
+            listed = program.listed(capture, moment, budget.octets)
+            yield from map(str.encode, answers.of(listed.lines()))
             if listed.is_cut:
-                return [*answers.notes(), cut_note(budget, listed.octets)]
+                notes.append(cut_note(budget, listed.octets))
+                return
             refuse_unlisted(listed)
-    return answers.notes()
+
+    file = file_of(lines(), place)
+    return file, answers.notes() + notes
+
+
+def file_of(pieces: Iterator[bytes], place: Optional[str]) -> BinaryIO:
+    """A file with these octets that has no name: in memory, or where they are many on a disk, at the place if one is
+    told."""
+    front: List[bytes] = []
+    size = 0
+    for piece in pieces:
+        front.append(piece)
+        size += len(piece)
+        if size > IN_MEMORY_MOST:
+            return file_on_disk(itertools.chain(front, pieces), place)
+    return nameless(b"".join(front))
+
+
+def file_on_disk(pieces: Iterable[bytes], place: Optional[str]) -> BinaryIO:
+    with tempfile.TemporaryFile(dir=place) as file:
+        file.writelines(pieces)
+        file.flush()
+        return open(beyond_standard(os.dup(file.fileno())), "rb")
 
 
 def cut_note(budget: Budget, read: int) -> str:

@@ -1,15 +1,14 @@
 """A capture judged: verified once, and asked each question at each moment. All that it reads is octets."""
 import contextlib
-import os
-import tempfile
-from typing import Dict, Iterator, List, NamedTuple, Optional
+from typing import Dict, List, NamedTuple, Optional
 
 from ..asking.questions import Question
-from ..program import EXPLAIN, FAILED, Json, Program, Told, Unlisted
+from ..program import EXPLAIN, FAILED, Files, Json, Program, Told, Unlisted
+from ..started import nameless
 from ..verifying.verifier import Budget
 
 from .evidence import Evidence
-from .statements import FILE, write_statements
+from .statements import STATEMENTS, statements_on
 
 DENYING = {47: "NSEC", 50: "NSEC3"}
 
@@ -42,45 +41,35 @@ class Judged(NamedTuple):
     notes: List[str]
 
 
-def write_files(folder: str, files: Dict[str, bytes]) -> None:
-    for name, octets in files.items():
-        with open(os.path.join(folder, name), "wb") as file:
-            file.write(octets)
-
-
-@contextlib.contextmanager
-def in_memory(octets: Optional[bytes]) -> Iterator[Optional[int]]:
-    """The number of an open file that has no name and no place on a disk, and is gone with whoever has it open."""
-    if octets is None:
-        yield None
-        return
-    with open(os.memfd_create("dnssec_check"), "wb") as file:
-        file.write(octets)
-        file.flush()
-        yield file.fileno()
-
-
 def judged(
     octets: bytes, questions: List[Question], common: Common, program: Program, place: Optional[str] = None
 ) -> Judged:
-    """The verdicts on the questions, by moment. What is written for a time is at the place, where one is told."""
-    with tempfile.TemporaryDirectory(prefix="dnssec_check-", dir=place) as folder, in_memory(common.keys) as keys:
-        given = {"capture": octets, "macs": common.macs}
-        files = {name: content for name, content in given.items() if content is not None}
-        write_files(folder, files)
+    """The verdicts on the questions, by moment. What is too long to be kept in memory is at the place for a time, where
+    one is told. Keys of TSIG never are."""
+    with contextlib.ExitStack() as stack:
+        given = {"capture": octets, "macs": common.macs, "keys": common.keys}
+        files = {
+            name: stack.enter_context(nameless(content)).fileno()
+            for name, content in given.items()
+            if content is not None
+        }
         try:
-            notes, view = write_statements(folder, common.moments, common.budget, program), View(octets)
+            statements, notes = statements_on(files["capture"], common.moments, common.budget, program, place)
         except Unlisted as fault:
             return without_verdicts(questions, common, of_fault(fault.said))
-        names = [*files, FILE, "anchors"]
-        rows: List[Row] = []
+        files[STATEMENTS] = stack.enter_context(statements).fileno()
+        rows, view = [], View(octets)
         for moment in common.moments:
-            write_files(folder, {"anchors": common.anchors[moment]})
-            rows += [
-                view.row(moment, question, program.told(EXPLAIN, folder, names, moment, question, keys))
-                for question in questions
-            ]
+            rows += rows_at(moment, questions, view, files, common, program)
     return Judged(rows, notes)
+
+
+def rows_at(
+    moment: int, questions: List[Question], view: "View", files: Files, common: Common, program: Program
+) -> List[Row]:
+    with nameless(common.anchors[moment]) as anchors:
+        opened = {**files, "anchors": anchors.fileno()}
+        return [view.row(moment, each, program.told(EXPLAIN, opened, moment, each)) for each in questions]
 
 
 class View:

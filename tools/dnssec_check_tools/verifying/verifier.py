@@ -18,6 +18,10 @@ class Budget(NamedTuple):
     octets: int = OCTETS
 
 
+def digest_of(line: str) -> bytes:
+    return hashlib.sha256(line.encode()).digest()
+
+
 class Spent(Exception):
     """The time is over, so a signature isn't verified."""
 
@@ -46,9 +50,9 @@ class Verifier:
     def __init__(self, seconds: int, kept: Kept, clock: Callable[[], float] = time.thread_time) -> None:
         self.seconds, self.kept, self.clock, self.end = seconds, kept, clock, clock() + seconds
 
-    def statement_of(self, line: str, place: str) -> str:
-        """The statement that answers a line; Lacking where that can't be had here, and Spent behind the end."""
-        digest = hashlib.sha256(line.encode()).digest()
+    def statement_of(self, line: str, place: str, digest: bytes) -> str:
+        """The statement that answers a line with this digest; Lacking where that can't be had here, and Spent behind
+        the end."""
         is_good = self.kept.get(digest)
         if is_good is None:
             if self.clock() >= self.end:

@@ -6,11 +6,12 @@ from collections import namedtuple
 from dnssec_check_tools.capturing.frames import frames_of
 from dnssec_check_tools.capturing.messages import (TYPE_DNSKEY, TYPE_DS, TYPE_RRSIG, end_of_name, is_message, lower, name_at, name_text,
                                 records_of)
+from dnssec_check_tools.verifying import rsa
 from shapes import SHAPES, denials, files, keys, signatures
 from wire import key_tag
 
 A, CNAME, TXT, NSEC, NSEC3 = 1, 5, 16, 47, 50
-OF_MESSAGES = ("long-data", "pairs", "digests", "alike", "expanded-nsec", "expanded-nsec3", "hashes", "aliases",
+OF_MESSAGES = ("long-data", "pairs", "exponents", "digests", "alike", "expanded-nsec", "expanded-nsec3", "hashes", "aliases",
                "alias-hashes")
 
 Record = namedtuple("Record", "owner rtype rdata")
@@ -75,6 +76,19 @@ class Signatures(unittest.TestCase):
         self.assert_keys_of_one_tag(messages, 48)
         self.assertEqual(len({each.rdata for each in of_type(messages, TYPE_RRSIG)}), 48)
         self.assertEqual(shape.pairs, 48 * 48)
+
+
+    def test_exponents_has_keys_of_rsa_whose_numbers_are_as_long_as_they_may_be(self):
+        """None of them is malformed, and none is tried: its exponent is too long (tools/verify)."""
+        shape = signatures.exponents(2)
+        messages = messages_of(shape)
+        self.assert_keys_of_one_tag(messages, 32)
+        for each in of_type(messages, TYPE_DNSKEY):
+            modulus, exponent = rsa.rsa_key(each.rdata[4:], 512)
+            self.assertEqual((modulus.bit_length(), exponent.bit_length()), (4096, 4096))
+        for each in of_type(messages, TYPE_RRSIG):
+            self.assertEqual(len(each.rdata), 18 + len(b"\x05bench\x07example\x00") + 512)
+        self.assertEqual((len(of_type(messages, TYPE_RRSIG)), shape.pairs), (10, 32 * 10))
 
 
 class Keys(unittest.TestCase):

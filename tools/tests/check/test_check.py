@@ -6,6 +6,7 @@ from unittest import mock
 from checking import guards, packages, running
 from checking.counts import BROKEN, Count, of_status
 from checking.guards import TESTS, TREE, Guard
+from fuzzing.targets import TARGETS
 from tool import load, run
 
 
@@ -97,6 +98,10 @@ class Guards(unittest.TestCase):
         names = {guard.name for guard in guards.guards()}
         for folder in (TREE / "crates").glob("*/does-not-compile"):
             self.assertIn(f"does-not-compile/{folder.parent.name}", names)
+
+    def test_each_target_of_fuzz_is_there(self):
+        names = {guard.name for guard in guards.guards()}
+        self.assertLessEqual({f"fuzz/{target}" for target in TARGETS}, names)
 
     def test_each_has_its_command_and_its_packages(self):
         for guard in guards.guards():

@@ -16,6 +16,10 @@ JUDGE = (sys.executable, TOOLS / "judge")
 NOON = "1795348800"
 ANCHORS = EXAMPLES / "anchors"
 
+SIZE_OF_CAPTURE = """for word; do
+case $word in --capture=*) size=$(stat -L -c %s "${word#--capture=}");; esac
+done"""
+
 # Answers as the examples do. Whatever no example asks is Bogus, and bind.test. says nothing of it.
 BOGUS = {"command": "explain", "name": ".", "type": 0, "moment": 0, "verdict": "Bogus", "status": 5, "aliases": [], "why": []}
 MISSING = {"line": "reason", "word": "answer-missing", "ede": 12}
@@ -110,9 +114,10 @@ class Judging(unittest.TestCase):
         return path
 
     def stand_in(self, script):
-        """A program that runs the lines of a shell, and then is the program."""
+        """A program that runs the lines of a shell, to which `size` is how many octets the capture has, and then is the
+        program."""
         path = self.room / "stand-in"
-        path.write_text(f'#!/bin/sh\n{script}\nexec {shlex.quote(str(self.whole))} "$@"\n')
+        path.write_text(f'#!/bin/sh\n{SIZE_OF_CAPTURE}\n{script}\nexec {shlex.quote(str(self.whole))} "$@"\n')
         path.chmod(0o755)
         return path
 

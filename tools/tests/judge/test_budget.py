@@ -7,6 +7,7 @@ from unittest import mock
 from dnssec_check_tools import listed
 from dnssec_check_tools.judging import spread, statements, work
 from dnssec_check_tools.program import Program, Unlisted
+from dnssec_check_tools.started import content_of
 from dnssec_check_tools.verifying import verifier
 
 from .helper import Judging, capture_of, needs_dns, verdicts
@@ -51,6 +52,9 @@ class Room(unittest.TestCase):
         os.chmod(path, 0o755)
         return path
 
+    def opened(self, name):
+        return open(os.path.join(self.room, name), "rb")
+
     def program(self, text):
         return Program(self.lay("program", f"#!/bin/sh\n{text}\n"))
 
@@ -59,8 +63,9 @@ class Reads(Room):
     LINES = [f"todo 13 {number:02x} 02 03" for number in range(3)]
 
     def listed(self, text, most):
-        found = self.program(text).listed(self.room, 0, most)
-        return list(found.lines()), found.octets, found.is_cut, found.status
+        with self.opened("capture") as capture:
+            found = self.program(text).listed(capture.fileno(), 0, most)
+            return list(found.lines()), found.octets, found.is_cut, found.status
 
     def test_lines_up_to_so_many_octets(self):
         text, size = "printf '" + "\\n".join(self.LINES) + "\\n'", len(self.LINES[0]) + 1
@@ -74,8 +79,9 @@ class Reads(Room):
         self.assertEqual((lines, octets, is_cut, status), (["todo 13 01 02 03"] * 10, 170, True, None))
 
     def test_how_it_ends_is_kept(self):
-        found = self.program("echo 'fault 90' >&2; printf 'todo 13'; exit 1").listed(self.room, 0, 100)
-        self.assertEqual((list(found.lines()), found.status, found.errors, found.is_cut), ([], 1, "fault 90\n", False))
+        with self.opened("capture") as capture:
+            found = self.program("echo 'fault 90' >&2; printf 'todo 13'; exit 1").listed(capture.fileno(), 0, 100)
+            self.assertEqual((list(found.lines()), found.status, found.errors, found.is_cut), ([], 1, "fault 90\n", False))
 
     def test_a_large_capture_lists_within_the_memory_for_what_is_read(self):
         self.lay("capture", "x" * (listed.LISTS_LITTLE + 1))
@@ -90,9 +96,11 @@ class Reads(Room):
 
 class Once(Room):
     def write(self, text, moments, kept):
-        notes = statements.write_statements(self.room, moments, verifier.Budget(9, 100), self.program(text), kept)
-        with open(os.path.join(self.room, "statements"), encoding="ascii") as file:
-            return file.read(), notes
+        budget, program = verifier.Budget(9, 100), self.program(text)
+        with self.opened("capture") as capture:
+            file, notes = statements.statements_on(capture.fileno(), moments, budget, program, kept=kept)
+        with file:
+            return content_of(file).decode("ascii"), notes
 
     def test_lines_of_several_moments_and_captures_are_verified_once(self):
         verified, kept, program = [], verifier.Kept(), "echo todo 13 01 02 03; echo todo 13 01 02 ${3#--moment=}"
@@ -130,6 +138,17 @@ class Once(Room):
             with self.subTest(text), self.assertRaises(Unlisted) as raised:
                 self.write(text, [1, 2], verifier.Kept())
             self.assertEqual(raised.exception.said, said)
+
+    def test_many_statements_are_on_a_disk_without_a_name(self):
+        """At the place that is told, where the others are in memory."""
+        pieces, most = [b"good 13 01 02 %06x\n" % number for number in range(99)], statements.IN_MEMORY_MOST
+        for size, is_kept in ((len(pieces) * len(pieces[0]), True), (len(pieces[0]), False), (most, True)):
+            with self.subTest(size), mock.patch.object(statements, "IN_MEMORY_MOST", size), \
+                    statements.file_of(iter(pieces), self.room) as file:
+                self.assertEqual(content_of(file), b"".join(pieces))
+                kind = os.readlink(f"/proc/self/fd/{file.fileno()}")
+                self.assertTrue(kind.startswith("/memfd:" if is_kept else f"{self.room}/"), kind)
+                self.assertEqual(sorted(os.listdir(self.room)), ["capture"])
 
     def test_what_is_behind_the_octets_has_a_note(self):
         told = self.write("exec yes todo 16 01 02 03", [1, 2], verifier.Kept())

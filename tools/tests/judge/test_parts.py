@@ -13,7 +13,7 @@ from .helper import EXAMPLES, examples, needs_dns
 class Names(unittest.TestCase):
     def test_a_missing_dot_is_added(self):
         rows = (("a.test", "a.test."), ("a.test.", "a.test."), (".", "."), ("a\\.", "a\\.."), ("a\\\\.", "a\\\\."), ("a\\\\\\.", "a\\\\\\.."),
-                ("a\0b.", "a\\000b."), ("a\udcff.", "a\\255."))
+                ("a\0b.", "a\\000b."), ("a\udcff.", "a\\255."), ("a\\", "a\\"), ("a\\\\\\", "a\\\\\\"), ("", "."))
         for text, name in rows:
             self.assertEqual(questions.name_of(text), name)
 
@@ -111,9 +111,22 @@ class Anchors(unittest.TestCase):
         for line in ("b. CH DS 1 13 2 00", "b. A 192.0.2.1", "b. 5 5 DS 1 13 2 00", "b. IN IN DS", "b. 5 IN 5 DS", "b. DS 1 13", "b.", "$TTL x",
                      "$TTL 5 6", "$ORIGIN", "$INCLUDE x", "$GENERATE 1-9 a DS 1 13 2 00", "b. DS 1 8 1 (\n00 )", "1 DS 1 13 2 0", "b. DS 1 8 1 \"00",
                      "b. DNSKEY 257 3 13 AQ*ID", "b. DNSKEY 257 3 13 ( AQ\nI-D )", "b. DNSKEY 257 3 13 AQID\u00e9", "b. DNSKEY 257 3 13 AQI=D",
-                     "b. DNSKEY 257 3 13 \"AQID\""):
+                     "b. DNSKEY 257 3 13 \"AQID\"", "\\999. DS 1 8 1 " + "00" * 20, "b. DNSKEY \\# 4 01010308",
+                     "b. DS \u0661 8 1 " + "00" * 20):
             with self.subTest(line), self.assertRaisesRegex(faults.Refusal, "^the anchors .*: neither .* records: line 4: "):
                 self.of(f"\na. DS 1 8 1 ( {'00' * 20}\n)\n{line}\n")
+
+    def test_a_digest_without_octets_is_the_programs_sign_for_none(self):
+        """The program takes a DS record of a type that it doesn't know, whatever digest it has."""
+        self.assertEqual(self.of("b. DS \\# 4 00010809\n"), "DS b. 1 8 9 -\n")
+
+    def test_a_refusal_is_one_line_that_can_be_shown(self):
+        """What it quotes of the file is escaped, as a path is."""
+        for text, told in (("a. \x1b[2J\n", r"line 1: \\x1b\[2J is none of DS and DNSKEY"), ("a. 1\x00s DS\n", r"\\x00"), \
+                           (self.XML.replace("TrustAnchor", "T\u2028"), r"no XML: "), (self.XML.replace(">.<", ">. \u200bX<"), r"KeyDigest 1: \\u200bX is none of DS")):
+            with self.subTest(text), self.assertRaisesRegex(faults.Refusal, told) as refused:
+                self.of(text)
+            self.assertTrue(str(refused.exception).isprintable())
 
     XML = """<?xml version="1.0" encoding="UTF-8"?>
 <TrustAnchor id="380DC50D-484E-40D0-A3AE-68F2B18F61C7" source="http://data.iana.org/root-anchors/root-anchors.xml">

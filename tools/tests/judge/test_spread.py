@@ -42,7 +42,7 @@ class Listing(Judging):
         with open(self.room / "2.cap", "ab") as file:
             file.write(WWW.read_bytes())
         size = (self.room / "2.cap").stat().st_size
-        self.program = self.stand_in(f'[ "$1" = list ] && [ $(stat -c %s capture) = {size} ] && {{ echo fault 91 >&2; exit 1; }}')
+        self.program = self.stand_in(f'[ "$1" = list ] && [ $size = {size} ] && {{ echo fault 91 >&2; exit 1; }}')
         status, lines, _ = self.noon("--tsv", self.room, "www.bind.test/A")
         self.assertEqual((status, [line.split("\t")[5] for line in lines[1:]]), (1, ["SecureAnswer", "fault", "SecureAnswer"]))
 
@@ -58,7 +58,7 @@ class Processes(Judging):
             shutil.copy(WWW, self.room / "captures" / f"{number}.cap")
         with open(self.room / "captures" / "3.cap", "ab") as file:
             file.write(WWW.read_bytes())
-        self.is_marked = f"[ $(stat -c %s capture) = {2 * WWW.stat().st_size} ]"
+        self.is_marked = f"[ $size = {2 * WWW.stat().st_size} ]"
 
     def rows(self, script):
         """The status and what each capture's row has, and that no folder is left."""

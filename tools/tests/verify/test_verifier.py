@@ -5,6 +5,7 @@ from unittest import mock
 from tool import DATA, run
 
 from dnssec_check_tools.verifying import entries, verifier
+from dnssec_check_tools.verifying.verifier import digest_of
 
 LINES = [f"todo 13 {number:02x} 02 03" for number in range(4)]
 
@@ -36,7 +37,7 @@ class Within(unittest.TestCase):
         told, within = [], verifier.Verifier(seconds, self.kept, self.clock)
         for line in lines:
             try:
-                word, rest = within.statement_of(line, "a line").split(" ", 1)
+                word, rest = within.statement_of(line, "a line", digest_of(line)).split(" ", 1)
                 self.assertEqual(f"todo {rest}", line + "\n")
                 told.append(word)
             except verifier.Spent as why:
@@ -94,7 +95,7 @@ class Real(unittest.TestCase):
     def test_good_and_bad_are_as_without_a_budget(self):
         within = verifier.Verifier(600, verifier.Kept())
         lines = (DATA / "todo").read_text().splitlines()
-        told = [within.statement_of(line, "a line") for line in lines * 2]
+        told = [within.statement_of(line, "a line", digest_of(line)) for line in lines * 2]
         self.assertEqual("".join(told), (DATA / "statements").read_text() * 2)
         self.assertEqual({entries.entry_of(line, "").line for line in lines}, set(lines))
 

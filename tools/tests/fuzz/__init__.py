@@ -1,0 +1,2 @@
+"""Tests of tools/fuzz."""
+import tool  # which says where the tools are
