@@ -1,4 +1,5 @@
 //! Calls of `dnsv_denial`.
+ghost use Rattle.std.specs.Prelude.{◌≡◌};
 ghost use Rattle.dnsv_chain.specs.Trust.{SecuredIn};
 ghost use Rattle.dnsv_denial.specs.gathering.ByZone.{AreDenialRecords};
 
@@ -89,7 +90,7 @@ fn view_with_hashes_of<'a>(
 {
     let hashes = Hashes::new(alloc, evidence.capture, name, &mut Count::new())?;
     let denials = DenialRecords::of(alloc, evidence.capture, before)?;
-    View::with(alloc, evidence.capture, before, &denials, &hashes)?;
+    make_view(alloc, evidence.capture, before, &denials, &hashes)?;
     Ok(View::with(
         alloc,
         evidence.capture,
@@ -97,6 +98,21 @@ fn view_with_hashes_of<'a>(
         &evidence.denials,
         &hashes,
     )?)
+}
+
+/// Makes a view by the hashes, of which nothing is asked.
+fn make_view<'a>(
+    alloc: Global,
+    capture: &'a Capture<'a>,
+    trust: &Trust<'_>,
+    denials: &DenialRecords<'_>,
+    hashes: &Hashes<'a>,
+) -> Result<(), RowError>
+    requires denials { AreDenialRecords (SecuredIn trust.now) capture.now.rrsets denials.now }
+    requires hashes { hashes.now.rrsets ≡ capture.now.rrsets }
+{
+    View::with(alloc, capture, trust, denials, hashes)?;
+    Ok(())
 }
 
 /// `closer CAPTURE ANCHORS MOMENT NAME ZONE LABELS`: the zone and the record of the proof that the zone has no closer
