@@ -59,12 +59,12 @@ def key_field(key: bytes) -> bytes:
     return key[4:].hex().encode()
 
 
-def of_keys(capture: list[bytes], keys: list[bytes], name: str) -> Shape:
-    """The first key is the anchor, and what is signed is good under the last."""
+def of_keys(capture: list[bytes], keys: list[bytes], name: str, signatures: int) -> Shape:
+    """The first key is the anchor, and what is signed is good under the last. Each signature may be each key's."""
     first, last = keys[0], keys[-1]
     anchors = [anchor("bench.example.", first).encode(), anchor("bench.example.", last).encode()]
     files = {"capture": capture, "anchors": anchors}
-    return Shape(files, explain(name), answered_from=0, answered_by=key_field(last))
+    return Shape(files, explain(name), signatures * KEYS, answered_from=0, answered_by=key_field(last))
 
 
 def below(depth: int) -> bytes:
@@ -83,7 +83,7 @@ def key_sets(messages: int) -> Shape:
             rdata = struct.pack("!HBB", number, ALGORITHM, SHA_256) + draw.randbytes(32)
             rest += signed(draw, below(depth), 2 + depth, DS, rdata, tag)
         capture.append(response(number, ZONE, [*key_set(draw, keys), *rest]))
-    return of_keys(capture, keys, "d." * DEPTH + "bench.example.")
+    return of_keys(capture, keys, "d." * DEPTH + "bench.example.", messages * (DEPTH + 1))
 
 
 def key_sets_aliases(messages: int) -> Shape:
@@ -96,7 +96,7 @@ def key_sets_aliases(messages: int) -> Shape:
         rest += signed(draw, label(b"a%d" % number) + QUESTION, 3, CNAME, rdata, tag)
     rest += signed(draw, label(b"a%d" % ALIASES) + QUESTION, 3, A, bytes(4), tag)
     capture = [response(number, ZONE, [*key_set(draw, keys), *([] if number else rest)]) for number in range(messages)]
-    return of_keys(capture, keys, "a0.bench.example.")
+    return of_keys(capture, keys, "a0.bench.example.", messages + ALIASES + 1)
 
 
 def ds_anchor(rdata: bytes) -> bytes:
@@ -118,4 +118,5 @@ def key_anchors(messages: int) -> Shape:
     others = [struct.pack("!HBB", tag, ALGORITHM, SHA_256) + draw.randbytes(32) for _ in range(messages)]
     anchors = [ds_anchor(rdata) for rdata in (*others, digest_of(keys[-1]))]
     files = {"capture": capture, "anchors": anchors}
-    return Shape(files, explain("www.bench.example."), answered_from=0, answered_by=key_field(keys[-1]))
+    pairs = messages * messages * KEYS
+    return Shape(files, explain("www.bench.example."), pairs, answered_from=0, answered_by=key_field(keys[-1]))
