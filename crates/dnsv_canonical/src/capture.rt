@@ -17,8 +17,8 @@ ghost use Rattle.dnsv_canonical.specs.declared.capture.CaptureError.TheVariants.
 use crate::capture::index::Index;
 use crate::capture::limits::{MESSAGE_LIMIT, are_small, fresh_parameters, records_with};
 use crate::capture::readable::check_rdata;
-use crate::expanded::Sections;
 use crate::number::numbered;
+use crate::placed_record::Sections;
 use crate::received::message_rrsets;
 use crate::rrset::{Rrset, to_rrsets};
 use bumpalo::Bump;

@@ -6,7 +6,7 @@ ghost use Rattle.std.specs.Prelude.{◌≡◌, ◌++◌, ◌+◌, IfOk, OnOk, ma
 ghost use Rattle.dnsv_message.specs.declared.record.Section.{Section};
 
 use crate::by_rrset::{distinct_rdata, take_rdata};
-use crate::expanded::{Expanded, Sections};
+use crate::placed_record::{PlacedRecord, Sections};
 use crate::received::together::rrsets_together;
 use crate::section::{is_grouped, rdata_by_rrset, signatures_by_rrset};
 use dnsv_message::Section;
@@ -100,7 +100,7 @@ fn add_section<'b>(
     rrsets: &mut Vec<Received<'b>>,
     message: usize,
     section: Section,
-    records: &[Expanded<'b>],
+    records: &[PlacedRecord<'b>],
 ) -> Result<(), AllocError>
     ensures { OnOk result (rrsets.new.items ≡ rrsets.old.items ++ rrsets_in message section records.now) }
 {
@@ -117,7 +117,7 @@ fn add_scattered<'b>(
     rrsets: &mut Vec<Received<'b>>,
     message: usize,
     section: Section,
-    records: &[Expanded<'b>],
+    records: &[PlacedRecord<'b>],
 ) -> Result<(), AllocError>
     ensures { OnOk result (rrsets.new.items ≡ rrsets.old.items ++ rrsets_in message section records.now) }
 {

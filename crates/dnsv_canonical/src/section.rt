@@ -8,7 +8,7 @@ ghost use Rattle.dnsv_canonical.specs.Rrsets.{forms_rrsets, is_grouped, IsQuesti
 ghost use Rattle.dnsv_canonical.specs.Runs.{SignsJust};
 
 use crate::by_rrset::{RdataByRrset, add};
-use crate::expanded::Expanded;
+use crate::placed_record::PlacedRecord;
 use dnsv_message::{Class, NameRef};
 use dnsv_names::{Name, RecordType};
 use std::alloc::{AllocError, Global};
@@ -40,21 +40,21 @@ pub fn is_question(name: &Name, rtype: RecordType) -> bool
 }
 
 /// Whether the candidate belongs to an RRset: it is of class IN, and of a type that forms them.
-pub fn is_grouped(candidate: &Expanded<'_>) -> bool
+pub fn is_grouped(candidate: &PlacedRecord<'_>) -> bool
     ensures { result ≡ is_grouped candidate.now }
 {
     candidate.class == Class::IN && forms_rrsets(candidate.rtype)
 }
 
 /// Whether the candidate is an IN RRSIG.
-pub fn is_rrsig(candidate: &Expanded<'_>) -> bool
+pub fn is_rrsig(candidate: &PlacedRecord<'_>) -> bool
     ensures { result ≡ ((candidate.now.rtype.0 == 46) && (candidate.now.class.0 == 1)) }
 {
     candidate.rtype == RecordType::RRSIG && candidate.class == Class::IN
 }
 
 /// Whether the candidate is a signature over the RRset of the owner and type.
-pub fn covers(candidate: &Expanded<'_>, rtype: RecordType, owner: &NameRef<'_>) -> bool
+pub fn covers(candidate: &PlacedRecord<'_>, rtype: RecordType, owner: &NameRef<'_>) -> bool
     ensures { IsTrue result → SignsJust owner.now rtype.0 candidate.now }
 {
     match covered_type(candidate) {
@@ -64,7 +64,7 @@ pub fn covers(candidate: &Expanded<'_>, rtype: RecordType, owner: &NameRef<'_>) 
 }
 
 /// The type that the candidate covers if it is an IN RRSIG: the first two octets of its RDATA.
-fn covered_type(candidate: &Expanded<'_>) -> Option<RecordType>
+fn covered_type(candidate: &PlacedRecord<'_>) -> Option<RecordType>
     ensures { (owner : Labels) (rtype : ℕ) → rtype < 2 ^ 16 → is_signature owner rtype candidate.now
         ≡ (option_map_or (λ covered. rtype == covered.0) result false && same_name candidate.now.name owner) }
 {
@@ -80,7 +80,7 @@ fn covered_type(candidate: &Expanded<'_>) -> Option<RecordType>
 /// The RDATA of the records by the RRset that they belong to, as received.
 pub fn rdata_by_rrset<'a, 'b>(
     alloc: Global,
-    records: &'a [Expanded<'b>],
+    records: &'a [PlacedRecord<'b>],
 ) -> Result<RdataByRrset<'a, 'b>, AllocError>
     ensures { IfOk result (λ by_rrset. (first : Record) → rdata_at by_rrset first.rtype.0 first.name
         ≡ map (λ r. r.rdata) (filter (same_rrset first) (filter is_grouped records.now))) }
@@ -98,7 +98,7 @@ pub fn rdata_by_rrset<'a, 'b>(
 /// The RDATA of the IN RRSIG records by the RRset that they cover, in order.
 pub fn signatures_by_rrset<'a, 'b>(
     alloc: Global,
-    records: &'a [Expanded<'b>],
+    records: &'a [PlacedRecord<'b>],
 ) -> Result<RdataByRrset<'a, 'b>, AllocError>
     ensures { IfOk result (λ by_rrset. (owner : Labels) (rtype : ℕ) → rtype < 2 ^ 16
         → rdata_at by_rrset rtype owner ≡ map (λ r. r.rdata) (filter (is_signature owner rtype) records.now)) }

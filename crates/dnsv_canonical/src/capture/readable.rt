@@ -7,7 +7,7 @@ ghost use Rattle.dnsv_canonical.specs.Rdata.{IsLaidOut};
 ghost use Rattle.dnsv_canonical.specs.Kept.{IsBadAfter};
 
 use crate::capture::CaptureError;
-use crate::expanded::{Expanded, Sections};
+use crate::placed_record::{PlacedRecord, Sections};
 use dnsv_message::{Class, Message};
 use dnsv_names::RecordType;
 use dnsv_records::{Dnskey, Ds, Nsec, Nsec3, Rrsig};
@@ -30,7 +30,7 @@ pub fn check_rdata(message: &Message<'_>, sections: &Sections<'_>) -> Result<(),
 }
 
 /// Whether the records of a section can be read, before which so many stand.
-fn check_section(earlier: usize, records: &[Expanded<'_>]) -> Result<(), CaptureError>
+fn check_section(earlier: usize, records: &[PlacedRecord<'_>]) -> Result<(), CaptureError>
     requires { earlier + length records.now < u64.MAX }
     ensures ok { OnOk result (AllByRecursion IsReadable records.now) }
     ensures refused { IfErr result (IsBadAfter earlier records.now) }
@@ -42,7 +42,7 @@ fn check_section(earlier: usize, records: &[Expanded<'_>]) -> Result<(), Capture
 }
 
 /// Which of the records is the first that can't be read, from 1 on.
-fn first_bad(records: &[Expanded<'_>]) -> Option<usize>
+fn first_bad(records: &[PlacedRecord<'_>]) -> Option<usize>
     ensures { MatchOption result (AllByRecursion IsReadable records.now) (IsFirstBad records.now) }
 {
     for (index, candidate) in records.iter().enumerate() {
@@ -54,7 +54,7 @@ fn first_bad(records: &[Expanded<'_>]) -> Option<usize>
 }
 
 /// Whether the candidate's RDATA can be read.
-fn is_readable(candidate: &Expanded<'_>) -> bool
+fn is_readable(candidate: &PlacedRecord<'_>) -> bool
     ensures { IsTrue result ↔ IsReadable candidate.now }
 {
     if candidate.class != Class::IN {

@@ -4,7 +4,7 @@ ghost use Rattle.dnsv_canonical.specs.Rrsets.{is_grouped, rrsets_in, same_rrset}
 ghost use Rattle.dnsv_canonical.specs.Runs.{IsRun};
 
 use crate::by_rrset::each_once;
-use crate::expanded::Expanded;
+use crate::placed_record::PlacedRecord;
 use crate::received::Received;
 use crate::section::{covers, is_grouped, is_rrsig};
 use dnsv_message::{NameRefByWire, Section};
@@ -29,7 +29,7 @@ pub fn rrsets_together<'b>(
     alloc: Global,
     message: usize,
     section: Section,
-    records: &[Expanded<'b>],
+    records: &[PlacedRecord<'b>],
 ) -> Result<Option<Vec<Received<'b>>>, AllocError>
     ensures { IfOk result (λ found. IfSome found (λ rrsets. rrsets.items ≡ rrsets_in message section records.now)) }
 {
@@ -67,8 +67,8 @@ pub fn rrsets_together<'b>(
 /// The run that the first record of an RRset begins, by the records behind it.
 fn run_from<'b>(
     alloc: Global,
-    first: &Expanded<'b>,
-    behind: &[Expanded<'b>],
+    first: &PlacedRecord<'b>,
+    behind: &[PlacedRecord<'b>],
 ) -> Result<Run<'b>, AllocError>
     requires grouped { is_grouped first.now ≡ true }
     requires fits { first.now.rtype.0 < 2 ^ 16 }
@@ -111,7 +111,7 @@ fn push_one<'b>(others: &mut Vec<&'b [u8]>, rdata: &'b [u8]) -> Result<(), Alloc
 }
 
 /// Whether the candidate belongs to the RRset of the first.
-fn belongs(first: &Expanded<'_>, candidate: &Expanded<'_>) -> bool
+fn belongs(first: &PlacedRecord<'_>, candidate: &PlacedRecord<'_>) -> bool
     requires { is_grouped first.now ≡ true }
     ensures grouped { IsTrue result → is_grouped candidate.now ≡ true }
     ensures same { IsTrue result → same_rrset first.now candidate.now ≡ true }

@@ -9,7 +9,7 @@ use std::marker::Model;
 
 /// A record of a message, with its RDATA as octets one after another. It is seen as the message's record.
 #[derive(Drop)]
-pub struct Expanded<'b> {
+pub struct PlacedRecord<'b> {
     pub name: NameRef<'b>,
     pub rtype: RecordType,
     pub class: Class,
@@ -17,25 +17,29 @@ pub struct Expanded<'b> {
     rdata: &'b [u8],
 }
 
-impl<'b> Model for Expanded<'b> {
+impl<'b> Model for PlacedRecord<'b> {
     ghost use Rattle.dnsv_message.specs.declared.record.Record.{Record};
 
     ghost Value = { Record };
 
-    ghost view = { λ expanded. record {
-      name = expanded.name;
-      rtype = expanded.rtype;
-      class = expanded.class;
-      ttl = expanded.ttl;
-      rdata = expanded.rdata.now;
+    ghost view = { λ placed. record {
+      name = placed.name;
+      rtype = placed.rtype;
+      class = placed.class;
+      ttl = placed.ttl;
+      rdata = placed.rdata.now;
     } };
 }
 
-impl<'b> Expanded<'b> {
-    fn of(alloc: Global, bump: &'b Bump, resource: &Record<'b>) -> Result<Expanded<'b>, AllocError>
-        ensures { IfOk result (λ expanded. expanded ≡ resource.now) }
+impl<'b> PlacedRecord<'b> {
+    fn of(
+        alloc: Global,
+        bump: &'b Bump,
+        resource: &Record<'b>,
+    ) -> Result<PlacedRecord<'b>, AllocError>
+        ensures { IfOk result (λ placed. placed ≡ resource.now) }
     {
-        Ok(Expanded {
+        Ok(PlacedRecord {
             name: resource.name.copied(),
             rtype: resource.rtype,
             class: resource.class,
@@ -55,9 +59,9 @@ impl<'b> Expanded<'b> {
 /// The records of the three sections of a message.
 #[derive(Drop)]
 pub struct Sections<'b> {
-    pub answer: Vec<Expanded<'b>>,
-    pub authority: Vec<Expanded<'b>>,
-    pub additional: Vec<Expanded<'b>>,
+    pub answer: Vec<PlacedRecord<'b>>,
+    pub authority: Vec<PlacedRecord<'b>>,
+    pub additional: Vec<PlacedRecord<'b>>,
 }
 
 impl<'b> Sections<'b> {
@@ -72,24 +76,24 @@ impl<'b> Sections<'b> {
         ensures additional { IfOk result (λ sections. sections.additional.items ≡ message.now.additional) }
     {
         Ok(Sections {
-            answer: all_expanded(alloc, bump, message.records(Section::Answer))?,
-            authority: all_expanded(alloc, bump, message.records(Section::Authority))?,
-            additional: all_expanded(alloc, bump, message.records(Section::Additional))?,
+            answer: all_placed(alloc, bump, message.records(Section::Answer))?,
+            authority: all_placed(alloc, bump, message.records(Section::Authority))?,
+            additional: all_placed(alloc, bump, message.records(Section::Additional))?,
         })
     }
 }
 
 /// The records, in order.
-fn all_expanded<'b>(
+fn all_placed<'b>(
     alloc: Global,
     bump: &'b Bump,
     records: &[Record<'b>],
-) -> Result<Vec<Expanded<'b>>, AllocError>
+) -> Result<Vec<PlacedRecord<'b>>, AllocError>
     ensures { IfOk result (λ all. all.items ≡ records.now) }
 {
     let mut all = Vec::with_capacity(alloc, records.len())?;
     for resource in records {
-        all.push(Expanded::of(alloc, bump, resource)?)?;
+        all.push(PlacedRecord::of(alloc, bump, resource)?)?;
     }
     Ok(all)
 }

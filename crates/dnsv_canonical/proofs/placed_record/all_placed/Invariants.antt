@@ -1,5 +1,5 @@
 use Rattle.std.proofs.Common.{◌≡◌, take}
-use Rattle.dnsv_canonical.proofs.expanded.all_expanded.Given as goal
+use Rattle.dnsv_canonical.proofs.placed_record.all_placed.Given as goal
 
 -- some records are taken
 abbrev pub invariant-loop-resource : goal.invariant-loop-resource
