@@ -83,7 +83,7 @@ impl<T: Drop> From<AllocFailed<T>> for CaptureError {
     }
 }
 
-/// Captured messages as evidence: their RRsets with their signatures, whose RDATA stands in the arena.
+/// Captured messages as evidence: their RRsets with their signatures, whose owners and RDATA stand in the arena.
 #[derive(Drop)]
 pub struct Capture<'b> {
     alloc: Global,
@@ -155,7 +155,7 @@ impl<'b> Capture<'b> {
         if self.messages >= MESSAGE_LIMIT {
             return Err(CaptureError::Limit);
         }
-        let received = message_rrsets(self.alloc, self.messages + 1, &sections)?;
+        let received = message_rrsets(self.alloc, self.bump, self.messages + 1, &sections)?;
         if !are_small(self.alloc, received.as_slice())? {
             return Err(CaptureError::Limit);
         }

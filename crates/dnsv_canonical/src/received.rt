@@ -9,13 +9,14 @@ use crate::by_rrset::{distinct_rdata, take_rdata};
 use crate::placed_record::{PlacedRecord, Sections};
 use crate::received::together::rrsets_together;
 use crate::section::{is_grouped, rdata_by_rrset, signatures_by_rrset};
-use dnsv_message::Section;
+use bumpalo::Bump;
+use dnsv_message::{NameRef, Section};
 use dnsv_names::{Name, RecordType};
 use std::alloc::{AllocError, Global};
 use std::marker::Model;
 
 /// An RRset as it was received: the IN records of one message, section, owner and type, and the signatures that
-/// cover it there. Its RDATA stands in the message, or where that is compressed, in the arena.
+/// cover it there. Its RDATA stands in the message, or where that is compressed, in the arena, as its owner does.
 ///
 /// Owners are equal without regard to case. Records of the types 0, OPT, RRSIG and 128 to 255 form no RRset, nor
 /// do those of MD, MF, MB, MG, MR, MINFO, RP, AFSDB, RT, SIG, PX, NXT, NAPTR, KX and A6.
@@ -26,7 +27,7 @@ pub struct Received<'b> {
     /// The section that its records stand in.
     pub section: Section,
     /// The owner as its first record spells it.
-    pub owner: Name,
+    pub owner: &'b Name,
     rtype: RecordType,
     rdata: Vec<&'b [u8]>,
     signatures: Vec<&'b [u8]>,
@@ -41,7 +42,7 @@ impl<'b> Model for Received<'b> {
     ghost view = { λ rrset. record {
       message = rrset.message;
       section = rrset.section;
-      owner = rrset.owner;
+      owner = rrset.owner.now;
       rtype = rrset.rtype.0;
       rdata = map (λ r. r.now) rrset.rdata.items;
       signatures = map (λ r. r.now) rrset.signatures.items;
@@ -77,6 +78,7 @@ ghost use Rattle.dnsv_canonical.specs.Rrsets.{rrsets_in};
 /// The RRsets of the message with these sections, which has this number.
 pub fn message_rrsets<'b>(
     alloc: Global,
+    bump: &'b Bump,
     number: usize,
     sections: &Sections<'b>,
 ) -> Result<Vec<Received<'b>>, AllocError>
@@ -88,15 +90,30 @@ pub fn message_rrsets<'b>(
     let answer = sections.answer.as_slice();
     let authority = sections.authority.as_slice();
     let additional = sections.additional.as_slice();
-    add_section(alloc, &mut rrsets, number, Section::Answer, answer)?;
-    add_section(alloc, &mut rrsets, number, Section::Authority, authority)?;
-    add_section(alloc, &mut rrsets, number, Section::Additional, additional)?;
+    add_section(alloc, bump, &mut rrsets, number, Section::Answer, answer)?;
+    add_section(
+        alloc,
+        bump,
+        &mut rrsets,
+        number,
+        Section::Authority,
+        authority,
+    )?;
+    add_section(
+        alloc,
+        bump,
+        &mut rrsets,
+        number,
+        Section::Additional,
+        additional,
+    )?;
     Ok(rrsets)
 }
 
 /// Adds the RRsets of a section.
 fn add_section<'b>(
     alloc: Global,
+    bump: &'b Bump,
     rrsets: &mut Vec<Received<'b>>,
     message: usize,
     section: Section,
@@ -104,16 +121,17 @@ fn add_section<'b>(
 ) -> Result<(), AllocError>
     ensures { OnOk result (rrsets.new.items ≡ rrsets.old.items ++ rrsets_in message section records.now) }
 {
-    if let Some(mut together) = rrsets_together(alloc, message, section, records)? {
+    if let Some(mut together) = rrsets_together(alloc, bump, message, section, records)? {
         rrsets.append(&mut together)?;
         return Ok(());
     }
-    add_scattered(alloc, rrsets, message, section, records)
+    add_scattered(alloc, bump, rrsets, message, section, records)
 }
 
 /// Adds the RRsets of a section, in whatever order its records stand.
 fn add_scattered<'b>(
     alloc: Global,
+    bump: &'b Bump,
     rrsets: &mut Vec<Received<'b>>,
     message: usize,
     section: Section,
@@ -132,10 +150,11 @@ fn add_scattered<'b>(
         // The first record of an RRset takes the RDATA of all, and leaves none to the others.
         let rdata = take_rdata(alloc, &mut data, rtype, owner);
         if !rdata.is_empty() {
+            let placed = placed_owner(bump, rrsets, owner)?;
             rrsets.push(Received {
                 message,
                 section,
-                owner: owner.to_name(),
+                owner: placed,
                 rtype,
                 rdata,
                 signatures: distinct_rdata(alloc, &signatures, rtype, owner)?,
@@ -143,4 +162,23 @@ fn add_scattered<'b>(
         }
     }
     Ok(())
+}
+
+/// The owner in the arena. It's that of the RRset before where both are spelled alike, as those of one owner mostly
+/// follow each other.
+pub fn placed_owner<'b>(
+    bump: &'b Bump,
+    before: &[Received<'b>],
+    owner: &NameRef<'_>,
+) -> Result<&'b Name, AllocError>
+    ensures { IfOk result (λ placed. placed.now ≡ owner.now) }
+{
+    let owner = owner.to_name();
+    if let Some(last) = before.last() {
+        if last.owner.wire() == owner.wire() {
+            return Ok(last.owner);
+        }
+    }
+    let placed: &'b Name = bump.try_alloc(owner)?;
+    Ok(placed)
 }

@@ -24,8 +24,8 @@ use dnsv_records::{Dnskey, Ds, Nsec, Nsec3, Rrsig};
 use std::alloc::{AllocError, Global};
 use std::marker::Model;
 
-/// An RRset: the IN records of one message, section, owner and type, and the signatures that cover it there. Its RDATA
-/// stands in the arena.
+/// An RRset: the IN records of one message, section, owner and type, and the signatures that cover it there. Its
+/// owner and RDATA stand in the arena.
 ///
 /// Owners are equal without regard to case. Records of the types 0, OPT, RRSIG and 128 to 255 form no RRset, nor
 /// do those of MD, MF, MB, MG, MR, MINFO, RP, AFSDB, RT, SIG, PX, NXT, NAPTR, KX and A6.
@@ -81,7 +81,7 @@ impl<'b> Rrset<'b> {
     pub fn owner(&self) -> &Name
         ensures { result.now ≡ self.now.owner }
     {
-        &self.received.owner
+        self.received.owner
     }
 
     /// The type of its records.

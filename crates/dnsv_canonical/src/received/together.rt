@@ -5,8 +5,9 @@ ghost use Rattle.dnsv_canonical.specs.Runs.{IsRun};
 
 use crate::by_rrset::each_once;
 use crate::placed_record::PlacedRecord;
-use crate::received::Received;
+use crate::received::{Received, placed_owner};
 use crate::section::{covers, is_grouped, is_rrsig};
+use bumpalo::Bump;
 use dnsv_message::{NameRefByWire, Section};
 use dnsv_names::RecordType;
 use std::alloc::{AllocError, Global};
@@ -27,6 +28,7 @@ struct Run<'b> {
 /// it first; `None` where some stand elsewhere. One search an RRset tells that.
 pub fn rrsets_together<'b>(
     alloc: Global,
+    bump: &'b Bump,
     message: usize,
     section: Section,
     records: &[PlacedRecord<'b>],
@@ -52,10 +54,11 @@ pub fn rrsets_together<'b>(
         }
         let run = run_from(alloc, first, &records[place..])?;
         place += run.count;
+        let owner = placed_owner(bump, rrsets.as_slice(), &first.name)?;
         rrsets.push(Received {
             message,
             section,
-            owner: first.name.to_name(),
+            owner,
             rtype: first.rtype,
             rdata: run.rdata,
             signatures: each_once(alloc, run.signatures)?,

@@ -6,7 +6,7 @@ use Rattle.dnsv_canonical.specs.ByRrset.{rdata_at}
 use Rattle.dnsv_canonical.specs.Rrsets.{first_appearances}
 use Rattle.dnsv_canonical.proofs.GroupLemmas.{rrset_appears, rrset_appeared, rdata_of, had_at, had_is, left_after}
 use Rattle.dnsv_canonical.proofs.received.add_scattered.Goals as goal
-use Rattle.dnsv_canonical.proofs.received.add_scattered.Goals.{then-not-is_empty+in_ok-distinct_rdata+in_ok-push, else-not-is_empty}
+use Rattle.dnsv_canonical.proofs.received.add_scattered.Goals.{then-not-is_empty+in_ok-placed+in_ok-distinct_rdata+in_ok-push, else-not-is_empty}
 
 pub loop-record-preserved : goal.loop-record-preserved
 loop-record-preserved c =
@@ -20,11 +20,11 @@ loop-record-preserved c =
     had_is records i x c.loop-record-test.true c.record-item.is grouped (λ r. r.now) c.take_rdata-rdata.result.items taken
     ∙ ap (λ n. n == 0) (sym c.take_rdata-rdata.result.ok.0) ∙ sym c.is_empty.ensures in (
       elim c.if-not-is_empty.branch [
-        | then-not-is_empty+in_ok-distinct_rdata+in_ok-push w ↦
+        | then-not-is_empty+in_ok-placed+in_ok-distinct_rdata+in_ok-push w ↦
             let rdata : map (λ r. r.now) c.take_rdata-rdata.result.items ≡ rdata_of records x = taken ∙ ap (λ b. if b then [] else rdata_of records x) (had ∙ w.if-not-is_empty.true) in
             let signatures = w.in_ok-distinct_rdata.ensures.once ∙ ap (first_appearances bytes_eq) (ap (λ (r : Record). rdata_at c.in_ok-signatures.signatures r.rtype.0 r.name) c.record.view_is ∙ c.in_ok-signatures.ensures x.name x.rtype.0 (subst (λ (r : Record). r.rtype.0 < 2 ^ 16) c.record.view_is w.distinct_rdata.ensures.fits)) in
             ap (λ v. v.items) w.rrsets-is ∙ w.in_ok-push.ensures.items
-            ∙ (λ j. c.loop-record.rrsets.items ++ record { message = c.args.message; section = c.args.section; owner = (w.to_name.ensures ∙ ap (λ (r : Record). r.name) c.record.view_is) j; rtype = (c.record.view_is j).rtype.0; rdata = rdata j; signatures = signatures j } ∷ [])
+            ∙ (λ j. c.loop-record.rrsets.items ++ record { message = c.args.message; section = c.args.section; owner = (w.in_ok-placed.ensures ∙ ap (λ (r : Record). r.name) c.record.view_is) j; rtype = (c.record.view_is j).rtype.0; rdata = rdata j; signatures = signatures j } ∷ [])
             ∙ rrset_appears c.args.message c.args.section records i x c.loop-record-test.true c.record-item.is
             c.args.rrsets.now.items c.loop-record.rrsets.items c.loop-record.invariant.0 grouped (had ∙ w.if-not-is_empty.true)
         | else-not-is_empty w ↦

@@ -31,7 +31,7 @@ loop-place-preserved c =
     c.push.new.self.items
     (
     c.in_ok-push.ensures.items
-    ∙ (λ j. c.loop-place.rrsets.items ++ record { message = c.args.message; section = c.args.section; owner = (c.to_name.ensures ∙ ap (λ (r : Record). r.name) c.first.view_is) j; rtype = (c.first.view_is j).rtype.0; rdata = rdata; signatures = c.in_ok-each_once.ensures j } ∷ [])
+    ∙ (λ j. c.loop-place.rrsets.items ++ record { message = c.args.message; section = c.args.section; owner = (c.in_ok-owner.ensures ∙ ap (λ (r : Record). r.name) c.first.view_is) j; rtype = (c.first.view_is j).rtype.0; rdata = rdata; signatures = c.in_ok-each_once.ensures j } ∷ [])
     ) c.insert.new.self
     (λ q. kept_then c.loop-place.seen c.insert.new.self (key_of c.first.inside.rtype.0 c.first.inside.name) q c.in_ok-insert.ensures.updates
     ∙ ap (λ (r : Record). cond ((r.rtype.0 == q.rtype.0) && same_name r.name q.name) true (is_kept c.loop-place.seen q)) c.first.view_is)
