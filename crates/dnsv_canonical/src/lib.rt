@@ -11,8 +11,9 @@ pub use laws::{
     rrsets_are_well_formed, signed_data_begins_as_the_signature,
 };
 pub use number::{RecordNumber, SignatureNumber, numbered};
+pub use question::{Question, is_question};
 pub use rrset::{Rrset, canonical_rrset, signed_data};
-pub use section::{forms_rrsets, is_question};
+pub use section::forms_rrsets;
 pub use signed::{is_expanded, signed_label_count};
 
 mod by_rrset;
@@ -23,6 +24,7 @@ mod form;
 mod laws;
 mod number;
 mod placed_record;
+mod question;
 mod received;
 mod records;
 mod rrset;

@@ -1,16 +1,16 @@
 //! What the records of one section say of each other.
-ghost use Rattle.std.specs.Prelude.{◌≡◌, ◌↔◌, ◌&&◌, ◌==◌, ◌<◌, ◌^◌, ℕ, IfOk, IsTrue, map, filter, false};
+ghost use Rattle.std.specs.Prelude.{◌≡◌, ◌&&◌, ◌==◌, ◌<◌, ◌^◌, ℕ, IfOk, IsTrue, map, filter, false};
 ghost use Rattle.std.specs.Option.{option_map_or};
 ghost use Rattle.dnsv_names.specs.Name.{Labels, same_name};
 ghost use Rattle.dnsv_message.specs.declared.record.Record.{Record};
 ghost use Rattle.dnsv_canonical.specs.ByRrset.{rdata_at};
-ghost use Rattle.dnsv_canonical.specs.Rrsets.{forms_rrsets, is_grouped, IsQuestion, same_rrset, is_signature};
+ghost use Rattle.dnsv_canonical.specs.Rrsets.{forms_rrsets, is_grouped, same_rrset, is_signature};
 ghost use Rattle.dnsv_canonical.specs.Runs.{SignsJust};
 
 use crate::by_rrset::{RdataByRrset, add};
 use crate::placed_record::PlacedRecord;
 use dnsv_message::{Class, NameRef};
-use dnsv_names::{Name, RecordType};
+use dnsv_names::RecordType;
 use std::alloc::{AllocError, Global};
 use std::collections::BTreeMap;
 
@@ -26,17 +26,6 @@ pub fn forms_rrsets(rtype: RecordType) -> bool
     ensures { result ≡ forms_rrsets rtype.0 }
 {
     !UNGROUPED.contains(&rtype.0) && !(128 <= rtype.0 && rtype.0 <= 255)
-}
-
-/// Whether the type can be asked at the name: it forms RRsets, is neither NSEC nor NSEC3, which answer no question by
-/// themselves, and is not DS at the root, which no zone is above.
-pub fn is_question(name: &Name, rtype: RecordType) -> bool
-    ensures { IsTrue result ↔ IsQuestion name.now rtype.0 }
-{
-    if !forms_rrsets(rtype) || rtype == RecordType::NSEC || rtype == RecordType::NSEC3 {
-        return false;
-    }
-    rtype != RecordType::DS || name.labels() > 0
 }
 
 /// Whether the candidate belongs to an RRset: it is of class IN, and of a type that forms them.

@@ -1,7 +1,7 @@
 //! Calls of `dnsv_canonical`.
 
 use crate::row::{Row, RowError, printed};
-use dnsv_canonical::{forms_rrsets, is_question, signed_label_count};
+use dnsv_canonical::{Question, forms_rrsets, is_question, signed_label_count};
 use dnsv_names::RecordType;
 
 mod records;
@@ -17,6 +17,9 @@ pub fn answer(row: &Row) -> Result<Option<String>, RowError> {
         return Ok(Some(forms(row)?));
     }
     if row.calls("is-question") {
+        return Ok(Some(askable(row)?));
+    }
+    if row.calls("question") {
         return Ok(Some(question(row)?));
     }
     if let Some(text) = rrsets::answer(row)? {
@@ -41,9 +44,18 @@ fn forms(row: &Row) -> Result<String, RowError> {
 }
 
 /// `is-question NAME TYPE`: whether the type can be asked at the name.
-fn question(row: &Row) -> Result<String, RowError> {
+fn askable(row: &Row) -> Result<String, RowError> {
     let asked = is_question(&row.name(0)?, record_type(row, 1)?);
     Ok(printed::truth(row.alloc(), asked)?)
+}
+
+/// `question NAME TYPE`: the question for the type at the name, `NAME TYPE` again, or `none` where it can't be asked.
+fn question(row: &Row) -> Result<String, RowError> {
+    let Some(question) = Question::new(&row.name(0)?, record_type(row, 1)?) else {
+        return Ok(printed::none(row.alloc())?);
+    };
+    let (name, rtype) = (question.name(), question.rtype().0);
+    Ok(format!(in row.alloc(); "{name} {rtype}")?)
 }
 
 /// The type whose number the argument is.
