@@ -11,9 +11,9 @@ pub use laws::{
     rrsets_are_well_formed, signed_data_begins_as_the_signature,
 };
 pub use number::{RecordNumber, SignatureNumber, numbered};
-pub use rrset::{Rrset, canonical_rrset, signed_data};
+pub use rrset::{Rrset, canonical_rrset, make_signed_data, signed_data};
 pub use section::{forms_rrsets, is_question};
-pub use signed::{is_expanded, signed_label_count};
+pub use signed::{SigningRoom, is_expanded, signed_label_count};
 
 mod by_rrset;
 mod canonical;
