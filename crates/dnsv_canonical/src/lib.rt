@@ -12,9 +12,9 @@ pub use laws::{
 };
 pub use number::{RecordNumber, SignatureNumber, numbered};
 pub use question::{Question, is_question};
-pub use rrset::{Rrset, canonical_rrset, signed_data};
+pub use rrset::{Rrset, canonical_rrset, make_signed_data, signed_data};
 pub use section::forms_rrsets;
-pub use signed::{is_expanded, signed_label_count};
+pub use signed::{SigningRoom, is_expanded, signed_label_count};
 
 mod by_rrset;
 mod canonical;

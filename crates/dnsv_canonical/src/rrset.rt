@@ -1,5 +1,5 @@
 //! RRsets: the records of one message, section, owner and type.
-ghost use Rattle.std.specs.Prelude.{◌≡◌, ◌<◌, ℕ, List, IfOk, length, map, slice_index_or};
+ghost use Rattle.std.specs.Prelude.{◌≡◌, ◌<◌, ℕ, List, Some, None, if◌then◌else◌, IfOk, length, map, slice_index_or};
 ghost use Rattle.std.specs.List.{AllByRecursion, AllZip};
 ghost use Rattle.std.specs.Option.{option_map};
 ghost use Rattle.dnsv_message.specs.declared.record.Section.{Section};
@@ -17,7 +17,7 @@ use crate::canonical::canonical_rdata;
 use crate::form::{canonical_forms, slices};
 use crate::received::Received;
 use crate::records::{Records, read_each, read_records};
-use crate::signed::signed_octets;
+use crate::signed::{SigningRoom, make_signed_octets};
 use dnsv_message::Section;
 use dnsv_names::{Name, RecordType};
 use dnsv_records::{Dnskey, Ds, Nsec, Nsec3, Rrsig};
@@ -181,8 +181,25 @@ pub fn signed_data(
     ensures { IfOk result (λ answer. IsSignedData rrset.now.owner rrset.now.rtype rrset.now.rdata rrsig.now
         (option_map (λ octets. octets.items) answer)) }
 {
+    let mut room = SigningRoom::new(alloc);
+    if !make_signed_data(alloc, &mut room, rrset, rrsig)? {
+        return Ok(None);
+    }
+    Ok(Some(room.octets))
+}
+
+/// The same in room that is used again and again, `octets` of it. The answer is whether the signature signs any.
+pub fn make_signed_data(
+    alloc: Global,
+    room: &mut SigningRoom,
+    rrset: &Rrset<'_>,
+    rrsig: &Rrsig<'_>,
+) -> Result<bool, AllocError>
+    ensures { IfOk result (λ signs. IsSignedData rrset.now.owner rrset.now.rtype rrset.now.rdata rrsig.now
+        (if signs then Some room.new.octets.items else None)) }
+{
     let received = rrset.received.rdata();
-    signed_octets(alloc, rrset.owner(), rrset.rtype(), received, rrsig)
+    make_signed_octets(alloc, room, rrset.owner(), rrset.rtype(), received, rrsig)
 }
 
 /// The RRsets with their records and signatures read.

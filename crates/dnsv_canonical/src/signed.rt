@@ -1,7 +1,6 @@
 //! The octets that a signature signs.
-ghost use Rattle.std.specs.Prelude.{◌≡◌, ◌↔◌, ◌++◌, ◌≤◌, ℕ, List, Option, IfOk, IsTrue, OnOk, map, length};
+ghost use Rattle.std.specs.Prelude.{◌≡◌, ◌↔◌, ◌++◌, ◌≤◌, ℕ, List, Some, None, if◌then◌else◌, IfOk, IsTrue, OnOk, map, length};
 ghost use Rattle.std.specs.List.{AllByRecursion};
-ghost use Rattle.std.specs.Option.{option_map};
 ghost use Rattle.std.specs.Int.{w16, w32, to_be_bytes};
 ghost use Rattle.dnsv_names.specs.Name.{Labels, wire};
 ghost use Rattle.dnsv_canonical.specs.CanonicalRdata.{canonical_form};
@@ -15,29 +14,55 @@ use dnsv_names::{ASTERISK_LABEL, Name, RecordType, WIRE_LIMIT};
 use dnsv_records::Rrsig;
 use std::alloc::{AllocError, Global};
 
-/// The octets that the signature signs over an RRset (RFC 4034 3.1.8.1, 6.2, 6.3; RFC 4035 5.3.2): the RRSIG's
+/// Room in which signed data is made, one after another, so that many take the memory of the longest.
+#[derive(Drop)]
+pub struct SigningRoom {
+    /// The signed data that was made last.
+    pub octets: Vec<u8>,
+    /// What begins each of its records.
+    pub front: Vec<u8>,
+}
+
+impl SigningRoom {
+    /// Room that takes no memory yet.
+    pub fn new(alloc: Global) -> SigningRoom {
+        SigningRoom {
+            octets: Vec::new(alloc),
+            front: Vec::new(alloc),
+        }
+    }
+}
+
+/// Makes the octets that the signature signs over an RRset (RFC 4034 3.1.8.1, 6.2, 6.3; RFC 4035 5.3.2): the RRSIG's
 /// RDATA without the signature, and each record once in canonical form and order, with the original TTL and the
-/// owner that Labels tells. `None` where Labels is above the owner's count of labels.
+/// owner that Labels tells. The answer is whether it signs any: none where Labels is above the owner's count of labels.
 ///
 /// `received` has the RDATA of the RRset's records without compression, their names as they are spelled.
-pub fn signed_octets(
+pub fn make_signed_octets(
     alloc: Global,
+    room: &mut SigningRoom,
     owner: &Name,
     rtype: RecordType,
     received: &[&[u8]],
     rrsig: &Rrsig<'_>,
-) -> Result<Option<Vec<u8>>, AllocError>
+) -> Result<bool, AllocError>
     requires { AllByRecursion (λ rdata. length rdata ≤ 65535) (map (λ r. r.now) received.now) }
-    ensures { IfOk result (λ answer. IsSignedData owner.now rtype.0 (map (λ r. r.now) received.now) rrsig.now
-        (option_map (λ octets. octets.items) answer)) }
+    ensures { IfOk result (λ signs. IsSignedData owner.now rtype.0 (map (λ r. r.now) received.now) rrsig.now
+        (if signs then Some room.new.octets.items else None)) }
 {
     if rrsig.labels as usize > signed_label_count(owner) {
-        return Ok(None);
+        return Ok(false);
     }
-    let mut octets = front_octets(alloc, rrsig)?;
-    let front = record_front(alloc, owner, rtype, rrsig)?;
-    push_canonical(alloc, &mut octets, front.as_slice(), rtype, received)?;
-    Ok(Some(octets))
+    fill_front(&mut room.octets, rrsig)?;
+    fill_record_front(&mut room.front, owner, rtype, rrsig)?;
+    push_canonical(
+        alloc,
+        &mut room.octets,
+        room.front.as_slice(),
+        rtype,
+        received,
+    )?;
+    Ok(true)
 }
 
 /// How many labels of the owner a signature counts: neither the root's nor a leftmost `*` (RFC 4034 3.1.3).
@@ -60,12 +85,13 @@ pub fn is_expanded(owner: &Name, rrsig: &Rrsig<'_>) -> bool
     (rrsig.labels as usize) < signed_label_count(owner)
 }
 
-/// What is signed before the records: the RDATA without the signature, its signer in lower case.
-fn front_octets(alloc: Global, rrsig: &Rrsig<'_>) -> Result<Vec<u8>, AllocError>
-    ensures { IfOk result (λ octets. octets.items ≡ signed_front rrsig.now) }
+/// Puts there what is signed before the records: the RDATA without the signature, its signer in lower case.
+fn fill_front(octets: &mut Vec<u8>, rrsig: &Rrsig<'_>) -> Result<(), AllocError>
+    ensures { OnOk result (octets.new.items ≡ signed_front rrsig.now) }
 {
+    octets.clear();
     // The octets before the signer, and a signer.
-    let mut octets = Vec::with_capacity(alloc, 18 + WIRE_LIMIT)?;
+    octets.reserve(18 + WIRE_LIMIT)?;
     octets.extend_from_slice(&rrsig.type_covered.0.to_be_bytes())?;
     octets.push(rrsig.algorithm.0)?;
     octets.push(rrsig.labels)?;
@@ -74,7 +100,7 @@ fn front_octets(alloc: Global, rrsig: &Rrsig<'_>) -> Result<Vec<u8>, AllocError>
     octets.extend_from_slice(&rrsig.inception.0.to_be_bytes())?;
     octets.extend_from_slice(&rrsig.key_tag.0.to_be_bytes())?;
     octets.extend_from_slice(rrsig.signer.to_name().to_lower().wire())?;
-    Ok(octets)
+    Ok(())
 }
 
 /// Adds the signed records of the RDATA of the type, in canonical form and order.
@@ -130,39 +156,40 @@ fn push_record(octets: &mut Vec<u8>, front: &[u8], rdata: &[u8]) -> Result<(), A
     Ok(())
 }
 
-/// What begins each signed record: owner, type, class IN and the original TTL.
-fn record_front(
-    alloc: Global,
+/// Puts there what begins each signed record: owner, type, class IN and the original TTL.
+fn fill_record_front(
+    octets: &mut Vec<u8>,
     owner: &Name,
     rtype: RecordType,
     rrsig: &Rrsig<'_>,
-) -> Result<Vec<u8>, AllocError>
+) -> Result<(), AllocError>
     requires { rrsig.now.labels ≤ signed_label_count owner.now }
-    ensures { IfOk result (λ octets. octets.items ≡ wire (signed_owner owner.now rrsig.now.labels)
+    ensures { OnOk result (octets.new.items ≡ wire (signed_owner owner.now rrsig.now.labels)
         ++ to_be_bytes w16 rtype.0 ++ to_be_bytes w16 1 ++ to_be_bytes w32 rrsig.now.original_ttl.0) }
 {
-    let mut octets = owner_octets(alloc, owner, rrsig.labels as usize)?;
+    fill_owner(octets, owner, rrsig.labels as usize)?;
     octets.extend_from_slice(&rtype.0.to_be_bytes())?;
     octets.extend_from_slice(&Class::IN.0.to_be_bytes())?;
     let ttl = rrsig.original_ttl;
     octets.extend_from_slice(&ttl.0.to_be_bytes())?;
-    Ok(octets)
+    Ok(())
 }
 
-/// The owner as it is signed: in lower case, with `*` for the labels that a wildcard was expanded to.
-fn owner_octets(alloc: Global, owner: &Name, labels: usize) -> Result<Vec<u8>, AllocError>
+/// Puts there the owner as it is signed: in lower case, with `*` for the labels that a wildcard was expanded to.
+fn fill_owner(octets: &mut Vec<u8>, owner: &Name, labels: usize) -> Result<(), AllocError>
     requires { labels ≤ signed_label_count owner.now }
-    ensures { IfOk result (λ octets. octets.items ≡ wire (signed_owner owner.now labels)) }
+    ensures { OnOk result (octets.new.items ≡ wire (signed_owner owner.now labels)) }
 {
+    octets.clear();
     // An owner, and what stands between it and the RDATA's length.
-    let mut octets = Vec::with_capacity(alloc, WIRE_LIMIT + 8)?;
+    octets.reserve(WIRE_LIMIT + 8)?;
     if labels < signed_label_count(owner) {
         octets.extend_from_slice(&ASTERISK_LABEL)?;
         octets.extend_from_slice(owner.suffix(labels).to_lower().wire())?;
     } else {
         octets.extend_from_slice(owner.to_lower().wire())?;
     }
-    Ok(octets)
+    Ok(())
 }
 
 /// The length of an RDATA in 16 bits.

@@ -1,7 +1,7 @@
 use Rattle.std.proofs.Common.{List, ℕ, ◌++◌, length, ◌∙◌, arith}
 use Rattle.std.specs.Int.{w16, to_be_bytes}
 use Rattle.std.specs.List.{flat_map}
-use Rattle.dnsv_canonical.proofs.signed.signed_octets.Goals as goal
+use Rattle.dnsv_canonical.proofs.signed.make_signed_octets.Goals as goal
 
 pub returns : goal.returns
 returns c =
@@ -10,5 +10,5 @@ returns c =
       omega arith,
       adds.canonical,
       adds.are,
-      adds.added ∙ (λ i. c.in_ok-octets.ensures i ++ records_of ((c.as_slice.ensures.value ∙ c.in_ok-front.ensures) i)),
+      adds.added ∙ (λ i. c.in_ok-fill_front.ensures i ++ records_of ((c.as_slice.ensures.value ∙ c.in_ok-fill_record_front.ensures) i)),
     )
