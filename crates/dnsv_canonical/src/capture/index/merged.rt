@@ -110,6 +110,11 @@ fn push_moved(
     requires fits { All (λ place. to + (place - from) < 2 ^ 64) places.now }
     ensures { OnOk result (starts.new.items ≡ starts.old.items ++ map (λ place. to + (place - from)) places.now) }
 {
+    // So many stand before them as stood there: nothing was added in between.
+    if from == to {
+        starts.extend_from_slice(places)?;
+        return Ok(());
+    }
     for place in places {
         starts.push(to + (*place - from))?;
     }
