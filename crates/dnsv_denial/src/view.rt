@@ -13,6 +13,7 @@ ghost use Rattle.dnsv_zones.specs.zones.Zone.{Zone, Holds};
 ghost use Rattle.dnsv_canonical.specs.Evidence.{AreParameters, nsec3_rdata};
 ghost use Rattle.dnsv_chain.specs.Trust.{SecuredIn};
 ghost use Rattle.dnsv_denial.specs.gathering.ByZone.{AreDenialRecords};
+ghost use Rattle.dnsv_denial.specs.gathering.Kept.{AreZones};
 ghost use Rattle.dnsv_denial.specs.proving.FirstProof.{
   CanProveNoCloser,
   CanProveNoData,
@@ -28,7 +29,7 @@ ghost use Rattle.dnsv_denial.specs.unsigned_cuts.Cuts.{HasOptedOutNextCloser, Ha
 ghost use Rattle.dnsv_denial.specs.words.EvidenceWords.{Chain, evidence_said};
 
 use crate::gathering::denial_records::DenialRecords;
-use crate::gathering::zones::zones_of;
+use crate::gathering::zones::{lent_zones, own_zones};
 use crate::proving::proof::Proof;
 use crate::proving::shown_denial::proof_of;
 use crate::question_hashes::Hashes;
@@ -54,7 +55,7 @@ pub struct View<'c, 't> {
     /// In the order of their parameters, shared with the `Hashes` that the view was made with.
     sets: Rc<Vec<NameHashes<'c>>>,
     /// One for each number of the name's rightmost labels, from the root on.
-    zones: Vec<ZoneRecords<'t>>,
+    zones: Vec<ZoneRecords<'c, 't>>,
     /// What they show against answers from wildcards to the name.
     answers: WildcardAnswers,
 }
@@ -79,19 +80,16 @@ impl<'c, 't> Model for View<'c, 't> {
 }
 
 impl<'c, 't> View<'c, 't> {
-    /// Takes the records for the question's name from `denials`, those that the zones of the capture secured by the trust,
-    /// which is that of the capture. `count` grows by the hashes that
+    /// Gathers the records for the question's name. `trust` is that of the capture. `count` grows by the hashes that
     /// are made: one more than the iterations for the name, for each of its ancestors and for each wildcard right below
     /// one of its proper ancestors, with each iterations and salt of a usable NSEC3 record of the capture (RFC 5155 5).
     pub fn new(
         alloc: Global,
         capture: &'c Capture<'c>,
         trust: &'t Trust<'t>,
-        denials: &'t DenialRecords<'t>,
         name: &Name,
         count: &mut Count,
     ) -> Result<View<'c, 't>, AllocError>
-        requires { AreDenialRecords (SecuredIn trust.now) capture.now.rrsets denials.now }
         ensures value { IfOk result (λ view. view
             ≡ record { rrsets = capture.now.rrsets; trust = trust.now; name = name.now }) }
         // Whatever the order of the parameters.
@@ -100,12 +98,27 @@ impl<'c, 't> View<'c, 't> {
             → count.new ≡ counted count.old (hashes_for name.now all)) }
     {
         let hashes = Hashes::new(alloc, capture, name, count)?;
-        View::with(alloc, capture, trust, denials, &hashes)
+        View::with(alloc, capture, trust, &hashes)
     }
 
-    /// Takes the records for the name that the hashes are kept for, which are those of the capture, from what the zones
-    /// secured by the trust. Nothing is hashed.
+    /// Gathers the records for the name that the hashes are kept for, which are those of the capture. Nothing is hashed.
     pub fn with(
+        alloc: Global,
+        capture: &'c Capture<'c>,
+        trust: &'t Trust<'t>,
+        hashes: &Hashes<'c>,
+    ) -> Result<View<'c, 't>, AllocError>
+        requires hashes { hashes.now.rrsets ≡ capture.now.rrsets }
+        ensures { IfOk result (λ view. view
+            ≡ record { rrsets = capture.now.rrsets; trust = trust.now; name = hashes.now.name }) }
+    {
+        let zones = own_zones(alloc, capture, trust, hashes.name())?;
+        View::of_zones(alloc, capture, trust, zones, hashes)
+    }
+
+    /// The same view, for which nothing is gathered: it looks through `denials`, the records that the zones of the
+    /// capture secured by the trust. For many questions of one capture these are gathered once.
+    pub fn through(
         alloc: Global,
         capture: &'c Capture<'c>,
         trust: &'t Trust<'t>,
@@ -117,8 +130,24 @@ impl<'c, 't> View<'c, 't> {
         ensures { IfOk result (λ view. view
             ≡ record { rrsets = capture.now.rrsets; trust = trust.now; name = hashes.now.name }) }
     {
+        let zones = lent_zones(alloc, denials, hashes.name())?;
+        View::of_zones(alloc, capture, trust, zones, hashes)
+    }
+
+    /// The view that looks through the records of these zones, at or above the name that the hashes are kept for.
+    fn of_zones(
+        alloc: Global,
+        capture: &'c Capture<'c>,
+        trust: &'t Trust<'t>,
+        zones: Vec<ZoneRecords<'c, 't>>,
+        hashes: &Hashes<'c>,
+    ) -> Result<View<'c, 't>, AllocError>
+        requires zones { AreZones (SecuredIn trust.now) capture.now.rrsets hashes.now.name zones.items }
+        requires hashes { hashes.now.rrsets ≡ capture.now.rrsets }
+        ensures { IfOk result (λ view. view
+            ≡ record { rrsets = capture.now.rrsets; trust = trust.now; name = hashes.now.name }) }
+    {
         let sets = hashes.share()?;
-        let zones = zones_of(alloc, denials, hashes.name())?;
         let answers = wildcard_answers(alloc, capture, trust, hashes.name(), &zones, &sets)?;
         Ok(View {
             capture,

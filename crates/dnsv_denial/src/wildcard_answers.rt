@@ -35,7 +35,7 @@ pub fn wildcard_answers(
     capture: &Capture<'_>,
     trust: &Trust<'_>,
     name: &Name,
-    zones: &[ZoneRecords<'_>],
+    zones: &[ZoneRecords<'_, '_>],
     sets: &[NameHashes<'_>],
 ) -> Result<WildcardAnswers, AllocError>
     requires { IsViewOf (SecuredIn trust.now) capture.now.rrsets name.now sets.now zones.now }
@@ -62,7 +62,7 @@ fn add_answers(
     rrset: &Rrset<'_>,
     secured: &[usize],
     name: &Name,
-    zones: &[ZoneRecords<'_>],
+    zones: &[ZoneRecords<'_, '_>],
     sets: &[NameHashes<'_>],
     answers: &mut WildcardAnswers,
 ) -> Result<(), AllocError>
@@ -93,7 +93,7 @@ fn shown_by_records(
     name: &Name,
     zone: &Name,
     labels: usize,
-    zones: &[ZoneRecords<'_>],
+    zones: &[ZoneRecords<'_, '_>],
     sets: &[NameHashes<'_>],
 ) -> Shown
     requires { (trust : KeptTrust) × (rrsets : List ReceivedRrset)

@@ -13,7 +13,7 @@ use crate::row::{Row, RowError, printed};
 use bumpalo::Bump;
 use dnsv_canonical::Capture;
 use dnsv_chain::Trust;
-use dnsv_denial::{DenialRecords, Hashes, Proof, View};
+use dnsv_denial::{Hashes, Proof, View};
 use dnsv_names::{Count, Name, RecordType};
 use evidence::{Evidence, evidence_in};
 use std::alloc::Global;
@@ -85,19 +85,10 @@ fn view_with_hashes_of<'a>(
     evidence: &'a Evidence<'a>,
     before: &Trust<'_>,
     name: &Name,
-) -> Result<View<'a, 'a>, RowError>
-    requires { AreDenialRecords (SecuredIn evidence.now.trust) evidence.now.capture.now.rrsets evidence.now.denials }
-{
+) -> Result<View<'a, 'a>, RowError> {
     let hashes = Hashes::new(alloc, evidence.capture, name, &mut Count::new())?;
-    let denials = DenialRecords::of(alloc, evidence.capture, before)?;
-    make_view(alloc, evidence.capture, before, &denials, &hashes)?;
-    Ok(View::with(
-        alloc,
-        evidence.capture,
-        &evidence.trust,
-        &evidence.denials,
-        &hashes,
-    )?)
+    make_view(alloc, evidence.capture, before, &hashes)?;
+    Ok(View::with(alloc, evidence.capture, &evidence.trust, &hashes)?)
 }
 
 /// Makes a view by the hashes, of which nothing is asked.
@@ -105,13 +96,11 @@ fn make_view<'a>(
     alloc: Global,
     capture: &'a Capture<'a>,
     trust: &Trust<'_>,
-    denials: &DenialRecords<'_>,
     hashes: &Hashes<'a>,
 ) -> Result<(), RowError>
-    requires denials { AreDenialRecords (SecuredIn trust.now) capture.now.rrsets denials.now }
-    requires hashes { hashes.now.rrsets ≡ capture.now.rrsets }
+    requires { hashes.now.rrsets ≡ capture.now.rrsets }
 {
-    View::with(alloc, capture, trust, denials, hashes)?;
+    View::with(alloc, capture, trust, hashes)?;
     Ok(())
 }
 
@@ -160,7 +149,6 @@ fn hash_count(row: &Row, capture: &Capture<'_>) -> Result<String, RowError> {
         row.alloc(),
         evidence.capture,
         &evidence.trust,
-        &evidence.denials,
         &name,
         &mut count,
     )?;
@@ -198,16 +186,31 @@ fn view_of<'a>(
     alloc: Global,
     evidence: &'a Evidence<'a>,
     name: &Name,
-) -> Result<View<'a, 'a>, RowError>
-    requires { AreDenialRecords (SecuredIn evidence.now.trust) evidence.now.capture.now.rrsets evidence.now.denials }
-{
+) -> Result<View<'a, 'a>, RowError> {
     Ok(View::new(
         alloc,
         evidence.capture,
         &evidence.trust,
-        &evidence.denials,
         name,
         &mut Count::new(),
+    )?)
+}
+
+/// The same view, through the records that were gathered for all names.
+fn view_through<'a>(
+    alloc: Global,
+    evidence: &'a Evidence<'a>,
+    name: &Name,
+) -> Result<View<'a, 'a>, RowError>
+    requires { AreDenialRecords (SecuredIn evidence.now.trust) evidence.now.capture.now.rrsets evidence.now.denials }
+{
+    let hashes = Hashes::new(alloc, evidence.capture, name, &mut Count::new())?;
+    Ok(View::through(
+        alloc,
+        evidence.capture,
+        &evidence.trust,
+        &evidence.denials,
+        &hashes,
     )?)
 }
 

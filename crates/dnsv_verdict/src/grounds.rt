@@ -121,7 +121,7 @@ fn settled_on<'a>(
         (¬ IsSettled (SecuredIn grounds.now.trust) grounds.now.capture.now.rrsets name.now rtype.0)
         (IsSettledAs (SecuredIn grounds.now.trust) grounds.now.capture.now.rrsets name.now rtype.0)) }
 {
-    let view = View::with(
+    let view = View::through(
         alloc,
         grounds.capture,
         &grounds.trust,

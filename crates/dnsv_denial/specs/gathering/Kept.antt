@@ -16,14 +16,22 @@ use Rattle.dnsv_denial.specs.words.EvidenceWords.{Chain, GoesBefore, parameters_
 use Rattle.dnsv_denial.specs.declared.forms.denial.Denial.{Denial}
 use Rattle.dnsv_denial.specs.declared.proving.shown_denial.ShownDenial.{ShownDenial}
 use Rattle.dnsv_canonical.specs.declared.number.RecordNumber.{RecordNumber}
+use Rattle.dnsv_denial.specs.declared.records.zone_records.HeldRecords.{HeldRecords}
+use Rattle.dnsv_denial.specs.declared.records.zone_records.HeldRecords.TheVariants.{Own, Lent}
 use Rattle.dnsv_denial.specs.declared.records.zone_records.NameHashes.{NameHashes}
+use Rattle.dnsv_denial.specs.declared.records.zone_records.SecuredRecords.{SecuredRecords}
 use Rattle.dnsv_denial.specs.declared.records.zone_records.ZoneRecords.{ZoneRecords}
 
 -- ---- what is kept
 
+-- the records, own or lent
+abbrev pub records_of : HeldRecords → SecuredRecords
+records_of (Own records) = records
+records_of (Lent records) = records.now
+
 -- the records are those of the zone among the evidence
 abbrev pub IsZoneOf : (ℕ → ℕ → Type 0) → List ReceivedRrset → ZoneRecords → Type 0
-IsZoneOf Secured rrsets kept = AreSecuredRecords Secured rrsets kept.zone kept.records.now
+IsZoneOf Secured rrsets kept = AreSecuredRecords Secured rrsets kept.zone (records_of kept.records)
 
 -- the hashes are those of the names that a question of the name asks for
 abbrev pub IsSetOf : Labels → NameHashes → Type 0

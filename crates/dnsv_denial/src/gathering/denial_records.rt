@@ -100,7 +100,7 @@ fn secured_zones<'c>(
 }
 
 /// The records of the zone, which stand in RRsets with some of these numbers.
-fn secured_records<'c>(
+pub fn secured_records<'c>(
     alloc: Global,
     capture: &'c Capture<'c>,
     trust: &Trust<'_>,

@@ -8,7 +8,7 @@ ghost use Rattle.dnsv_denial.specs.gathering.Gathered.{AreListed, IsDenialType};
 
 use dnsv_canonical::{Capture, Rrset};
 use dnsv_chain::{ByOwner, Trust, add_at};
-use dnsv_names::RecordType;
+use dnsv_names::{Name, RecordType};
 use std::alloc::{AllocError, Global};
 use std::collections::BTreeMap;
 
@@ -31,6 +31,19 @@ pub fn numbers_by_zone<'c>(
         }
     }
     Ok(numbers)
+}
+
+/// The numbers that are there for the zone. The zones are tried one after another, since the tree can be asked only for a
+/// name that is kept as long as those in it.
+pub fn numbers_of<'m, 'c>(numbers: &'m NumbersByZone<'c>, zone: &Name) -> &'m [usize]
+    ensures { result.now ≡ values_at numbers.now zone.now }
+{
+    for entry in numbers {
+        if entry.0.0.is_same(zone) {
+            return entry.1;
+        }
+    }
+    &[]
 }
 
 /// Whether records of the type may deny a name or a type.

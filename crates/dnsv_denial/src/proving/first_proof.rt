@@ -21,7 +21,7 @@ use dnsv_names::Name;
 pub fn first_proof<'a>(
     denial: Denial,
     name: &'a Name,
-    zones: &'a [ZoneRecords<'a>],
+    zones: &'a [ZoneRecords<'a, 'a>],
     sets: &'a [NameHashes<'a>],
 ) -> Option<ShownDenial>
     requires { AllByRecursion (IsSetOf name.now) sets.now }
@@ -49,7 +49,7 @@ pub fn no_closer(
     name: &Name,
     zone: &Name,
     labels: usize,
-    zones: &[ZoneRecords<'_>],
+    zones: &[ZoneRecords<'_, '_>],
     sets: &[NameHashes<'_>],
 ) -> Option<ShownDenial>
     requires hashed { AllByRecursion (IsSetOf name.now) sets.now }

@@ -18,7 +18,7 @@ use dnsv_names::Name;
 pub fn zone_proof<'a>(
     denial: Denial,
     name: &'a Name,
-    zone: &'a ZoneRecords<'a>,
+    zone: &'a ZoneRecords<'a, 'a>,
     sets: &'a [NameHashes<'a>],
 ) -> Option<ShownDenial>
     requires { AllByRecursion (IsSetOf name.now) sets.now }

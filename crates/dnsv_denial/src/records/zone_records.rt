@@ -3,7 +3,7 @@ ghost use Rattle.std.specs.Prelude.{◌≡◌, ◌≤◌, List, length};
 ghost use Rattle.std.specs.List.{AllByRecursion};
 ghost use Rattle.dnsv_canonical.specs.Rrsets.{ReceivedRrset};
 ghost use Rattle.dnsv_chain.specs.Trust.{KeptTrust, SecuredIn};
-ghost use Rattle.dnsv_denial.specs.gathering.Kept.{IsSetOf, IsZoneOf};
+ghost use Rattle.dnsv_denial.specs.gathering.Kept.{IsSetOf, IsZoneOf, records_of};
 ghost use Rattle.dnsv_denial.specs.proving.ZoneChains.{HasKeptHashes, IsKeptOf, chain_at};
 ghost use Rattle.dnsv_denial.specs.records.AskedHash.{HasHashesOf};
 
@@ -35,11 +35,32 @@ pub struct SecuredRecords<'a> {
 
 /// The records of a zone that evidence has.
 #[derive(Drop)]
-pub struct ZoneRecords<'a> {
+pub struct ZoneRecords<'c, 't> {
     /// The zone's name, as the question's name spells it.
     pub zone: Name,
-    /// Its records, where they are kept.
-    pub records: &'a SecuredRecords<'a>,
+    /// Its records.
+    pub records: HeldRecords<'c, 't>,
+}
+
+/// The records that a zone secured, by whoever keeps them.
+#[derive(Drop)]
+pub enum HeldRecords<'c, 't> {
+    /// Gathered for one question.
+    Own(SecuredRecords<'c>),
+    /// Kept with those of other zones, for many questions.
+    Lent(&'t SecuredRecords<'t>),
+}
+
+impl<'a> HeldRecords<'a, 'a> {
+    /// The records.
+    fn get(&'a self) -> &'a SecuredRecords<'a>
+        ensures { result.now ≡ records_of self.now }
+    {
+        match self {
+            HeldRecords::Own(records) => records,
+            HeldRecords::Lent(records) => records,
+        }
+    }
 }
 
 /// The records of the zone's chain with this number, in the order in which chains are asked: NSEC is 0, and NSEC3 with
@@ -47,7 +68,7 @@ pub struct ZoneRecords<'a> {
 pub fn zone_chain<'a>(
     number: usize,
     name: &'a Name,
-    zone: &'a ZoneRecords<'a>,
+    zone: &'a ZoneRecords<'a, 'a>,
     sets: &'a [NameHashes<'a>],
 ) -> KeptChain<'a>
     requires number { number ≤ length sets.now }
@@ -57,7 +78,7 @@ pub fn zone_chain<'a>(
         → IsKeptOf (SecuredIn trust) rrsets zone.now.zone (chain_at sets.now number) result }
 {
     if number == 0 {
-        return KeptChain::Nsec(&zone.records.nsecs);
+        return KeptChain::Nsec(&zone.records.get().nsecs);
     }
     KeptChain::Nsec3(nsec3_records(name, zone, &sets[number - 1]))
 }
@@ -65,17 +86,17 @@ pub fn zone_chain<'a>(
 /// The zone's NSEC3 records, with the set's hashes of the names that a question of the name asks for.
 fn nsec3_records<'a>(
     name: &'a Name,
-    zone: &'a ZoneRecords<'a>,
+    zone: &'a ZoneRecords<'a, 'a>,
     set: &'a NameHashes<'a>,
 ) -> HashedRecords<'a>
     requires { IsSetOf name.now set.now }
-    ensures entries { result.entries.now ≡ zone.now.records.now.nsec3s }
+    ensures entries { result.entries.now ≡ (records_of zone.now.records).nsec3s }
     ensures parameters { result.parameters.now ≡ set.now.parameters.now }
     ensures name { result.name.now ≡ name.now }
     ensures hashes { HasHashesOf result }
 {
     HashedRecords {
-        entries: &zone.records.nsec3s,
+        entries: &zone.records.get().nsec3s,
         name,
         parameters: set.parameters,
         above: &set.hashed.above,

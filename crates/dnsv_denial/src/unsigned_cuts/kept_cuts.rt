@@ -21,7 +21,7 @@ pub fn unsigned_cut(
     capture: &Capture<'_>,
     trust: &Trust<'_>,
     name: &Name,
-    zones: &[ZoneRecords<'_>],
+    zones: &[ZoneRecords<'_, '_>],
     sets: &[NameHashes<'_>],
 ) -> Option<Name>
     requires { IsViewOf (SecuredIn trust.now) capture.now.rrsets name.now sets.now zones.now }
@@ -39,7 +39,7 @@ pub fn opted_out_next_closer(
     name: &Name,
     zone: &Name,
     labels: usize,
-    zones: &[ZoneRecords<'_>],
+    zones: &[ZoneRecords<'_, '_>],
     sets: &[NameHashes<'_>],
 ) -> Option<Name>
     requires { (trust : KeptTrust) × (rrsets : List ReceivedRrset)

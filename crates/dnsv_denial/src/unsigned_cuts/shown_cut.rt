@@ -47,7 +47,7 @@ pub fn shown_cut<'a>(
     capture: &Capture<'_>,
     trust: &Trust<'_>,
     name: &'a Name,
-    zones: &'a [ZoneRecords<'a>],
+    zones: &'a [ZoneRecords<'a, 'a>],
     sets: &'a [NameHashes<'a>],
 ) -> Option<ShownCut>
     requires { IsViewOf (SecuredIn trust.now) capture.now.rrsets name.now sets.now zones.now }
@@ -77,7 +77,7 @@ pub fn shown_cut<'a>(
 /// How the zone shows that Opt-Out may leave out a delegation at the next closer name to the name's so many labels,
 /// against an answer from the wildcard (RFC 5155 8.8); `None` where it doesn't.
 pub fn shown_loose_closer(
-    zones: &[ZoneRecords<'_>],
+    zones: &[ZoneRecords<'_, '_>],
     sets: &[NameHashes<'_>],
     name: &Name,
     zone: &Name,

@@ -27,7 +27,7 @@ pub struct ShownCuts {
 
 /// What any chain of these zones shows.
 pub fn zones_cuts<'a>(
-    zones: &'a [ZoneRecords<'a>],
+    zones: &'a [ZoneRecords<'a, 'a>],
     name: &'a Name,
     sets: &'a [NameHashes<'a>],
 ) -> ShownCuts
@@ -48,7 +48,11 @@ pub fn zones_cuts<'a>(
 }
 
 /// What any chain of the zone shows.
-fn zone_cuts<'a>(zone: &'a ZoneRecords<'a>, name: &'a Name, sets: &'a [NameHashes<'a>]) -> ShownCuts
+fn zone_cuts<'a>(
+    zone: &'a ZoneRecords<'a, 'a>,
+    name: &'a Name,
+    sets: &'a [NameHashes<'a>],
+) -> ShownCuts
     requires { AllByRecursion (IsSetOf name.now) sets.now }
     ensures { (trust : KeptTrust) (rrsets : List ReceivedRrset) → IsZoneOf (SecuredIn trust) rrsets zone.now
         → AreSets (SecuredIn trust) rrsets sets.now

@@ -13,7 +13,7 @@ use dnsv_names::Name;
 /// Whether an unsigned delegation of the zone may stand against an answer from the wildcard below the name's so many
 /// labels (RFC 5155 8.8). Only NSEC3 records have the Opt-Out flag.
 pub fn zone_opts_out_next_closer<'a>(
-    zone: &'a ZoneRecords<'a>,
+    zone: &'a ZoneRecords<'a, 'a>,
     name: &'a Name,
     labels: usize,
     sets: &'a [NameHashes<'a>],

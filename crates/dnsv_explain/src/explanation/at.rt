@@ -32,7 +32,7 @@ impl<'s, 'a> At<'s, 'a> {
         }) }
     {
         let grounds = self.grounds;
-        Ok(View::with(
+        Ok(View::through(
             alloc,
             grounds.capture,
             &grounds.trust,

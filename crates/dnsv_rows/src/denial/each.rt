@@ -1,7 +1,7 @@
 //! Questions of many names of a zone in one row.
 
 use super::evidence::evidence_in;
-use crate::denial::{rtype_of, view_of};
+use crate::denial::{rtype_of, view_through};
 use crate::evidence::capture_or_refusal;
 use crate::row::{Row, RowError};
 use bumpalo::Bump;
@@ -26,7 +26,7 @@ fn lacks_in(row: &Row, capture: &Capture<'_>) -> Result<String, RowError> {
     let mut text = String::new(row.alloc());
     for place in 4..row.count() {
         let name = row.name(place)?;
-        let view = view_of(row.alloc(), &evidence, &name)?;
+        let view = view_through(row.alloc(), &evidence, &name)?;
         append(&mut text, " ", lacked(row, &view)?.as_str())?;
     }
     Ok(text)
@@ -87,7 +87,7 @@ fn closers_in(row: &Row, capture: &Capture<'_>) -> Result<String, RowError> {
     let mut text = String::new(row.alloc());
     for place in 4..row.count() {
         let name = row.name(place)?;
-        let view = view_of(row.alloc(), &evidence, &name)?;
+        let view = view_through(row.alloc(), &evidence, &name)?;
         append(
             &mut text,
             " ",

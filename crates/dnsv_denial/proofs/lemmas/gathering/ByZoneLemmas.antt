@@ -55,6 +55,30 @@ found_among {Y} (e ∷ entries) zones named name k there =
       | false ↦ λ is found. found_among entries zones named.1 name k found
     ] refl there
 
+-- what is there for the zone among these entries
+abbrev pub numbers_in : {Y : Type 0} → Labels → List (OwnerKey × Vec ℕ Y) → List ℕ
+numbers_in {Y} zone entries = option_map_or (λ (numbers : Vec ℕ Y). numbers.items) (lookup (λ (key : OwnerKey). same_name zone key.0) entries) []
+
+turned : (a b : Labels) (s : Bool) → same_name a b ≡ s → same_name b a ≡ s
+turned a b true is = (same_name_Decides b a).1 (sym ((same_name_Decides a b).0 is))
+turned a b false is =
+    elim (same_name b a) as (λ t. same_name b a ≡ t → t ≡ false) [
+      | true ↦ λ other. let its : same_name a b ≡ true = (same_name_Decides a b).1 (sym ((same_name_Decides b a).0 other)) in sym its ∙ is
+      | false ↦ λ _. refl
+    ] refl
+
+pub entry_found : {Y : Type 0} (zone : Labels) (entry : OwnerKey × Vec ℕ Y) (rest : List (OwnerKey × Vec ℕ Y)) → same_name entry.0.0 zone ≡ true
+    → numbers_in zone (entry ∷ rest) ≡ entry.1.items
+entry_found {Y} zone entry rest is =
+    ap (λ (b : Bool). option_map_or (λ (numbers : Vec ℕ Y). numbers.items) (cond b (Some entry.1) (lookup (λ (key : OwnerKey). same_name zone key.0) rest)) [])
+    (turned entry.0.0 zone true is)
+
+pub entry_passed : {Y : Type 0} (zone : Labels) (entry : OwnerKey × Vec ℕ Y) (rest : List (OwnerKey × Vec ℕ Y)) → same_name entry.0.0 zone ≡ false
+    → numbers_in zone (entry ∷ rest) ≡ numbers_in zone rest
+entry_passed {Y} zone entry rest is =
+    ap (λ (b : Bool). option_map_or (λ (numbers : Vec ℕ Y). numbers.items) (cond b (Some entry.1) (lookup (λ (key : OwnerKey). same_name zone key.0) rest)) [])
+    (turned entry.0.0 zone false is)
+
 module _ {Y : Type 0} (Secured : ℕ → ℕ → Type 0) (rrsets : List ReceivedRrset) where
   -- the zones of the entries before the rest
   pub record AreZonesBefore (all rest : List (OwnerKey × Vec ℕ Y)) (zones : List SecuredZone) : Type 0 where

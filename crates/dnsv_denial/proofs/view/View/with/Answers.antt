@@ -1,24 +1,8 @@
-use Rattle.std.proofs.Common.{◌∙◌, ap, sym, subst}
+use Rattle.std.proofs.Common.{subst}
 use Rattle.dnsv_chain.specs.Trust.{SecuredIn}
-use Rattle.dnsv_denial.specs.WildcardAnswers.{AreAnswers}
-use Rattle.dnsv_denial.specs.gathering.Kept.{AreZones, IsViewOf}
-use Rattle.dnsv_denial.proofs.lemmas.gathering.NameHashesLemmas.{view_of_kept}
+use Rattle.dnsv_denial.specs.gathering.Kept.{AreZones}
 use Rattle.dnsv_denial.proofs.view.View.with.Goals as goal
 
-pub wildcard_answers-requires : goal.wildcard_answers-requires
-wildcard_answers-requires c =
-    let are = subst (λ name. AreZones (SecuredIn c.args.trust.now) c.args.capture.now.rrsets name c.in_ok-zones.zones.items) c.name.ensures (c.in_ok-zones.ensures c.args.trust.now c.args.capture.now.rrsets c.requires.denials) in
-    let sets = c.deref-3.ensures.value ∙ ap (λ v. v.items) c.deref-2.ensures in
-    subst (λ zones. IsViewOf (SecuredIn c.args.trust.now) c.args.capture.now.rrsets c.name-2.result.now c.deref-3.result.now zones) (sym c.deref.ensures.value)
-    (subst (λ each. IsViewOf (SecuredIn c.args.trust.now) c.args.capture.now.rrsets c.name-2.result.now each c.in_ok-zones.zones.items) (sym sets)
-    (view_of_kept c.args.trust.now c.args.hashes.now.rrsets c.args.capture.now.rrsets c.args.hashes.now.name c.name-2.result.now c.in_ok-sets.sets.value.items c.in_ok-zones.zones.items
-    c.requires.hashes c.name-2.ensures c.in_ok-sets.ensures are))
-
-pub invariant_of-result : goal.invariant_of-result
-invariant_of-result c =
-    let are = subst (λ name. AreZones (SecuredIn c.args.trust.now) c.args.capture.now.rrsets name c.in_ok-zones.zones.items) c.name.ensures (c.in_ok-zones.ensures c.args.trust.now c.args.capture.now.rrsets c.requires.denials) in
-    let its = c.in_ok-clone.ensures.cases ∙ c.name-3.ensures in (
-      view_of_kept c.args.trust.now c.args.hashes.now.rrsets c.args.capture.now.rrsets c.args.hashes.now.name _ c.in_ok-sets.sets.value.items c.in_ok-zones.zones.items
-          c.requires.hashes its c.in_ok-sets.ensures are,
-      subst (λ name. AreAnswers (SecuredIn c.args.trust.now) c.args.capture.now.rrsets name c.in_ok-answers.answers) (c.name-2.ensures ∙ sym its) c.in_ok-answers.ensures,
-    )
+pub of_zones-requires-clause-zones : goal.of_zones-requires-clause-zones
+of_zones-requires-clause-zones c =
+    subst (λ name. AreZones (SecuredIn c.args.trust.now) c.args.capture.now.rrsets name c.in_ok-zones.zones.items) c.name.ensures c.in_ok-zones.ensures

@@ -1,7 +1,7 @@
 use Rattle.std.proofs.Common.{arith}
 use Rattle.dnsv_chain.specs.Trust.{SecuredIn}
 use Rattle.dnsv_denial.proofs.lemmas.gathering.GatherZoneLemmas.{no_zones, zone_more}
-use Rattle.dnsv_denial.proofs.gathering.zones.zones_of.Goals as goal
+use Rattle.dnsv_denial.proofs.gathering.zones.lent_zones.Goals as goal
 
 pub loop-labels-init : goal.loop-labels-init
 loop-labels-init c = λ trust rrsets are. rw c.new-zones.ensures.items (no_zones (SecuredIn trust) rrsets c.args.name.now)
