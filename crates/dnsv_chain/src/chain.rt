@@ -14,7 +14,7 @@ use crate::delegated::is_delegated;
 use crate::order::{Step, steps};
 use crate::signing::{TrustedKeys, good_numbers, is_signed_under_some};
 use crate::trust::Trust;
-use dnsv_canonical::{Capture, Rrset};
+use dnsv_canonical::{Capture, Rrset, SigningRoom};
 use dnsv_names::{RecordType, WireName};
 use dnsv_verifier::{KeyRecord, Table};
 use std::alloc::{AllocError, Global};
@@ -56,12 +56,21 @@ fn trusted_keys<'a>(
     let mut keys = BTreeMap::new(alloc);
     let mut known = BTreeSet::new(alloc);
     let mut delegations = BTreeMap::new(alloc);
+    let mut room = SigningRoom::new(alloc);
     for step in &order {
         let rrset = rrset_at(rrsets, step);
         match step.rtype {
-            RecordType::DS => add_delegation(alloc, table, &keys, &mut delegations, rrset)?,
+            RecordType::DS => add_delegation(
+                alloc,
+                &mut room,
+                table,
+                &keys,
+                &mut delegations,
+                rrset,
+            )?,
             _ => add_trusted(
                 alloc,
+                &mut room,
                 table,
                 anchors,
                 &delegations,
@@ -85,6 +94,7 @@ fn rrset_at<'a>(rrsets: &'a [Rrset<'a>], step: &Step) -> &'a Rrset<'a>
 /// Adds the DS RRset where one of its signatures is good under one of the signer's keys.
 fn add_delegation<'a>(
     alloc: Global,
+    room: &mut SigningRoom,
     table: &Table<'_>,
     keys: &TrustedKeys<'a>,
     delegations: &mut Delegations<'a>,
@@ -93,7 +103,7 @@ fn add_delegation<'a>(
     ensures { OnOk result (AddsDelegation (table_answer table.now) table.now.moment (values_at keys.now) ds.now
         (rrsets_at delegations.old) (rrsets_at delegations.new)) }
 {
-    let numbers = good_numbers(alloc, table, ds, keys)?;
+    let numbers = good_numbers(alloc, room, table, ds, keys)?;
     if !numbers.as_slice().is_empty() {
         add(alloc, delegations, ds.owner(), ds)?;
     }
@@ -104,6 +114,7 @@ fn add_delegation<'a>(
 /// usable record of one of the DS RRsets at its owner.
 fn add_trusted<'a>(
     alloc: Global,
+    room: &mut SigningRoom,
     table: &Table<'_>,
     anchors: &Anchors<'_>,
     delegations: &Delegations<'a>,
@@ -119,6 +130,7 @@ fn add_trusted<'a>(
 {
     if is_trusted(
         alloc,
+        room,
         table,
         anchors,
         at(delegations, &WireName::of(set.owner())),
@@ -133,6 +145,7 @@ fn add_trusted<'a>(
 /// RRsets. No key is digested where none signs it.
 fn is_trusted(
     alloc: Global,
+    room: &mut SigningRoom,
     table: &Table<'_>,
     anchors: &Anchors<'_>,
     delegations: &[&Rrset<'_>],
@@ -143,11 +156,11 @@ fn is_trusted(
         anchors.now (map (λ ds. ds.now) delegations.now) set.now) }
 {
     let keys = keys_of(alloc, set)?;
-    if !is_signed_under_some(alloc, table, set, keys.as_slice())? {
+    if !is_signed_under_some(alloc, room, table, set, keys.as_slice())? {
         return Ok(false);
     }
     let vouched = vouched_keys(alloc, anchors, delegations, keys)?;
-    Ok(is_signed_under_some(alloc, table, set, vouched.as_slice())?)
+    Ok(is_signed_under_some(alloc, room, table, set, vouched.as_slice())?)
 }
 
 /// The keys of the DNSKEY RRset.

@@ -9,7 +9,7 @@ ghost use Rattle.dnsv_chain.specs.ByOwner.{values_at};
 ghost use Rattle.dnsv_chain.specs.Signing.{AreGoodNumbers, IsGoodUnderSome, IsSignedUnderSome, IsValidBy, IsValidBySome, MayHaveMadeOne};
 
 use crate::by_owner::{ByOwner, at};
-use dnsv_canonical::{Rrset, signed_data};
+use dnsv_canonical::{Rrset, SigningRoom, make_signed_data};
 use dnsv_records::Rrsig;
 use dnsv_verifier::{
     Answer, KeyRecord, Table, Verifier, a_pair_has_one_entry, entry_over, is_verifiable,
@@ -23,6 +23,7 @@ pub type TrustedKeys<'a> = ByOwner<'a, KeyRecord<'a>>;
 /// The numbers of the signatures, from 1 on, that are good under one of their signer's keys, rising.
 pub fn good_numbers<'a>(
     alloc: Global,
+    room: &mut SigningRoom,
     table: &Table<'_>,
     rrset: &'a Rrset<'a>,
     keys: &TrustedKeys<'a>,
@@ -32,7 +33,8 @@ pub fn good_numbers<'a>(
 {
     let mut numbers = Vec::new(alloc);
     for (place, rrsig) in rrset.signatures().iter().enumerate() {
-        if is_good_under_some(alloc, table, rrset, rrsig, at(keys, &rrsig.signer))? {
+        let own = at(keys, &rrsig.signer);
+        if is_good_under_some(alloc, room, table, rrset, rrsig, own)? {
             numbers.push(place + 1)?;
         }
     }
@@ -42,6 +44,7 @@ pub fn good_numbers<'a>(
 /// Whether the RRset has a signature that is good under one of the keys.
 pub fn is_signed_under_some(
     alloc: Global,
+    room: &mut SigningRoom,
     table: &Table<'_>,
     rrset: &Rrset<'_>,
     keys: &[KeyRecord<'_>],
@@ -50,18 +53,19 @@ pub fn is_signed_under_some(
         ↔ IsSignedUnderSome (table_answer table.now) table.now.moment rrset.now keys.now) }
 {
     for rrsig in rrset.signatures() {
-        if is_good_under_some(alloc, table, rrset, rrsig, keys)? {
+        if is_good_under_some(alloc, room, table, rrset, rrsig, keys)? {
             return Ok(true);
         }
     }
     Ok(false)
 }
 
-/// Whether the signature of the RRset is good under one of the keys. What it signs is made once, and not at all where
-/// none of the keys may have made it.
+/// Whether the signature of the RRset is good under one of the keys. What it signs is made once, in the room, and not at
+/// all where none of the keys may have made it.
 #[tactic(auto, using(crate::proofs::SigningLemmas::none_made, crate::proofs::SigningLemmas::not_verifiable, crate::proofs::SigningLemmas::never_signed))]
 fn is_good_under_some(
     alloc: Global,
+    room: &mut SigningRoom,
     table: &Table<'_>,
     rrset: &Rrset<'_>,
     rrsig: &Rrsig<'_>,
@@ -77,10 +81,10 @@ fn is_good_under_some(
         return Ok(false);
     }
     a_pair_has_one_entry();
-    let Some(octets) = signed_data(alloc, rrset, rrsig)? else {
+    if !make_signed_data(alloc, room, rrset, rrsig)? {
         return Ok(false);
-    };
-    Ok(is_valid_under_some(table, rrsig, octets.as_slice(), keys))
+    }
+    Ok(is_valid_under_some(table, rrsig, room.octets.as_slice(), keys))
 }
 
 /// Whether one of the keys may have made the signature.

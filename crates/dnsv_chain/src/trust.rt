@@ -7,7 +7,7 @@ ghost use Rattle.dnsv_chain.specs.Kept.{AreDistinct, AreKeysOf, AreSigned, AreZo
 
 use crate::by_rdata::ByRdata;
 use crate::signing::{TrustedKeys, good_numbers};
-use dnsv_canonical::Rrset;
+use dnsv_canonical::{Rrset, SigningRoom};
 use dnsv_names::Name;
 use dnsv_records::Dnskey;
 use dnsv_verifier::{KeyRecord, Table};
@@ -155,8 +155,9 @@ fn good_numbers_of_each<'a>(
         (values_at keys.now) (map (λ numbers. numbers.items) signed.items)) }
 {
     let mut signed = Vec::new(alloc);
+    let mut room = SigningRoom::new(alloc);
     for rrset in rrsets {
-        signed.push(good_numbers(alloc, table, rrset, keys)?)?;
+        signed.push(good_numbers(alloc, &mut room, table, rrset, keys)?)?;
     }
     Ok(signed)
 }

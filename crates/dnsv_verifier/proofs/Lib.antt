@@ -3,6 +3,7 @@ pub mod AskLemmas
 pub mod EntryLemmas
 pub mod HexFieldLemmas
 pub mod KeyLemmas
+pub mod ListedLemmas
 pub mod NamedLemmas
 pub mod NumberLemmas
 pub mod NumberedLemmas

@@ -53,10 +53,10 @@ same_mapped {X} {Y} f a b same y =
     subst (λ (z : Y). Contains (map f d) z) from.2 (contains_map f d from.0 (to from.0 from.1)) in
     (along a b (λ x found. (same x).0 found), along b a (λ x found. (same x).1 found))
 
-at_front : {X : Type 0} (x : X) (xs : List X) → Contains (x ∷ xs) x
+pub at_front : {X : Type 0} (x : X) (xs : List X) → Contains (x ∷ xs) x
 at_front x xs = Contains-from_member (x ∷ xs) x (inl refl)
 
-further : {X : Type 0} (x : X) (xs : List X) (y : X) → Contains xs y → Contains (x ∷ xs) y
+pub further : {X : Type 0} (x : X) (xs : List X) (y : X) → Contains xs y → Contains (x ∷ xs) y
 further x xs y found = Contains-from_member (x ∷ xs) y (inr (IsMember-from_contains xs y found))
 
 -- ---- the orders
@@ -108,7 +108,7 @@ module _ (parts : PartLists) (keys : IsStrictlySortedBy key_cmp parts.keys) (sig
       ∙ ap (λ o. ordering_then o (signature_cmp (signature_of parts a.signature) (signature_of parts b.signature))) key
       ∙ Less-from_sorted signature_cmp parts.signatures a.signature b.signature _ signatures less of.signature
 
-  less_entry : (a b : EntryNumbers) → AreOfParts parts b → numbers_cmp a b ≡ Less → entry_cmp (entry_of parts a) (entry_of parts b) ≡ Less
+  pub less_entry : (a b : EntryNumbers) → AreOfParts parts b → numbers_cmp a b ≡ Less → entry_cmp (entry_of parts a) (entry_of parts b) ≡ Less
   less_entry a b of less =
       ⊎_elim (λ (key : a.key < b.key). less_key a b of key) (λ (both : (a.key ≡ b.key) × (a.signature < b.signature)). less_signature a b of both.0 both.1) (either_less a b less)
 
@@ -127,7 +127,7 @@ module _ (parts : PartLists) (keys : IsStrictlySortedBy key_cmp parts.keys) (sig
 
 -- ---- putting numbers in order
 
-numbers_Equal : (a b : EntryNumbers) → numbers_cmp a b ≡ Equal → a ≡ b
+pub numbers_Equal : (a b : EntryNumbers) → numbers_cmp a b ≡ Equal → a ≡ b
 numbers_Equal a b e =
     let both = then_Equal (nat_cmp a.key b.key) (nat_cmp a.signature b.signature) e in
     λ i. record { key = octet_Equal a.key b.key both.0 i; signature = octet_Equal a.signature b.signature both.1 i }

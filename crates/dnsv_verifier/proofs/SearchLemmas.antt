@@ -1,7 +1,7 @@
--- Looking for an entry by halves, in a list whose entries rise.
+-- Looking by halves, in a list whose keys rise.
 use Rattle.std.proofs.Common.{◌≡◌, ℕ, ◌+◌, ◌<◌, false, ⊎_elim, List, [], ◌∷◌, length, get_or, Option, Some, None, map, refl, sym, ap, ◌∙◌, subst, arith}
 use Rattle.std.proofs.lemmas.Bool.{cases_lt}
-use Rattle.std.proofs.lemmas.Cmp.{tied_itself}
+use Rattle.std.proofs.lemmas.Cmp.{eq_by_cmp_equiv, tied_itself}
 use Rattle.std.proofs.lemmas.List.{get_or-map, length-map}
 use Rattle.std.proofs.lemmas.List.Elements.{Contains-get_or}
 use Rattle.std.proofs.lemmas.List.Sorted.{searchable_from_sorted}
@@ -14,16 +14,13 @@ use Rattle.std.specs.Map.{lookup}
 use Rattle.std.specs.Ordering.{is_eq, is_lt, ordering_index, ordering_reverse}
 use Rattle.std.specs.declared.cmp.Ordering.{Ordering}
 use Rattle.std.specs.declared.cmp.Ordering.TheVariants.{Less, Equal, Greater}
-use Rattle.dnsv_verifier.specs.Entry.{entry_cmp}
-use Rattle.dnsv_verifier.specs.EntryLaws.{entry_cmp_total, entry_Equal}
-use Rattle.dnsv_verifier.specs.declared.entry.Entry.{Entry}
 use Rattle.dnsv_verifier.proofs.NumberLemmas.{contains_from_map, contains_map}
-use Rattle.dnsv_verifier.proofs.TableLemmas.{exact_entries, same_entry_equiv}
+use Rattle.dnsv_verifier.proofs.TableLemmas.{is_eq-Equal}
 
--- the entries of a list that is made of items
-pub entries_listed : {Y X : Type 0} (entry : Y → Entry) (value : Y → X) (items : List Y) → map (λ (each : Entry × X). each.0) (map (λ y. (entry y, value y)) items) ≡ map entry items
-entries_listed entry value [] = refl
-entries_listed entry value (y ∷ items) = ap (λ rest. entry y ∷ rest) (entries_listed entry value items)
+-- the keys of a list that is made of items
+keys_listed : {Y K X : Type 0} (key : Y → K) (value : Y → X) (items : List Y) → map (λ (each : K × X). each.0) (map (λ y. (key y, value y)) items) ≡ map key items
+keys_listed key value [] = refl
+keys_listed key value (y ∷ items) = ap (λ rest. key y ∷ rest) (keys_listed key value items)
 
 -- looking by halves among what rises
 module _ {Y K : Type 0} (cmp : K → K → Ordering) (total : IsTotalOrder cmp) (value : Y → K) (items : List Y) (rising : IsStrictlySortedBy cmp (map value items)) (asked : K) where
@@ -56,37 +53,41 @@ module _ {Y K : Type 0} (cmp : K → K → Ordering) (total : IsTotalOrder cmp) 
       (λ behind. let more : cmp (value (get_or items k y)) asked ≡ Greater = point.1 k y behind from.1.1 in let clash : Greater ≡ Equal = sym more ∙ tied in cc)
       (cases_lt k place)
 
-module _ {Y X : Type 0} (entry : Y → Entry) (value : Y → X) (items : List Y) (rising : IsStrictlySortedBy entry_cmp (map entry items)) (asked : Entry) where
-  -- the entry at the place is the one that was looked for
-  pub found_at : (place : ℕ) (item : Y) → place < length items → item ≡ get_or items place item
-      → HoldsAt (λ y. entry_cmp (entry y) asked ≡ Equal) items place
-      → lookup (λ each. is_eq (entry_cmp asked each)) (map (λ y. (entry y, value y)) items) ≡ Some (value item)
-  found_at place item within is holds =
-      let same : entry item ≡ asked = entry_Equal (entry item) asked (ap (λ y. entry_cmp (entry y) asked) is ∙ holds item) in
-      let its : Contains items item = subst (λ y. Contains items y) (sym is) (Contains-get_or items place item within) in
-      let contains : Contains (map (λ y. (entry y, value y)) items) (asked, value item) =
-      subst (λ (e : Entry). Contains {X = Entry × X} (map (λ y. (entry y, value y)) items) (e, value item)) same (contains_map (λ y. (entry y, value y)) items item its) in
-      lookup-from_Contains same_entry_equiv asked (value item) (map (λ y. (entry y, value y)) items)
-      (IsDistinct-from_sorted entry_cmp (map (λ each. each.0) (map (λ y. (entry y, value y)) items)) (subst (IsStrictlySortedBy entry_cmp) (sym (entries_listed entry value items)) rising)) contains
+module _ {Y K X : Type 0} (cmp : K → K → Ordering) (total : IsTotalOrder cmp) (exact : (a b : K) → cmp a b ≡ Equal → a ≡ b) (key : Y → K) (value : Y → X) (items : List Y) where
+  module _ (rising : IsStrictlySortedBy cmp (map key items)) (asked : K) where
+    -- the key at the place is the one that was looked for
+    pub found_at : (place : ℕ) (item : Y) → place < length items → item ≡ get_or items place item
+        → HoldsAt (λ y. cmp (key y) asked ≡ Equal) items place
+        → lookup (λ each. is_eq (cmp asked each)) (map (λ y. (key y, value y)) items) ≡ Some (value item)
+    found_at place item within is holds =
+        let same : key item ≡ asked = exact (key item) asked (ap (λ y. cmp (key y) asked) is ∙ holds item) in
+        let its : Contains items item = subst (λ y. Contains items y) (sym is) (Contains-get_or items place item within) in
+        let contains : Contains (map (λ y. (key y, value y)) items) (asked, value item) =
+        subst (λ (k : K). Contains {X = K × X} (map (λ y. (key y, value y)) items) (k, value item)) same (contains_map (λ y. (key y, value y)) items item its) in
+        lookup-from_Contains (eq_by_cmp_equiv total) asked (value item) (map (λ y. (key y, value y)) items)
+        (IsDistinct-from_sorted cmp (map (λ each. each.0) (map (λ y. (key y, value y)) items)) (subst (IsStrictlySortedBy cmp) (sym (keys_listed key value items)) rising)) contains
 
-  found_none : (Contains (map entry items) asked → ⊥)
-      → (found : Option X) → lookup (λ each. is_eq (entry_cmp asked each)) (map (λ y. (entry y, value y)) items) ≡ found → found ≡ None
-  found_none missing None e = refl
-  found_none missing (Some x) e =
-      let from = contains_from_map (λ y. (entry y, value y)) items (asked, x) (Contains-from_lookup exact_entries asked x (map (λ y. (entry y, value y)) items) e) in
-      let its : entry from.0 ≡ asked = ap (λ (each : Entry × X). each.0) from.2 in
-      absurd (missing (subst (λ (e : Entry). Contains (map entry items) e) its (contains_map entry items from.0 from.1)))
+  module _ (asked : K) (missing : Contains (map key items) asked → ⊥) where
+    found_none : (found : Option X) → lookup (λ each. is_eq (cmp asked each)) (map (λ y. (key y, value y)) items) ≡ found → found ≡ None
+    found_none None e = refl
+    found_none (Some x) e =
+        let from = contains_from_map (λ y. (key y, value y)) items (asked, x) (Contains-from_lookup (λ a b tied. exact a b (is_eq-Equal (cmp a b) tied)) asked x (map (λ y. (key y, value y)) items) e) in
+        let its : key from.0 ≡ asked = ap (λ (each : K × X). each.0) from.2 in
+        absurd (missing (subst (λ (k : K). Contains (map key items) k) its (contains_map key items from.0 from.1)))
 
-  -- the entry would stand at the place, and doesn't
-  pub absent_from : (place : ℕ)
-      → (IsNonDecreasingBy (λ y. ordering_index (entry_cmp (entry y) asked)) items
-      → IsPartitionPoint (λ y. entry_cmp (entry y) asked ≡ Less) (λ y. entry_cmp (entry y) asked ≡ Greater) items place)
-      → lookup (λ each. is_eq (entry_cmp asked each)) (map (λ y. (entry y, value y)) items) ≡ None
-  absent_from place parted =
-      found_none (λ listed. not_missed entry_cmp entry_cmp_total entry items rising asked listed place parted)
-      (lookup (λ each. is_eq (entry_cmp asked each)) (map (λ y. (entry y, value y)) items)) refl
+    -- nothing is listed for what no item has
+    pub not_listed : lookup (λ each. is_eq (cmp asked each)) (map (λ y. (key y, value y)) items) ≡ None
+    not_listed = found_none (lookup (λ each. is_eq (cmp asked each)) (map (λ y. (key y, value y)) items)) refl
+
+  -- the key would stand at the place, and doesn't
+  pub absent_from : (rising : IsStrictlySortedBy cmp (map key items)) (asked : K) (place : ℕ)
+      → (IsNonDecreasingBy (λ y. ordering_index (cmp (key y) asked)) items
+      → IsPartitionPoint (λ y. cmp (key y) asked ≡ Less) (λ y. cmp (key y) asked ≡ Greater) items place)
+      → lookup (λ each. is_eq (cmp asked each)) (map (λ y. (key y, value y)) items) ≡ None
+  absent_from rising asked place parted =
+      not_listed asked (λ listed. not_missed cmp total key items rising asked listed place parted)
 
 -- a list of pairs is made of its pairs
-pub pairs_again : {X : Type 0} (listed : List (Entry × X)) → map (λ (each : Entry × X). (each.0, each.1)) listed ≡ listed
+pub pairs_again : {K X : Type 0} (listed : List (K × X)) → map (λ (each : K × X). (each.0, each.1)) listed ≡ listed
 pairs_again [] = refl
 pairs_again (each ∷ listed) = ap (λ rest. each ∷ rest) (pairs_again listed)

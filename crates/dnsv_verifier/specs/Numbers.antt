@@ -1,13 +1,16 @@
 -- Entries by the numbers of their parts. No public clause cites this module.
-use Rattle.std.specs.Prelude.{◌≡◌, ◌<◌, ℕ, List, [], Contains, length, map}
+use Rattle.std.specs.Prelude.{◌≡◌, ◌<◌, ℕ, List, [], Contains, length, map, unwrap_or}
 use lib.ListN.{get_or}
-use Rattle.std.specs.Ordering.{nat_cmp, ordering_then}
+use Rattle.std.specs.List.Sorted.{IsStrictlySortedBy}
+use Rattle.std.specs.Map.{lookup}
+use Rattle.std.specs.Ordering.{is_eq, nat_cmp, ordering_then}
 use Rattle.std.specs.declared.cmp.Ordering.{Ordering}
 use Rattle.std.specs.declared.cmp.Ordering.TheVariants.{Equal}
 use Rattle.dnsv_names.specs.Octets.{octets_cmp}
 use Rattle.dnsv_verifier.specs.Admissible.{DnskeyRecord}
 use Rattle.dnsv_verifier.specs.Asking.{CanSign, ComesOfSome, MadeSignature, NumberedName, key_name_cmp, name_of_key, named_by}
 use Rattle.dnsv_verifier.specs.declared.answer.Answer.{Answer}
+use Rattle.dnsv_verifier.specs.declared.answer.Answer.TheVariants.{Unknown}
 use Rattle.dnsv_verifier.specs.declared.entry.Entry.{Entry}
 use Rattle.dnsv_verifier.specs.declared.entry.parts.EntryNumbers.{EntryNumbers}
 use Rattle.dnsv_verifier.specs.declared.entry.parts.KeyPart.{KeyPart}
@@ -59,9 +62,25 @@ pub record AreOfParts (parts : PartLists) (numbers : EntryNumbers) : Type 0 wher
 abbrev pub AllOfParts : PartLists → List EntryNumbers → Type 0
 AllOfParts parts numbers = (each : EntryNumbers) → Contains numbers each → AreOfParts parts each
 
+-- The numbers rise, each of parts, and so do the parts: then entries rise as their numbers do.
+pub record AreRising (parts : PartLists) (numbers : List EntryNumbers) : Type 0 where
+  pub keys : IsStrictlySortedBy key_cmp parts.keys
+  pub signatures : IsStrictlySortedBy signature_cmp parts.signatures
+  pub within : AllOfParts parts numbers
+  pub rising : IsStrictlySortedBy numbers_cmp numbers
+
+-- the numbers are those of the entry
+pub record AreNumbersOf (parts : PartLists) (entry : Entry) (numbers : EntryNumbers) : Type 0 where
+  pub within : AreOfParts parts numbers
+  pub is : entry_of parts numbers ≡ entry
+
 -- the entries with their answers
 abbrev pub answers_of : PartLists → List (EntryNumbers × Answer) → List (Entry × Answer)
 answers_of parts answers = map (λ each. (entry_of parts each.0, each.1)) answers
+
+-- the answer that is listed for the numbers, Unknown where none is
+abbrev pub listed_answer : List (EntryNumbers × Answer) → EntryNumbers → Answer
+listed_answer answers numbers = unwrap_or (lookup (λ each. is_eq (numbers_cmp numbers each)) answers) Unknown
 
 -- what a key gives to its entries
 abbrev pub part_of_key : DnskeyRecord → KeyPart

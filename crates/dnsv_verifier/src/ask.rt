@@ -8,8 +8,7 @@ ghost use Rattle.std.specs.List.Sorted.{IsStrictlySortedBy};
 ghost use Rattle.dnsv_names.specs.Count.{counted};
 ghost use Rattle.dnsv_verifier.specs.Admissible.{DnskeyRecord, IsAsked};
 ghost use Rattle.dnsv_verifier.specs.Asking.{MadeSignature};
-ghost use Rattle.dnsv_verifier.specs.Entry.{entry_cmp};
-ghost use Rattle.dnsv_verifier.specs.Numbers.{entry_of, key_cmp, part_of_key, signature_cmp};
+ghost use Rattle.dnsv_verifier.specs.Numbers.{AreRising, entry_of, key_cmp, part_of_key, signature_cmp};
 ghost use Rattle.dnsv_verifier.specs.Table.{IsTableOf};
 ghost use Rattle.dnsv_verifier.specs.declared.entry.Entry.{Entry};
 
@@ -24,6 +23,7 @@ use bumpalo::Bump;
 use dnsv_canonical::{Capture, Rrset};
 use dnsv_names::Count;
 use std::alloc::{AllocError, Global};
+use std::rc::Rc;
 
 /// Asks the verifier at the moment, in seconds since 1970, about each signature of the capture under each key that may
 /// be used for it (RFC 4035 5.3.1), each distinct entry once.
@@ -47,15 +47,16 @@ pub fn ask_all<'b, V: Verifier>(
     let asked = asked_entries(alloc, bump, moment, capture.rrsets())?;
     let Asked { parts, numbers } = asked;
     let mut answers = Vec::with_capacity(alloc, numbers.len())?;
-    for each in numbers {
-        let answer = verifier.answer(&parts.entry(each));
+    let numbers = Rc::new(alloc, numbers)?;
+    for each in numbers.iter() {
+        let answer = verifier.answer(&parts.entry(*each));
         count.add(1);
         // There is room for all.
-        let Ok(()) = answers.push((each, answer)) else {
+        let Ok(()) = answers.push(answer) else {
             unreachable!();
         };
     }
-    Ok(Table::new(moment, parts, answers))
+    Ok(Table::new(moment, parts, numbers, answers))
 }
 
 /// The entries that are asked, each once, rising.
@@ -72,8 +73,7 @@ fn asked_entries<'b>(
     moment: u64,
     rrsets: &'b [Rrset<'b>],
 ) -> Result<Asked<'b>, AllocError>
-    ensures rising { IfOk result (λ asked. IsStrictlySortedBy entry_cmp
-        (map (entry_of asked.parts) asked.numbers.items)) }
+    ensures rising { IfOk result (λ asked. AreRising asked.parts asked.numbers.items) }
     ensures asked { IfOk result (λ asked. (entry : Entry)
         → Contains (map (entry_of asked.parts) asked.numbers.items) entry ↔ IsAsked moment rrsets.now entry) }
 {

@@ -1,9 +1,10 @@
 //! What a verifier says of the evidence, worked out once.
-ghost use Rattle.std.specs.Prelude.{◌≡◌, ◌↔◌, [], IfOk, IsTrue, length, map};
+ghost use Rattle.std.specs.Prelude.{◌≡◌, ◌↔◌, [], IfOk, IsTrue, filter, length, map};
+ghost use Rattle.std.specs.List.{zip};
 ghost use Rattle.std.specs.List.Sorted.{IsStrictlySortedBy};
 ghost use Rattle.dnsv_verifier.specs.Entry.{entry_cmp};
-ghost use Rattle.dnsv_verifier.specs.Numbers.{answers_of};
-ghost use Rattle.dnsv_verifier.specs.Table.{hopeful, unknown_entries};
+ghost use Rattle.dnsv_verifier.specs.Numbers.{AreRising, answers_of, listed_answer, numbers_cmp};
+ghost use Rattle.dnsv_verifier.specs.Table.{hoped_answer, hopeful, is_unknown, unknown_entries};
 
 use crate::answer::Answer;
 use crate::entries::Entries;
@@ -12,6 +13,7 @@ use crate::entry::parts::{EntryNumbers, Parts};
 use crate::verifier::Verifier;
 use std::alloc::{AllocError, Global};
 use std::marker::Model;
+use std::rc::Rc;
 
 /// What a verifier says at a moment: the entries that it was asked, each once, with its answers. A table is itself a
 /// verifier, which says Unknown of any other entry.
@@ -19,40 +21,48 @@ use std::marker::Model;
 pub struct Table<'b> {
     moment: u64,
     parts: Parts<'b>,
-    answers: Vec<(EntryNumbers, Answer)>,
+    /// Of each entry those of its parts. A hopeful table shares them.
+    numbers: Rc<Vec<EntryNumbers>>,
+    /// One for each entry.
+    answers: Vec<Answer>,
 }
 
 impl<'b> Model for Table<'b> {
-    ghost use Rattle.std.specs.Prelude.{map};
-    ghost use Rattle.std.specs.List.Sorted.{IsStrictlySortedBy};
-    ghost use Rattle.dnsv_verifier.specs.Entry.{entry_cmp};
-    ghost use Rattle.dnsv_verifier.specs.Numbers.{answers_of};
+    ghost use Rattle.std.specs.Prelude.{◌≡◌, length};
+    ghost use Rattle.std.specs.List.{zip};
+    ghost use Rattle.dnsv_verifier.specs.Numbers.{AreRising, answers_of};
     ghost use Rattle.dnsv_verifier.specs.Table.{TableContents};
 
     ghost Value = { TableContents };
 
     ghost view = { λ table. record {
       moment = table.moment;
-      answers = answers_of table.parts table.answers.items;
+      answers = answers_of table.parts (zip table.numbers.value.items table.answers.items);
     } };
 
-    ghost invariant = { λ table. IsStrictlySortedBy entry_cmp
-        (map (λ each. each.0) (answers_of table.parts table.answers.items)) };
+    ghost invariant = { λ table. AreRising table.parts table.numbers.value.items
+        × (length table.answers.items ≡ length table.numbers.value.items) };
 }
 
 impl<'b> Table<'b> {
-    /// The table of these answers, whose entries rise.
+    /// The table of the entries with these numbers, which rise, and their answers.
     pub(crate) fn new(
         moment: u64,
         parts: Parts<'b>,
-        answers: Vec<(EntryNumbers, Answer)>,
+        numbers: Rc<Vec<EntryNumbers>>,
+        answers: Vec<Answer>,
     ) -> Table<'b>
-        requires { IsStrictlySortedBy entry_cmp (map (λ each. each.0) (answers_of parts answers.items)) }
-        ensures { result ≡ record { moment = moment; answers = answers_of parts.entry answers.items } }
+        requires rising { AreRising parts numbers.value.items }
+        requires each { length answers.items ≡ length numbers.value.items }
+        ensures { result ≡ record {
+          moment = moment;
+          answers = answers_of parts.entry (zip numbers.value.items answers.items);
+        } }
     {
         Table {
             moment,
             parts,
+            numbers,
             answers,
         }
     }
@@ -78,12 +88,7 @@ impl<'b> Table<'b> {
         ensures value { IfOk result (λ entries. entries ≡ unknown_entries self.now) }
         ensures rising { IfOk result (λ entries. IsStrictlySortedBy entry_cmp entries) }
     {
-        let mut unknown = Vec::new(alloc);
-        for (numbers, answer) in &self.answers {
-            if *answer == Answer::Unknown {
-                unknown.push(*numbers)?;
-            }
-        }
+        let unknown = unknown_numbers(alloc, &self.numbers, &self.answers)?;
         Ok(Entries::new(self.parts.copied(), unknown))
     }
 
@@ -91,8 +96,8 @@ impl<'b> Table<'b> {
     pub fn knows_all(&self) -> bool
         ensures { IsTrue result ↔ (unknown_entries self.now ≡ []) }
     {
-        for listed in &self.answers {
-            if listed.1 == Answer::Unknown {
+        for answer in &self.answers {
+            if *answer == Answer::Unknown {
                 return false;
             }
         }
@@ -103,12 +108,40 @@ impl<'b> Table<'b> {
     pub fn hopeful(&self, alloc: Global) -> Result<Table<'b>, AllocError>
         ensures { IfOk result (λ table. table ≡ hopeful self.now) }
     {
-        let mut answers = Vec::with_capacity(alloc, self.answers.len())?;
-        for (numbers, answer) in &self.answers {
-            answers.push((*numbers, answer.hoped()))?;
-        }
-        Ok(Table::new(self.moment, self.parts.copied(), answers))
+        let numbers = self.numbers.clone()?;
+        let answers = hoped_answers(alloc, &self.answers)?;
+        Ok(Table::new(self.moment, self.parts.copied(), numbers, answers))
     }
+}
+
+/// The best that may come of each of the answers.
+fn hoped_answers(alloc: Global, answers: &[Answer]) -> Result<Vec<Answer>, AllocError>
+    ensures { IfOk result (λ hoped. hoped.items ≡ map hoped_answer answers.now) }
+{
+    let mut hoped = Vec::with_capacity(alloc, answers.len())?;
+    for answer in answers {
+        hoped.push(answer.hoped())?;
+    }
+    Ok(hoped)
+}
+
+/// The numbers whose answer is Unknown.
+fn unknown_numbers(
+    alloc: Global,
+    numbers: &[EntryNumbers],
+    answers: &[Answer],
+) -> Result<Vec<EntryNumbers>, AllocError>
+    requires { length answers.now ≡ length numbers.now }
+    ensures { IfOk result (λ unknown. unknown.items
+        ≡ map (λ each. each.0) (filter (λ each. is_unknown each.1) (zip numbers.now answers.now))) }
+{
+    let mut unknown = Vec::new(alloc);
+    for (place, answer) in answers.iter().enumerate() {
+        if *answer == Answer::Unknown {
+            unknown.push(numbers[place])?;
+        }
+    }
+    Ok(unknown)
 }
 
 impl Verifier for Table<'_> {
@@ -117,13 +150,21 @@ impl Verifier for Table<'_> {
     ghost meaning = { table_answer };
 
     fn answer(&self, entry: &Entry<'_>) -> Answer {
-        let parts = &self.parts;
-        let place = self
-            .answers
-            .binary_search_by(|(numbers, _)| parts.entry(*numbers).stands_to(entry));
-        match place {
-            Ok(place) => self.answers[place].1,
-            Err(_) => Answer::Unknown,
+        match self.parts.numbers_of(entry) {
+            Some(wanted) => listed(&self.numbers, &self.answers, wanted),
+            None => Answer::Unknown,
         }
+    }
+}
+
+/// What is listed for the numbers, and Unknown where they aren't. No octets are compared.
+fn listed(numbers: &[EntryNumbers], answers: &[Answer], wanted: EntryNumbers) -> Answer
+    requires rising { IsStrictlySortedBy numbers_cmp numbers.now }
+    requires each { length answers.now ≡ length numbers.now }
+    ensures { result ≡ listed_answer (zip numbers.now answers.now) wanted }
+{
+    match numbers.binary_search_by(|each| each.cmp(&wanted)) {
+        Ok(place) => answers[place],
+        Err(_) => Answer::Unknown,
     }
 }

@@ -9,7 +9,7 @@ use crate::key::KeyRecord;
 use crate::key::keys::Keys;
 use crate::key::numbered::Numbered;
 use bumpalo::Bump;
-use dnsv_canonical::{Rrset, signed_data};
+use dnsv_canonical::{Rrset, SigningRoom, make_signed_data};
 use dnsv_records::{Octets, Rrsig};
 use std::alloc::{AllocError, Global};
 use std::marker::Model;
@@ -55,8 +55,9 @@ pub(crate) fn made_signatures<'a>(
     ensures { IfOk result (λ made. AddsJust (ComesOfSome (IsMadeIn moment keys.now) rrsets.now) [] made.items) }
 {
     let mut made = Vec::new(alloc);
+    let mut room = SigningRoom::new(alloc);
     for rrset in rrsets {
-        add_rrset(alloc, bump, moment, keys, rrset, &mut made)?;
+        add_rrset(alloc, bump, &mut room, moment, keys, rrset, &mut made)?;
     }
     Ok(made)
 }
@@ -65,6 +66,7 @@ pub(crate) fn made_signatures<'a>(
 fn add_rrset<'a>(
     alloc: Global,
     bump: &'a Bump,
+    room: &mut SigningRoom,
     moment: u64,
     keys: &Keys<'_>,
     rrset: &'a Rrset<'a>,
@@ -73,7 +75,7 @@ fn add_rrset<'a>(
     ensures { OnOk result (AddsJust (IsMadeIn moment keys.now rrset.now) made.old.items made.new.items) }
 {
     for rrsig in rrset.signatures() {
-        add_signature(alloc, bump, moment, keys, rrset, rrsig, made)?;
+        add_signature(alloc, bump, room, moment, keys, rrset, rrsig, made)?;
     }
     Ok(())
 }
@@ -82,6 +84,7 @@ fn add_rrset<'a>(
 fn add_signature<'a>(
     alloc: Global,
     bump: &'a Bump,
+    room: &mut SigningRoom,
     moment: u64,
     keys: &Keys<'_>,
     rrset: &Rrset<'_>,
@@ -96,7 +99,7 @@ fn add_signature<'a>(
     if !is_made_by_some(keys, rrsig) {
         return Ok(());
     }
-    let Some(part) = part_of(alloc, bump, rrset, rrsig)? else {
+    let Some(part) = part_of(alloc, bump, room, rrset, rrsig)? else {
         return Ok(());
     };
     made.push(Made { rrsig, part })?;
@@ -117,22 +120,23 @@ fn is_made_by_one(keys: &[KeyRecord<'_>], rrsig: &Rrsig<'_>) -> bool
     keys.iter().any(|key| may_have_made(key, rrsig))
 }
 
-/// What the signature gives to its entries, its signed data in the arena. `None` where Labels is above the owner's
-/// count of labels.
+/// What the signature gives to its entries, its signed data made in the room and kept in the arena. `None` where Labels
+/// is above the owner's count of labels.
 fn part_of<'a>(
     alloc: Global,
     bump: &'a Bump,
+    room: &mut SigningRoom,
     rrset: &Rrset<'_>,
     rrsig: &'a Rrsig<'a>,
 ) -> Result<Option<SignaturePart<'a>>, AllocError>
     ensures { IfOk result (λ found. MatchOption found (signed_label_count rrset.now.owner < rrsig.now.labels)
         (IsPartOf rrset.now rrsig.now)) }
 {
-    let Some(octets) = signed_data(alloc, rrset, rrsig)? else {
+    if !make_signed_data(alloc, room, rrset, rrsig)? {
         return Ok(None);
-    };
+    }
     Ok(Some(SignaturePart {
-        signed_data: Octets::of(bump.try_alloc_slice_copy(&octets)?),
+        signed_data: Octets::of(bump.try_alloc_slice_copy(&room.octets)?),
         signature: rrsig.signature.copied(),
     }))
 }

@@ -1,7 +1,8 @@
 //! What entries are made of, each part kept once and numbered by its order.
-ghost use Rattle.std.specs.Prelude.{◌≡◌, ◌<◌, Contains, IfOk, length};
+ghost use Rattle.std.specs.Prelude.{◌≡◌, ◌<◌, Contains, IfOk, MatchOption, length};
 ghost use Rattle.std.specs.List.Sorted.{IsStrictlySortedBy};
-ghost use Rattle.dnsv_verifier.specs.Numbers.{entry_of, key_cmp, key_of, signature_cmp, signature_of};
+ghost use Rattle.dnsv_verifier.specs.Numbers.{AreNumbersOf, entry_of, key_cmp, key_of, signature_cmp, signature_of};
+ghost use Rattle.dnsv_verifier.specs.declared.entry.parts.EntryNumbers.{EntryNumbers};
 ghost use Rattle.dnsv_verifier.specs.declared.entry.parts.KeyPart.{KeyPart};
 ghost use Rattle.dnsv_verifier.specs.declared.entry.parts.SignaturePart.{SignaturePart};
 
@@ -54,6 +55,15 @@ impl<'b> SignaturePart<'b> {
             signed_data: self.signed_data.copied(),
             signature: self.signature.copied(),
         }
+    }
+
+    /// How the part stands to one of this signed data and signature.
+    fn compared(&self, signed_data: &[u8], signature: &[u8]) -> Ordering
+        ensures { result ≡ signature_cmp self.now
+            (record { signed_data = signed_data.now; signature = signature.now }) }
+    {
+        let (own_data, own) = (self.signed_data.as_slice(), self.signature.as_slice());
+        compare_octets(own_data, signed_data).then_with(|| compare_octets(own, signature))
     }
 }
 
@@ -132,13 +142,26 @@ impl<'b> Parts<'b> {
         ensures value { key_of self.now result ≡ record { algorithm = algorithm; key = key.now } }
         ensures within { result < length self.now.keys }
     {
+        let Some(number) = self.find_key(algorithm, key) else {
+            unreachable!();
+        };
+        number
+    }
+
+    /// The number of the key, where it is one of the parts.
+    fn find_key(&self, algorithm: Algorithm, key: &[u8]) -> Option<u32>
+        ensures { MatchOption result
+            (¬ Contains self.now.keys (record { algorithm = algorithm; key = key.now }))
+            (λ number. (number < length self.now.keys)
+            × (key_of self.now number ≡ record { algorithm = algorithm; key = key.now })) }
+    {
         let place = self
             .keys
             .binary_search_by(|part| part.compared(algorithm, key));
-        let Ok(place) = place else {
-            unreachable!();
-        };
-        place as u32
+        match place {
+            Ok(place) => Some(place as u32),
+            Err(_) => None,
+        }
     }
 
     /// The number of what a signature gives, which is one of the parts.
@@ -147,11 +170,44 @@ impl<'b> Parts<'b> {
         ensures value { signature_of self.now result ≡ part.now }
         ensures within { result < length self.now.signatures }
     {
-        let place = self.signatures.binary_search_by(|each| each.cmp(part));
-        let Ok(place) = place else {
+        let (signed_data, signature) = (part.signed_data.as_slice(), part.signature.as_slice());
+        let Some(number) = self.find_signature(signed_data, signature) else {
             unreachable!();
         };
-        place as u32
+        number
+    }
+
+    /// The number of what a signature gives, where it is one of the parts.
+    fn find_signature(&self, signed_data: &[u8], signature: &[u8]) -> Option<u32>
+        ensures { MatchOption result
+            (¬ Contains self.now.signatures
+            (record { signed_data = signed_data.now; signature = signature.now }))
+            (λ number. (number < length self.now.signatures) × (signature_of self.now number
+            ≡ record { signed_data = signed_data.now; signature = signature.now })) }
+    {
+        let place = self
+            .signatures
+            .binary_search_by(|part| part.compared(signed_data, signature));
+        match place {
+            Ok(place) => Some(place as u32),
+            Err(_) => None,
+        }
+    }
+
+    /// The numbers of the entry, where its key and what its signature gives are among the parts.
+    pub(crate) fn numbers_of(&self, entry: &Entry<'_>) -> Option<EntryNumbers>
+        ensures { MatchOption result
+            ((numbers : EntryNumbers) → AreNumbersOf self.now entry.now numbers → ⊥)
+            (AreNumbersOf self.now entry.now) }
+    {
+        let Some(key) = self.find_key(entry.algorithm, entry.key.as_slice()) else {
+            return None;
+        };
+        let (signed_data, signature) = (entry.signed_data.as_slice(), entry.signature.as_slice());
+        let Some(signature) = self.find_signature(signed_data, signature) else {
+            return None;
+        };
+        Some(EntryNumbers { key, signature })
     }
 
     /// The entry of the numbers, and one without octets where they are of nothing.

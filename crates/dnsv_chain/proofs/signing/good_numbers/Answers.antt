@@ -20,10 +20,10 @@ loop-place-preserved c =
     elim c.if-branch.branch [
       | then-branch+in_ok-push w ↦
           subst So_far (sym (ap (λ v. v.items) w.numbers-is ∙ w.in_ok-push.ensures.items))
-          (number_more (table_answer table) table.moment rrset c.signatures-rrsig-items.result.now c.signatures-rrsig-items.ensures (values_at c.args.keys.now) i rrsig c.loop-place.numbers.items c.loop-place-test.true c.rrsig-item.is (subst Good c.at.ensures (good.0 w.if-branch.true)) c.loop-place.invariant)
+          (number_more (table_answer table) table.moment rrset c.signatures-rrsig-items.result.now c.signatures-rrsig-items.ensures (values_at c.args.keys.now) i rrsig c.loop-place.numbers.items c.loop-place-test.true c.rrsig-item.is (subst Good c.at-own.ensures (good.0 w.if-branch.true)) c.loop-place.invariant)
       | else-branch w ↦
           subst So_far (sym (ap (λ v. v.items) w.numbers-is))
-          (number_skip (table_answer table) table.moment rrset c.signatures-rrsig-items.result.now c.signatures-rrsig-items.ensures (values_at c.args.keys.now) i rrsig c.loop-place.numbers.items c.loop-place-test.true c.rrsig-item.is (λ is. false≢true (sym w.if-branch.false ∙ good.1 (subst Good (sym c.at.ensures) is))) c.loop-place.invariant)
+          (number_skip (table_answer table) table.moment rrset c.signatures-rrsig-items.result.now c.signatures-rrsig-items.ensures (values_at c.args.keys.now) i rrsig c.loop-place.numbers.items c.loop-place-test.true c.rrsig-item.is (λ is. false≢true (sym w.if-branch.false ∙ good.1 (subst Good (sym c.at-own.ensures) is))) c.loop-place.invariant)
     ]
 
 pub returns : goal.returns

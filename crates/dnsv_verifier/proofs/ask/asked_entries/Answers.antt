@@ -4,7 +4,6 @@ use Rattle.dnsv_verifier.specs.Admissible.{DnskeyRecord}
 use Rattle.dnsv_verifier.specs.Asking.{AddsJust, ComesOfSome, IsEntryOfMade, MadeSignature}
 use Rattle.dnsv_verifier.specs.Numbers.{entry_of}
 use Rattle.dnsv_verifier.proofs.EntryLemmas.{just_asked}
-use Rattle.dnsv_verifier.proofs.NumberLemmas.{rising_entries}
 use Rattle.dnsv_verifier.proofs.ask.asked_entries.Goals as goal
 
 pub entry_numbers-requires-clause-made : goal.entry_numbers-requires-clause-made
@@ -12,8 +11,12 @@ entry_numbers-requires-clause-made c = λ each found.
     c.in_ok-parts.ensures.made each (subst (λ (mades : List MadeSignature). Contains mades each) (c.as_slice-4.ensures.value ∙ sym c.as_slice-2.ensures.value) found)
 
 pub returns-clause-rising : goal.returns-clause-rising
-returns-clause-rising c =
-    rising_entries c.in_ok-parts.parts c.in_ok-parts.ensures.rising.0 c.in_ok-parts.ensures.rising.1 c.in_ok-numbers.numbers.items c.in_ok-numbers.ensures.all c.in_ok-numbers.ensures.rising
+returns-clause-rising c = record {
+  keys = c.in_ok-parts.ensures.rising.0;
+  signatures = c.in_ok-parts.ensures.rising.1;
+  within = c.in_ok-numbers.ensures.all;
+  rising = c.in_ok-numbers.ensures.rising;
+}
 
 pub returns-clause-asked : goal.returns-clause-asked
 returns-clause-asked c =

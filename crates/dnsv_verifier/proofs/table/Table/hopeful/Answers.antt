@@ -1,23 +1,29 @@
-use Rattle.std.proofs.Common.{◌≡◌, map, sym, ap, ◌∙◌, subst, rules}
-use Rattle.std.proofs.lemmas.List.{take_all}
-use Rattle.std.specs.List.Sorted.{IsStrictlySortedBy}
-use Rattle.dnsv_verifier.specs.Entry.{entry_cmp}
-use Rattle.dnsv_verifier.specs.Numbers.{answers_of}
+use Rattle.std.proofs.Common.{◌≡◌, List, length, map, sym, ap, ◌∙◌, rules, subst}
+use Rattle.std.proofs.lemmas.List.{length-map}
+use Rattle.std.specs.List.{zip}
+use Rattle.dnsv_verifier.specs.Numbers.{AreRising, PartLists, answers_of}
 use Rattle.dnsv_verifier.specs.Table.{hoped_answer, hopeful}
-use Rattle.dnsv_verifier.proofs.NumberLemmas.{hoped_answers}
-use Rattle.dnsv_verifier.proofs.TableLemmas.{rising_hoped}
+use Rattle.dnsv_verifier.specs.declared.entry.parts.EntryNumbers.{EntryNumbers}
+use Rattle.dnsv_verifier.proofs.ListedLemmas.{hoped_table}
 use Rattle.dnsv_verifier.proofs.table.Table.hopeful.Goals as goal
 
-pub new-requires : goal.new-requires
-new-requires c =
+pub new-requires-clause-rising : goal.new-requires-clause-rising
+new-requires-clause-rising c =
     let same : c.copied.result ≡ c.self.inside.parts = search rules in
-    let all = c.loop-numbers.invariant ∙ ap (map (λ each. (each.0, hoped_answer each.1))) (take_all _ _ c.loop-numbers-test.false ∙ c.deref-numbers-items.ensures.value) in
-    let listed = (λ i. answers_of (same i) (all i)) ∙ hoped_answers c.self.inside.parts c.self.inside.answers.items in
-    subst (λ answers. IsStrictlySortedBy entry_cmp (map (λ each. each.0) answers)) (sym listed) (rising_hoped _ c.self.invariant)
+    let numbers : c.in_ok-numbers.numbers.value.items ≡ c.self.inside.numbers.value.items = search rules in
+    subst (λ (parts : PartLists). AreRising parts c.in_ok-numbers.numbers.value.items) (sym same)
+    (subst (λ (ns : List EntryNumbers). AreRising c.self.inside.parts ns) (sym numbers) c.self.invariant.0)
+
+pub new-requires-clause-each : goal.new-requires-clause-each
+new-requires-clause-each c =
+    let numbers : c.in_ok-numbers.numbers.value.items ≡ c.self.inside.numbers.value.items = search rules in
+    let hoped : c.in_ok-answers.answers.items ≡ map hoped_answer c.self.inside.answers.items = search rules in
+    ap length hoped ∙ length-map c.self.inside.answers.items hoped_answer ∙ c.self.invariant.1 ∙ sym (ap length numbers)
 
 pub returns : goal.returns
 returns c =
     let same : c.copied.result ≡ c.self.inside.parts = search rules in
-    let all = c.loop-numbers.invariant ∙ ap (map (λ each. (each.0, hoped_answer each.1))) (take_all _ _ c.loop-numbers-test.false ∙ c.deref-numbers-items.ensures.value) in
-    let listed = (λ i. answers_of (same i) (all i)) ∙ hoped_answers c.self.inside.parts c.self.inside.answers.items in
-    c.new.ensures ∙ (λ i. record { moment = c.self.inside.moment; answers = listed i }) ∙ ap hopeful c.self.view_is
+    let numbers : c.in_ok-numbers.numbers.value.items ≡ c.self.inside.numbers.value.items = search rules in
+    let hoped : c.in_ok-answers.answers.items ≡ map hoped_answer c.self.inside.answers.items = search rules in
+    c.new.ensures ∙ (λ i. record { moment = c.self.inside.moment; answers = answers_of (same i) (zip (numbers i) (hoped i)) })
+    ∙ hoped_table c.self.inside.moment c.self.inside.parts c.self.inside.numbers.value.items c.self.inside.answers.items ∙ ap hopeful c.self.view_is
