@@ -6,7 +6,7 @@ use Rattle.dnsv_verifier.specs.declared.answer.Answer.{Answer}
 use Rattle.dnsv_verifier.specs.declared.entry.Entry.{Entry}
 use Rattle.dnsv_chain.specs.declared.anchor.Anchor.{Anchor}
 use Rattle.dnsv_verdict.specs.Verdict.{Basis, basis_of}
-use Rattle.dnsv_verdict.specs.declared.grounds.Grounds.{Grounds}
+use Rattle.dnsv_verdict.specs.Case.{CaseContents}
 
 -- ---- what lines are told by
 
@@ -49,12 +49,12 @@ setting_in explained = record {
   todo = explained.todo;
 }
 
--- what a question's grounds have of it
-abbrev pub explained_by : Grounds → List Entry → Explained
-explained_by grounds todo = record {
-  rrsets = grounds.capture.now.rrsets;
-  anchors = grounds.anchors.now;
-  table = grounds.table;
+-- what a question's case has of it
+abbrev pub explained_by : CaseContents → List Entry → Explained
+explained_by case todo = record {
+  rrsets = case.rrsets;
+  anchors = case.anchors;
+  table = case.table;
   todo = todo;
 }
 

@@ -10,7 +10,7 @@ mod wildcard_cut;
 
 ghost use Rattle.std.specs.Prelude.{◌≡◌, [], IfOk, OnOk};
 ghost use Rattle.dnsv_names.specs.Name.{Labels};
-ghost use Rattle.dnsv_verdict.specs.Grounds.{HasTrust, basis_by};
+ghost use Rattle.dnsv_verdict.specs.Case.{HasTrust, basis_by};
 ghost use Rattle.dnsv_verdict.specs.Report.{IsKept, IsReport, Refuses};
 ghost use Rattle.dnsv_verdict.specs.Verdict.{basis_of};
 ghost use Rattle.dnsv_verdict.specs.Way.{IsVerdictOf};
@@ -26,11 +26,11 @@ use crate::explanation::failure::{add_failure, is_unproved};
 use crate::explanation::told::add_set;
 use crate::explanation::verdict::{add_verdict, is_settled};
 use bumpalo::Bump;
-use dnsv_canonical::{Capture, SignatureNumber};
+use dnsv_canonical::{Capture, SignatureNumber, is_question};
 use dnsv_chain::Anchors;
 use dnsv_lines::Line;
 use dnsv_names::{Name, RecordType};
-use dnsv_verdict::{Judged, Report, VerdictError, judge};
+use dnsv_verdict::{Case, Judged, Report, VerdictError};
 use dnsv_verifier::Verifier;
 use std::alloc::{AllocError, Global};
 use std::marker::Model;
@@ -80,37 +80,42 @@ pub fn explain<'a, V: Verifier>(
     ensures refused { Refuses (basis_of capture.now.rrsets anchors.now moment (V.meaning verifier.now)) name.now rtype.0
         result }
 {
-    let judged = judge(
-        alloc, bump, capture, anchors, moment, verifier, name, rtype, true,
-    )?;
-    let explanation = explanation_of(alloc, &judged, rtype)?;
+    if !is_question(name, rtype) {
+        return Err(VerdictError::BadQuestion);
+    }
+    let case = Case::new(alloc, bump, capture, anchors, moment, verifier)?;
+    // What is true of every case.
+    let _trust = case.trust();
+    let judged = case.judge(alloc, name, rtype, true)?;
+    let explanation = explanation_of(alloc, &case, &judged, rtype)?;
     Ok((judged.report, explanation))
 }
 
 /// Why the verdict stands.
 fn explanation_of(
     alloc: Global,
+    case: &Case<'_>,
     judged: &Judged<'_>,
     rtype: RecordType,
 ) -> Result<Explanation, AllocError>
-    requires trust { HasTrust judged.now.grounds }
-    requires kept { IsKept judged.now.grounds rtype.0 judged.now.report.links judged.now.report.last
+    requires trust { HasTrust case.now }
+    requires kept { IsKept case.now rtype.0 judged.now.report.links judged.now.report.last
         judged.now.report.verdict judged.now.hashes.items judged.now.hope }
-    requires verdict { (name : Labels) × IsVerdictOf (basis_by judged.now.grounds) name rtype.0 judged.now.report.links
+    requires verdict { (name : Labels) × IsVerdictOf (basis_by case.now) name rtype.0 judged.now.report.links
         judged.now.report.last judged.now.report.verdict }
-    ensures { IfOk result (IsExplanation (explained_by judged.now.grounds []) rtype.0 judged.now.report.links
+    ensures { IfOk result (IsExplanation (explained_by case.now []) rtype.0 judged.now.report.links
         judged.now.report.last judged.now.report.verdict) }
 {
     if is_unproved(&judged.report.verdict) {
-        return Ok(failed(alloc, judged, rtype)?);
+        return Ok(failed(alloc, case, judged, rtype)?);
     }
-    let bare = evidence_of(&judged.grounds, None);
+    let bare = evidence_of(case, None);
     let ways = first_ways(alloc, &bare)?;
     let evidence = bare.with_ways(&ways);
     let mut lines = Vec::new(alloc);
-    add_links(alloc, &evidence, judged, &mut lines, rtype)?;
+    add_links(alloc, &evidence, case, judged, &mut lines, rtype)?;
     let hashes = &judged.hashes[judged.report.links.as_slice().len()];
-    add_verdict(alloc, &evidence, judged, hashes, &mut lines, rtype)?;
+    add_verdict(alloc, &evidence, case, judged, hashes, &mut lines, rtype)?;
     if !is_settled(&judged.report.verdict) {
         add_places_named(alloc, &evidence, &mut lines)?;
         return Ok(Explanation { lines });
@@ -120,46 +125,52 @@ fn explanation_of(
 }
 
 /// Why nothing is proved: what fails, and then what holds.
-fn failed(alloc: Global, judged: &Judged<'_>, rtype: RecordType) -> Result<Explanation, AllocError>
-    requires trust { HasTrust judged.now.grounds }
-    requires kept { IsKept judged.now.grounds rtype.0 judged.now.report.links judged.now.report.last
+fn failed(
+    alloc: Global,
+    case: &Case<'_>,
+    judged: &Judged<'_>,
+    rtype: RecordType,
+) -> Result<Explanation, AllocError>
+    requires trust { HasTrust case.now }
+    requires kept { IsKept case.now rtype.0 judged.now.report.links judged.now.report.last
         judged.now.report.verdict judged.now.hashes.items judged.now.hope }
-    requires verdict { (name : Labels) × IsVerdictOf (basis_by judged.now.grounds) name rtype.0 judged.now.report.links
+    requires verdict { (name : Labels) × IsVerdictOf (basis_by case.now) name rtype.0 judged.now.report.links
         judged.now.report.last judged.now.report.verdict }
     requires unproved { IsUnproved judged.now.report.verdict }
-    ensures { IfOk result (IsExplanation (explained_by judged.now.grounds []) rtype.0 judged.now.report.links
+    ensures { IfOk result (IsExplanation (explained_by case.now []) rtype.0 judged.now.report.links
         judged.now.report.last judged.now.report.verdict) }
 {
-    let bare = evidence_of(&judged.grounds, None);
+    let bare = evidence_of(case, None);
     let ways = first_ways(alloc, &bare)?;
     let evidence = bare.with_ways(&ways);
     let mut lines = Vec::new(alloc);
     let last = &judged.hashes[judged.report.links.as_slice().len()];
     let at = At {
-        grounds: &judged.grounds,
+        case,
         hashes: last,
         name: &judged.report.last,
     };
     add_failure(alloc, &evidence, &at, &mut lines, rtype)?;
-    add_links(alloc, &evidence, judged, &mut lines, rtype)?;
-    add_verdict(alloc, &evidence, judged, last, &mut lines, rtype)?;
+    add_links(alloc, &evidence, case, judged, &mut lines, rtype)?;
+    add_verdict(alloc, &evidence, case, judged, last, &mut lines, rtype)?;
     add_places_named(alloc, &evidence, &mut lines)?;
     Ok(Explanation { lines })
 }
 
 /// Adds what holds for each link, in order.
-fn add_links(
+fn add_links<'a>(
     alloc: Global,
     evidence: &Evidence<'_>,
-    judged: &Judged<'_>,
+    case: &'a Case<'a>,
+    judged: &'a Judged<'a>,
     lines: &mut Vec<Line>,
     rtype: RecordType,
 ) -> Result<(), AllocError>
-    requires trust { HasTrust judged.now.grounds }
-    requires evidence { evidence.now ≡ explained_by judged.now.grounds [] }
-    requires kept { IsKept judged.now.grounds rtype.0 judged.now.report.links judged.now.report.last
+    requires trust { HasTrust case.now }
+    requires evidence { evidence.now ≡ explained_by case.now [] }
+    requires kept { IsKept case.now rtype.0 judged.now.report.links judged.now.report.last
         judged.now.report.verdict judged.now.hashes.items judged.now.hope }
-    requires verdict { (name : Labels) × IsVerdictOf (basis_by judged.now.grounds) name rtype.0 judged.now.report.links
+    requires verdict { (name : Labels) × IsVerdictOf (basis_by case.now) name rtype.0 judged.now.report.links
         judged.now.report.last judged.now.report.verdict }
     ensures { OnOk result (Adds (AreEach (IsLinkTold (setting_in evidence.now)) judged.now.report.links) lines.old.items
         lines.new.items) }
@@ -171,7 +182,7 @@ fn add_links(
         };
         let hashes = &judged.hashes[place];
         let at = At {
-            grounds: &judged.grounds,
+            case,
             hashes,
             name: &link.name,
         };

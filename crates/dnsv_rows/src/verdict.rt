@@ -10,7 +10,7 @@ use dnsv_canonical::Capture;
 use dnsv_chain::Anchors;
 use dnsv_denial::Proof;
 use dnsv_names::{Name, RecordType};
-use dnsv_verdict::{Link, Report, Verdict, VerdictError, validate};
+use dnsv_verdict::{Case, Link, Report, Verdict, VerdictError, validate};
 use dnsv_verifier::{Entries, Panel, Verifier};
 use std::alloc::Global;
 
@@ -21,6 +21,9 @@ pub fn answer(row: &Row) -> Result<Option<String>, RowError> {
     }
     if row.calls("validate-by") {
         return Ok(Some(validated_together(row)?));
+    }
+    if row.calls("validate-in-turn") {
+        return Ok(Some(validated_in_turn(row)?));
     }
     Ok(None)
 }
@@ -53,8 +56,15 @@ fn told_of<V: Verifier>(
 ) -> Result<String, RowError> {
     match validate(alloc, bump, capture, anchors, moment, verifier, name, rtype) {
         Ok(report) => told(alloc, &report),
-        Err(VerdictError::OutOfMemory) => Err(RowError::OutOfMemory),
-        Err(error) => {
+        Err(error) => refused(alloc, error),
+    }
+}
+
+/// The number of the refusal.
+fn refused(alloc: Global, error: VerdictError) -> Result<String, RowError> {
+    match error {
+        VerdictError::OutOfMemory => Err(RowError::OutOfMemory),
+        _ => {
             let code = error.code();
             Ok(format!(in alloc; "refused {code}")?)
         }
@@ -68,6 +78,102 @@ fn validated_together(row: &Row) -> Result<String, RowError> {
         members.push(Box::new(row.alloc(), statements_of(row, place)?)?)?;
     }
     validated(row, &Panel::new(members))
+}
+
+/// `validate-in-turn CAPTURE ANCHORS MOMENT TIMES NAME TYPE ..`: what `validate` tells of each question, where one case
+/// tells the same of them one after another, all of them so many times; else what the case told.
+fn validated_in_turn(row: &Row) -> Result<String, RowError> {
+    let bump = Bump::new(row.alloc());
+    let capture = evidence::capture(row, 0, &bump)?;
+    let anchors = trust_anchors(row, 1, &bump)?;
+    told_in_turn(row, &bump, &capture, &anchors)
+}
+
+/// The same of the capture under the anchors.
+fn told_in_turn(
+    row: &Row,
+    bump: &Bump,
+    capture: &Capture<'_>,
+    anchors: &Anchors<'_>,
+) -> Result<String, RowError> {
+    let alone = told_alone(row, bump, capture, anchors)?;
+    let case = Case::new(
+        row.alloc(),
+        bump,
+        capture,
+        anchors,
+        row.number(2)?,
+        &ByFirstOctet,
+    )?;
+    for _ in 0..row.number(3)? {
+        let told = told_by_case(row, &case)?;
+        if told.as_bytes() != alone.as_bytes() {
+            return Ok(format!(in row.alloc(); "not alone: {told}")?);
+        }
+    }
+    Ok(alone)
+}
+
+/// What `validate` tells of each question.
+fn told_alone(
+    row: &Row,
+    bump: &Bump,
+    capture: &Capture<'_>,
+    anchors: &Anchors<'_>,
+) -> Result<String, RowError> {
+    let alloc = row.alloc();
+    let mut text = String::new(alloc);
+    for question in 0..questions(row) {
+        let (name, rtype) = question_at(row, question)?;
+        let told = told_of(
+            alloc,
+            bump,
+            capture,
+            anchors,
+            row.number(2)?,
+            &ByFirstOctet,
+            &name,
+            rtype,
+        )?;
+        text = format!(in alloc; "{text}{told};")?;
+    }
+    Ok(text)
+}
+
+/// What the case tells of each question.
+fn told_by_case(row: &Row, case: &Case<'_>) -> Result<String, RowError> {
+    let alloc = row.alloc();
+    let mut text = String::new(alloc);
+    for question in 0..questions(row) {
+        let (name, rtype) = question_at(row, question)?;
+        let told = told_by(alloc, case, &name, rtype)?;
+        text = format!(in alloc; "{text}{told};")?;
+    }
+    Ok(text)
+}
+
+/// What the case tells of the question.
+fn told_by(
+    alloc: Global,
+    case: &Case<'_>,
+    name: &Name,
+    rtype: RecordType,
+) -> Result<String, RowError> {
+    match case.judge(alloc, name, rtype, false) {
+        Ok(judged) => told(alloc, &judged.report),
+        Err(error) => refused(alloc, error),
+    }
+}
+
+/// How many questions the row has.
+fn questions(row: &Row) -> usize {
+    row.count().saturating_sub(4) / 2
+}
+
+/// The question with so many before it.
+fn question_at(row: &Row, question: usize) -> Result<(Name, RecordType), RowError> {
+    let place = question.saturating_mul(2).saturating_add(4);
+    Ok((row.name(place)?, record_type(row, place.saturating_add(1))?))
 }
 
 fn told(alloc: Global, report: &Report<'_>) -> Result<String, RowError> {

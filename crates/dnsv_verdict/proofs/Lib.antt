@@ -3,6 +3,7 @@ pub mod CaseLemmas
 pub mod FormLemmas
 mod HashedLemmas
 mod MeaningLemmas
+pub mod OfCase
 pub mod OneProof
 pub mod ReportLemmas
 pub mod SearchLemmas

@@ -5,40 +5,40 @@ use Rattle.std.proofs.lemmas.List.{map-append}
 use Rattle.dnsv_names.specs.Name.{Labels}
 use Rattle.dnsv_canonical.specs.Rrsets.{ReceivedRrset}
 use Rattle.dnsv_denial.specs.QuestionHashes.{HashedQuestion}
-use Rattle.dnsv_verdict.specs.Grounds.{HasHope}
+use Rattle.dnsv_verdict.specs.Hope.{HasHope}
 use Rattle.dnsv_verdict.specs.Report.{IsKept, hashed_in}
 use Rattle.dnsv_verdict.specs.Settled.{IsSettledAs}
 use Rattle.dnsv_verdict.specs.Trail.{AddsHashes, IsEmpty, KeepsHope, Trails}
-use Rattle.dnsv_verdict.specs.declared.grounds.Grounds.{Grounds}
-use Rattle.dnsv_verdict.specs.declared.grounds.Hope.{Hope}
+use Rattle.dnsv_verdict.specs.Case.{CaseContents}
+use Rattle.dnsv_verdict.specs.declared.at_name.Hope.{Hope}
 use Rattle.dnsv_verdict.specs.declared.link.Link.{Link}
 use Rattle.dnsv_verdict.specs.declared.trail.Trail.{Trail}
 use Rattle.dnsv_verdict.specs.declared.verdict.Verdict.{Verdict}
 use Rattle.dnsv_verdict.specs.declared.verdict.Verdict.TheVariants.{SecureAnswer, SecureAlias, SecureNoName, SecureNoData, Insecure, Pending, Bogus, Indeterminate}
 
 -- what is settled is not hoped
-pub settled_without_hope : (grounds : Grounds) (Secured : ℕ → ℕ → Type 0) (rrsets : List ReceivedRrset) (name : Labels) (t : ℕ) (verdict : Verdict)
-    (hope : Option Hope) → IsSettledAs Secured rrsets name t verdict → hope ≡ None → HasHope grounds name t verdict hope
-settled_without_hope grounds Secured rrsets name t (SecureAnswer k s) hope is none = none
-settled_without_hope grounds Secured rrsets name t (SecureAlias k s) hope is none = none
-settled_without_hope grounds Secured rrsets name t (SecureNoName proof) hope is none = none
-settled_without_hope grounds Secured rrsets name t (SecureNoData proof) hope is none = none
-settled_without_hope grounds Secured rrsets name t (Insecure cut) hope is none = none
-settled_without_hope grounds Secured rrsets name t (Pending entries) hope is none = absurd is
-settled_without_hope grounds Secured rrsets name t Bogus hope is none = none
-settled_without_hope grounds Secured rrsets name t Indeterminate hope is none = none
+pub settled_without_hope : (case : CaseContents) (Secured : ℕ → ℕ → Type 0) (rrsets : List ReceivedRrset) (name : Labels) (t : ℕ) (verdict : Verdict)
+    (hope : Option Hope) → IsSettledAs Secured rrsets name t verdict → hope ≡ None → HasHope case name t verdict hope
+settled_without_hope case Secured rrsets name t (SecureAnswer k s) hope is none = none
+settled_without_hope case Secured rrsets name t (SecureAlias k s) hope is none = none
+settled_without_hope case Secured rrsets name t (SecureNoName proof) hope is none = none
+settled_without_hope case Secured rrsets name t (SecureNoData proof) hope is none = none
+settled_without_hope case Secured rrsets name t (Insecure cut) hope is none = none
+settled_without_hope case Secured rrsets name t (Pending entries) hope is none = absurd is
+settled_without_hope case Secured rrsets name t Bogus hope is none = none
+settled_without_hope case Secured rrsets name t Indeterminate hope is none = none
 
 -- ---- one name
 
-pub one_name : (grounds : Grounds) (name : Labels) (t : ℕ) (verdict : Verdict) (question : HashedQuestion) (before between after : Trail)
-    → question ≡ hashed_in grounds.capture.now.rrsets name → KeepsHope grounds name t verdict before between
-    → AddsHashes question between after → Trails grounds name t verdict before after
-one_name grounds name t verdict question before between after is kept adds = record {
+pub one_name : (case : CaseContents) (name : Labels) (t : ℕ) (verdict : Verdict) (question : HashedQuestion) (before between after : Trail)
+    → question ≡ hashed_in case.rrsets name → KeepsHope case name t verdict before between
+    → AddsHashes question between after → Trails case name t verdict before after
+one_name case name t verdict question before between after is kept adds = record {
   keeps = adds.keeps ∙ kept.keeps;
   hashes = λ keeps. adds.hashes (subst (λ keeps. IsTrue keeps) (sym kept.keeps) keeps)
       ∙ ap (λ (earlier : List HashedQuestion). earlier ++ question ∷ []) kept.hashes
       ∙ ap (λ (each : HashedQuestion). before.hashes.items ++ each ∷ []) is;
-  hope = λ keeps none. subst (λ (hope : Option Hope). HasHope grounds name t verdict hope) (sym adds.hope) (kept.hope keeps none);
+  hope = λ keeps none. subst (λ (hope : Option Hope). HasHope case name t verdict hope) (sym adds.hope) (kept.hope keeps none);
   unkept = λ not. adds.unkept (subst (λ keeps. IsFalse keeps) (sym kept.keeps) not) ∙ kept.unkept not;
 }
 
@@ -57,43 +57,43 @@ no_trail rrsets start =
     record { keeps = refl; each_name = λ keeps empty. empty.hashes; none = λ keeps empty. empty.hope; unkept = λ not. refl }
 
 -- the hashes of one name more
-each_name_more : (grounds : Grounds) (t : ℕ) (names : List Labels) (name : Labels) (verdict : Verdict) (start before after : Trail)
-    → IsTrailOf grounds.capture.now.rrsets names start before → Trails grounds name t verdict before after
+each_name_more : (case : CaseContents) (t : ℕ) (names : List Labels) (name : Labels) (verdict : Verdict) (start before after : Trail)
+    → IsTrailOf case.rrsets names start before → Trails case name t verdict before after
     → IsTrue start.keeps → IsEmpty start
-    → after.hashes.items ≡ map (hashed_in grounds.capture.now.rrsets) (names ++ name ∷ [])
-each_name_more grounds t names name verdict start before after so_far more keeps empty =
+    → after.hashes.items ≡ map (hashed_in case.rrsets) (names ++ name ∷ [])
+each_name_more case t names name verdict start before after so_far more keeps empty =
     more.hashes (subst (λ keeps. IsTrue keeps) (sym so_far.keeps) keeps)
-    ∙ ap (λ (earlier : List HashedQuestion). earlier ++ hashed_in grounds.capture.now.rrsets name ∷ []) (so_far.each_name keeps empty)
-    ∙ sym (map-append (hashed_in grounds.capture.now.rrsets) names (name ∷ []))
+    ∙ ap (λ (earlier : List HashedQuestion). earlier ++ hashed_in case.rrsets name ∷ []) (so_far.each_name keeps empty)
+    ∙ sym (map-append (hashed_in case.rrsets) names (name ∷ []))
 
 -- where nothing is kept, nothing more
-pub unkept_more : (grounds : Grounds) (t : ℕ) (names : List Labels) (name : Labels) (verdict : Verdict) (start before after : Trail)
-    → IsTrailOf grounds.capture.now.rrsets names start before → Trails grounds name t verdict before after
+pub unkept_more : (case : CaseContents) (t : ℕ) (names : List Labels) (name : Labels) (verdict : Verdict) (start before after : Trail)
+    → IsTrailOf case.rrsets names start before → Trails case name t verdict before after
     → IsFalse start.keeps → after ≡ start
-unkept_more grounds t names name verdict start before after so_far more not =
+unkept_more case t names name verdict start before after so_far more not =
     more.unkept (subst (λ keeps. IsFalse keeps) (sym so_far.keeps) not) ∙ so_far.unkept not
 
 -- an alias more
-pub trail_more : (grounds : Grounds) (t : ℕ) (links : List Link) (last : Labels) (k s : ℕ) (verdict : Verdict) (start before after : Trail)
+pub trail_more : (case : CaseContents) (t : ℕ) (links : List Link) (last : Labels) (k s : ℕ) (verdict : Verdict) (start before after : Trail)
     → verdict ≡ SecureAlias k s
-    → IsTrailOf grounds.capture.now.rrsets (map (λ link. link.name) links) start before → Trails grounds last t verdict before after
-    → IsTrailOf grounds.capture.now.rrsets (map (λ link. link.name) (links ++ (record { name = last; rrset = k; signature = s }) ∷ [])) start after
-trail_more grounds t links last k s verdict start before after alias so_far more =
+    → IsTrailOf case.rrsets (map (λ link. link.name) links) start before → Trails case last t verdict before after
+    → IsTrailOf case.rrsets (map (λ link. link.name) (links ++ (record { name = last; rrset = k; signature = s }) ∷ [])) start after
+trail_more case t links last k s verdict start before after alias so_far more =
     let link : Link = record { name = last; rrset = k; signature = s } in
     record {
       keeps = more.keeps ∙ so_far.keeps;
-      each_name = λ keeps empty. each_name_more grounds t (map (λ (each : Link). each.name) links) last verdict start before after so_far more keeps empty
-          ∙ ap (λ (names : List Labels). map (hashed_in grounds.capture.now.rrsets) names) (sym (map-append (λ (each : Link). each.name) links (link ∷ [])));
-      none = λ keeps empty. subst (λ (each : Verdict). HasHope grounds last t each after.hope) alias
+      each_name = λ keeps empty. each_name_more case t (map (λ (each : Link). each.name) links) last verdict start before after so_far more keeps empty
+          ∙ ap (λ (names : List Labels). map (hashed_in case.rrsets) names) (sym (map-append (λ (each : Link). each.name) links (link ∷ [])));
+      none = λ keeps empty. subst (λ (each : Verdict). HasHope case last t each after.hope) alias
           (more.hope (subst (λ keeps. IsTrue keeps) (sym so_far.keeps) keeps) (so_far.none keeps empty));
-      unkept = unkept_more grounds t (map (λ (each : Link). each.name) links) last verdict start before after so_far more;
+      unkept = unkept_more case t (map (λ (each : Link). each.name) links) last verdict start before after so_far more;
     }
 
 -- the end
-pub kept_to_end : (grounds : Grounds) (t : ℕ) (links : List Link) (last : Labels) (verdict : Verdict) (start before after : Trail)
-    → IsTrailOf grounds.capture.now.rrsets (map (λ link. link.name) links) start before → Trails grounds last t verdict before after
-    → IsTrue start.keeps → IsEmpty start → IsKept grounds t links last verdict after.hashes.items after.hope
-kept_to_end grounds t links last verdict start before after so_far more keeps empty = record {
-  each_name = each_name_more grounds t (map (λ (each : Link). each.name) links) last verdict start before after so_far more keeps empty;
+pub kept_to_end : (case : CaseContents) (t : ℕ) (links : List Link) (last : Labels) (verdict : Verdict) (start before after : Trail)
+    → IsTrailOf case.rrsets (map (λ link. link.name) links) start before → Trails case last t verdict before after
+    → IsTrue start.keeps → IsEmpty start → IsKept case t links last verdict after.hashes.items after.hope
+kept_to_end case t links last verdict start before after so_far more keeps empty = record {
+  each_name = each_name_more case t (map (λ (each : Link). each.name) links) last verdict start before after so_far more keeps empty;
   hoped = more.hope (subst (λ keeps. IsTrue keeps) (sym so_far.keeps) keeps) (so_far.none keeps empty);
 }

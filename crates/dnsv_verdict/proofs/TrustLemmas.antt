@@ -12,7 +12,7 @@ use Rattle.dnsv_names.specs.Name.{Labels}
 use Rattle.dnsv_verdict.proofs.SettledLemmas.{settled_as_to, settled_to}
 use Rattle.dnsv_verdict.specs.Settled.{IsSettled, IsSettledAs}
 use Rattle.dnsv_verdict.specs.Verdict.{Basis, IsSettledAsBy, IsSettledBy, IsVerdictAt, basis_of}
-use Rattle.dnsv_verdict.specs.declared.grounds.Grounds.{Grounds}
+use Rattle.dnsv_verdict.specs.Case.{CaseContents}
 use Rattle.dnsv_verdict.specs.declared.verdict.Verdict.{Verdict}
 use Rattle.dnsv_verdict.specs.declared.verdict.Verdict.TheVariants.{SecureAnswer, SecureAlias, SecureNoName, SecureNoData, Insecure, Pending, Bogus, Indeterminate}
 
@@ -48,18 +48,18 @@ module _ (meaning : Entry → Answer) (moment : ℕ) (rrsets : List ReceivedRrse
   settled_as_by_trust name t verdict =
       settled_as_to (SecuredIn trust) (IsSecured meaning moment rrsets anchors) secured_to secured_from rrsets name t verdict
 
--- what the trust of these grounds doesn't settle, the verifier doesn't
-pub unsettled_on : (grounds : Grounds) (meaning : Entry → Answer) (moment : ℕ)
-    → IsTableOf meaning moment grounds.capture.now.rrsets grounds.table
-    → ((entry : Entry) → IsAsked moment grounds.capture.now.rrsets entry → table_answer grounds.table entry ≡ meaning entry)
+-- what the trust of this case doesn't settle, the verifier doesn't
+pub unsettled_on : (case : CaseContents) (meaning : Entry → Answer) (moment : ℕ)
+    → IsTableOf meaning moment case.rrsets case.table
+    → ((entry : Entry) → IsAsked moment case.rrsets entry → table_answer case.table entry ≡ meaning entry)
     → ((first second : Entry → Answer) (moment : ℕ) (rrsets : List ReceivedRrset) (anchors : List Anchor)
     → ((entry : Entry) → IsAsked moment rrsets entry → first entry ≡ second entry)
     → (k s : ℕ) → IsSecured first moment rrsets anchors k s → IsSecured second moment rrsets anchors k s)
-    → IsTrustOf (table_answer grounds.table) grounds.table.moment grounds.capture.now.rrsets grounds.anchors.now grounds.trust
-    → (name : Labels) (t : ℕ) → ¬ IsSettled (SecuredIn grounds.trust) grounds.capture.now.rrsets name t
-    → ¬ IsSettledBy (basis_of grounds.capture.now.rrsets grounds.anchors.now moment meaning) name t
-unsettled_on grounds meaning moment table says depends is name t none =
-    unsettled_by_trust meaning moment grounds.capture.now.rrsets grounds.anchors.now grounds.table grounds.trust
+    → IsTrustOf (table_answer case.table) case.table.moment case.rrsets case.anchors case.trust
+    → (name : Labels) (t : ℕ) → ¬ IsSettled (SecuredIn case.trust) case.rrsets name t
+    → ¬ IsSettledBy (basis_of case.rrsets case.anchors moment meaning) name t
+unsettled_on case meaning moment table says depends is name t none =
+    unsettled_by_trust meaning moment case.rrsets case.anchors case.table case.trust
     table.of_moment says depends is name t none
 
 -- what is settled is the verdict

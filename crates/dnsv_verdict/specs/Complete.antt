@@ -1,12 +1,13 @@
 -- What the verdict is where nothing answers and the evidence has the whole chain of a zone.
 use Rattle.std.specs.Prelude.{◌⊎◌, ◌↔◌, ℕ}
-use Rattle.dnsv_names.specs.Name.{Labels}
+use Rattle.dnsv_names.specs.Name.{Labels, IsAtOrBelow}
 use Rattle.dnsv_zones.specs.zones.Lookup.{IsLookup}
 use Rattle.dnsv_zones.specs.zones.Lookup.Answer.{NoData, NoName}
 use Rattle.dnsv_zones.specs.zones.TypeNumbers.{cname}
-use Rattle.dnsv_zones.specs.zones.Zone.{Zone}
+use Rattle.dnsv_zones.specs.zones.Types.{IsUnsignedDelegation}
+use Rattle.dnsv_zones.specs.zones.Zone.{Zone, Holds}
 use Rattle.dnsv_chain.specs.Trusted.{IsSecured}
-use Rattle.dnsv_denial.specs.proving.WholeChain.{HasWholeChainWithoutOptOut, IsJustChainWithoutOptOut, IsJustNsec3Chain}
+use Rattle.dnsv_denial.specs.proving.WholeChain.{HasWholeChain, HasWholeChainWithoutOptOut, HasWholeNsec3Chain, IsJustChainWithoutOptOut, IsJustNsec3Chain}
 use Rattle.dnsv_verdict.specs.Settled.{HasAnswer}
 use Rattle.dnsv_verdict.specs.Verdict.{Basis}
 use Rattle.dnsv_verdict.specs.declared.verdict.Verdict.{Verdict}
@@ -25,6 +26,9 @@ SaysNoData verdict = ⊥
 abbrev pub SaysInsecure : Verdict → Type 0
 SaysInsecure (Insecure cut) = Unit {0}
 SaysInsecure verdict = ⊥
+
+abbrev pub SaysDenialOrInsecure : Verdict → Type 0
+SaysDenialOrInsecure verdict = SaysNoName verdict ⊎ SaysNoData verdict ⊎ SaysInsecure verdict
 
 -- each denial is told exactly where looking the name up in the zone gives it
 pub record IsDenied (zone : Zone) (name : Labels) (t : ℕ) (verdict : Verdict) : Type 0 where
@@ -55,7 +59,9 @@ HasNoAnswer basis name t =
 
 -- The verdict tells what the zone of a whole chain denies: exactly that, where there is just this chain and it has no
 -- Opt-Out; that or Insecure, where there is just this chain and it may have Opt-Out; and no less, where there is such a
--- chain without Opt-Out, whatever else there is.
+-- chain without Opt-Out, whatever else there is. Whatever else there is, it tells a denial or Insecure where a whole
+-- chain has a delegation without DS at or above the name, and where the zone of a whole NSEC3 chain, with Opt-Out or
+-- without, denies something.
 pub record TellsWholeChains (basis : Basis) (name : Labels) (t : ℕ) (verdict : Verdict) : Type 0 where
   pub without_opt_out : (zone : Zone) → HasNoAnswer basis name t → IsJustChainWithoutOptOut (SecuredBy basis)
       basis.rrsets name zone
@@ -65,3 +71,12 @@ pub record TellsWholeChains (basis : Basis) (name : Labels) (t : ℕ) (verdict :
   pub whole : (zone : Zone) → HasNoAnswer basis name t → HasWholeChainWithoutOptOut (SecuredBy basis) basis.rrsets name
       zone
       → IsDeniedSomehow zone name t verdict
+  pub delegation : (zone : Zone) (cut : Labels) → HasNoAnswer basis name t → HasWholeChain (SecuredBy basis) basis.rrsets
+      name zone
+      → IsAtOrBelow name cut → IsUnsignedDelegation (Holds zone cut) → SaysDenialOrInsecure verdict
+  pub missing_name : (zone : Zone) → HasNoAnswer basis name t → HasWholeNsec3Chain (SecuredBy basis) basis.rrsets name
+      zone
+      → IsLookup zone name t NoName → SaysDenialOrInsecure verdict
+  pub missing_type : (zone : Zone) (source : Labels) → HasNoAnswer basis name t → HasWholeNsec3Chain (SecuredBy basis)
+      basis.rrsets name zone
+      → IsLookup zone name t (NoData source) → SaysDenialOrInsecure verdict

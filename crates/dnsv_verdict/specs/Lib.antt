@@ -1,6 +1,7 @@
+pub mod Case
 pub mod Complete
-pub mod Grounds
 pub mod Hashed
+pub mod Hope
 pub mod Insecure
 pub mod Meaning
 pub mod NoLess

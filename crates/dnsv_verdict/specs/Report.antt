@@ -6,15 +6,15 @@ use Rattle.dnsv_chain.specs.Trusted.{IsSecured}
 use Rattle.dnsv_denial.specs.QuestionHashes.{HashedQuestion}
 use Rattle.dnsv_verifier.specs.Asked.{IsNumberAsked}
 use Rattle.dnsv_verdict.specs.Complete.{TellsWholeChains}
-use Rattle.dnsv_verdict.specs.Grounds.{HasHope}
+use Rattle.dnsv_verdict.specs.Hope.{HasHope}
 use Rattle.dnsv_verdict.specs.Hashed.{IsFewHashedOn, IsNumberHashedOn}
 use Rattle.dnsv_verdict.specs.Meaning.{AreOwnOrFromWildcards, IsTrueOfZones}
 use Rattle.dnsv_verdict.specs.Verdict.{Basis}
 use Rattle.dnsv_verdict.specs.Way.{IsRefusal, IsVerdictOf, names_on}
 use Rattle.dnsv_verdict.specs.declared.error.VerdictError.{VerdictError}
 use Rattle.dnsv_verdict.specs.declared.error.VerdictError.TheVariants.{BadQuestion, OutOfMemory}
-use Rattle.dnsv_verdict.specs.declared.grounds.Grounds.{Grounds}
-use Rattle.dnsv_verdict.specs.declared.grounds.Hope.{Hope}
+use Rattle.dnsv_verdict.specs.Case.{CaseContents}
+use Rattle.dnsv_verdict.specs.declared.at_name.Hope.{Hope}
 use Rattle.dnsv_verdict.specs.declared.link.Link.{Link}
 use Rattle.dnsv_verdict.specs.declared.report.Report.{Report}
 use Rattle.dnsv_verdict.specs.declared.verdict.Verdict.{Verdict}
@@ -49,7 +49,7 @@ hashed_in rrsets name = record { rrsets = rrsets; name = name }
 
 -- the hashes for each name of the way, and what the verdict at the last one is hoped by
 pub record IsKept
-    (grounds : Grounds) (t : ℕ) (links : List Link) (last : Labels) (verdict : Verdict) (hashes : List HashedQuestion)
+    (case : CaseContents) (t : ℕ) (links : List Link) (last : Labels) (verdict : Verdict) (hashes : List HashedQuestion)
     (hope : Option Hope) : Type 0 where
-  pub each_name : hashes ≡ map (hashed_in grounds.capture.now.rrsets) (names_on links last)
-  pub hoped : HasHope grounds last t verdict hope
+  pub each_name : hashes ≡ map (hashed_in case.rrsets) (names_on links last)
+  pub hoped : HasHope case last t verdict hope

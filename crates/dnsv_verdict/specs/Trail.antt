@@ -2,10 +2,10 @@
 use Rattle.std.specs.Prelude.{◌≡◌, ◌++◌, ◌∷◌, [], ℕ, IsFalse, IsTrue, Some, None}
 use Rattle.dnsv_names.specs.Name.{Labels}
 use Rattle.dnsv_denial.specs.QuestionHashes.{HashedQuestion}
-use Rattle.dnsv_verdict.specs.Grounds.{HasHope}
+use Rattle.dnsv_verdict.specs.Hope.{HasHope}
 use Rattle.dnsv_verdict.specs.Report.{hashed_in}
-use Rattle.dnsv_verdict.specs.declared.grounds.Grounds.{Grounds}
-use Rattle.dnsv_verdict.specs.declared.grounds.Hope.{Hope}
+use Rattle.dnsv_verdict.specs.Case.{CaseContents}
+use Rattle.dnsv_verdict.specs.declared.at_name.Hope.{Hope}
 use Rattle.dnsv_verdict.specs.declared.trail.Trail.{Trail}
 use Rattle.dnsv_verdict.specs.declared.verdict.Verdict.{Verdict}
 
@@ -29,16 +29,16 @@ pub record SetsHope (hoped : Hope) (before after : Trail) : Type 0 where
   pub unkept : IsFalse before.keeps → after ≡ before
 
 -- the hope of the verdict at the name, if anything is kept; else nothing
-pub record KeepsHope (grounds : Grounds) (name : Labels) (t : ℕ) (verdict : Verdict) (before after : Trail) : Type 0 where
+pub record KeepsHope (case : CaseContents) (name : Labels) (t : ℕ) (verdict : Verdict) (before after : Trail) : Type 0 where
   pub keeps : after.keeps ≡ before.keeps
   pub hashes : after.hashes.items ≡ before.hashes.items
-  pub hope : IsTrue before.keeps → before.hope ≡ None → HasHope grounds name t verdict after.hope
+  pub hope : IsTrue before.keeps → before.hope ≡ None → HasHope case name t verdict after.hope
   pub unkept : IsFalse before.keeps → after ≡ before
 
 -- that, and the hashes of the name
-pub record Trails (grounds : Grounds) (name : Labels) (t : ℕ) (verdict : Verdict) (before after : Trail) : Type 0 where
+pub record Trails (case : CaseContents) (name : Labels) (t : ℕ) (verdict : Verdict) (before after : Trail) : Type 0 where
   pub keeps : after.keeps ≡ before.keeps
   pub hashes : IsTrue before.keeps → after.hashes.items
-      ≡ before.hashes.items ++ hashed_in grounds.capture.now.rrsets name ∷ []
-  pub hope : IsTrue before.keeps → before.hope ≡ None → HasHope grounds name t verdict after.hope
+      ≡ before.hashes.items ++ hashed_in case.rrsets name ∷ []
+  pub hope : IsTrue before.keeps → before.hope ≡ None → HasHope case name t verdict after.hope
   pub unkept : IsFalse before.keeps → after ≡ before

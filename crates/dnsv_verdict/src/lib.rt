@@ -2,24 +2,26 @@
 //! (RFC 4035 4.3, 5).
 #![tactic(auto)]
 
+pub use at_name::Hope;
+pub use case::Case;
 pub use complete::a_whole_chain_is_told_by_the_verdict;
 pub use error::VerdictError;
-pub use grounds::{Grounds, Hope};
 pub use laws::{
     a_question_has_a_verdict, a_question_has_one_verdict,
     a_question_is_indeterminate_without_an_anchor_above, more_evidence_makes_no_verdict_worse,
     valid_answers_settle_what_depends_on_them,
 };
 pub use link::{Link, Links};
-pub use report::{Judged, Report, judge, validate};
+pub use report::{Judged, Report, validate};
 pub use search::Found;
 pub use settled::opt_out_wildcard;
 pub use verdict::Verdict;
 pub use ways::a_question_leads_one_way;
 
+mod at_name;
+mod case;
 mod complete;
 mod error;
-mod grounds;
 mod laws;
 mod link;
 mod report;

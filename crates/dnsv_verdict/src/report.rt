@@ -1,37 +1,26 @@
 //! The verdict on a question, and what it took.
-ghost use Rattle.std.specs.Prelude.{◌≡◌, ◌⊎◌, [], IfErr, IfOk, IsErrOf, IsFalse, IsTrue, List, None, length};
-ghost use Rattle.std.specs.List.{AllByRecursion};
-ghost use Rattle.dnsv_names.specs.Count.{counted};
-ghost use Rattle.dnsv_names.specs.Name.{IsName};
-ghost use Rattle.dnsv_records.specs.declared.nsec3.Nsec3Parameters.{Nsec3Parameters};
-ghost use Rattle.dnsv_zones.specs.chains.HashedNames.{hashes_for};
-ghost use Rattle.dnsv_canonical.specs.Evidence.{AreParameters, nsec3_rdata};
+ghost use Rattle.std.specs.Prelude.{◌≡◌, ◌⊎◌, IfErr, IfOk, IsErrOf};
 ghost use Rattle.dnsv_canonical.specs.Rrsets.{IsQuestion};
 ghost use Rattle.dnsv_chain.specs.Trusted.{IsSecured};
 ghost use Rattle.dnsv_verdict.specs.Complete.{TellsWholeChains};
-ghost use Rattle.dnsv_verdict.specs.Grounds.{AreGroundsOf, basis_by};
-ghost use Rattle.dnsv_verdict.specs.Hashed.{IsFewHashedOn, IsNumberHashedOn, hashes_on};
+ghost use Rattle.dnsv_verdict.specs.Hashed.{IsFewHashedOn, IsNumberHashedOn};
 ghost use Rattle.dnsv_verdict.specs.Meaning.{AreOwnOrFromWildcards, IsTrueOfZones};
-ghost use Rattle.dnsv_verdict.specs.Report.{IsKept, IsReport, Refuses};
 ghost use Rattle.dnsv_verifier.specs.Asked.{IsNumberAsked};
 ghost use Rattle.dnsv_verdict.specs.Verdict.{basis_of};
 ghost use Rattle.dnsv_verdict.specs.Way.{IsRefusal, IsVerdictOf, names_on};
 ghost use Rattle.dnsv_verdict.specs.declared.error.VerdictError.{VerdictError};
 
-use crate::complete::a_whole_chain_is_told_by_the_verdict;
+use crate::at_name::Hope;
+use crate::case::Case;
 use crate::error::VerdictError;
-use crate::grounds::{Grounds, Hope};
 use crate::link::Links;
-use crate::trail::Trail;
 use crate::verdict::Verdict;
-use crate::way::{Way, follow};
-use crate::ways::a_question_leads_one_way;
 use bumpalo::Bump;
 use dnsv_canonical::{Capture, is_question};
-use dnsv_chain::{Anchors, trusted};
-use dnsv_denial::{DenialRecords, Hashes};
-use dnsv_names::{Count, Name, RecordType};
-use dnsv_verifier::{Table, Verifier, a_table_is_its_verifier, ask_all};
+use dnsv_chain::Anchors;
+use dnsv_denial::Hashes;
+use dnsv_names::{Name, RecordType};
+use dnsv_verifier::Verifier;
 use std::alloc::Global;
 
 /// The verdict on a question, and what it took.
@@ -49,12 +38,12 @@ pub struct Report<'a> {
     pub hashed: u64,
 }
 
-/// The report on a question, and what the verdicts on its way were found by. A view of what the evidence says at a name
-/// of the way is made of its hashes and the trust of the grounds, and by the trust of the hope where it is Pending.
+/// The report on a question of a case, and what the verdicts on its way were found by beside the case. A view of what
+/// the evidence says at a name of the way is made of its hashes and the trust of the case, and by the trust of the hope
+/// where it is Pending.
 #[derive(Drop)]
 pub struct Judged<'a> {
     pub report: Report<'a>,
-    pub grounds: Grounds<'a>,
     /// Those for the name of each link, in order, and for the last name. They are empty where nothing is kept.
     pub hashes: Vec<Hashes<'a>>,
     /// There is one just where the verdict is Pending, and where anything is kept.
@@ -110,97 +99,10 @@ pub fn validate<'a, V: Verifier>(
         verifier.now)) name.now rtype.0 error
         → IsErrOf result error ⊎ IsErrOf result VerdictError.OutOfMemory }
 {
-    let judged = judge(
-        alloc, bump, capture, anchors, moment, verifier, name, rtype, false,
-    )?;
-    Ok(judged.report)
-}
-
-/// The report on a question, which is that of `validate`, with what the verdicts on its way were found by, where that
-/// is kept. Nothing is asked, hashed or worked out more than there; where nothing is kept, no more memory is taken
-/// either.
-pub fn judge<'a, V: Verifier>(
-    alloc: Global,
-    bump: &'a Bump,
-    capture: &'a Capture<'a>,
-    anchors: &'a Anchors<'a>,
-    moment: u64,
-    verifier: &V,
-    name: &Name,
-    rtype: RecordType,
-    keeps: bool,
-) -> Result<Judged<'a>, VerdictError>
-    ensures report { IfOk result (λ judged. IsReport (basis_of capture.now.rrsets anchors.now moment (V.meaning
-        verifier.now)) name.now rtype.0 judged.report) }
-    ensures refused { Refuses (basis_of capture.now.rrsets anchors.now moment (V.meaning verifier.now)) name.now rtype.0
-        result }
-    ensures grounds { IfOk result (λ judged. AreGroundsOf (basis_of capture.now.rrsets anchors.now moment (V.meaning
-        verifier.now)) judged.grounds) }
-    // The table leads to the verdict by itself.
-    ensures by_table { IfOk result (λ judged. IsVerdictOf (basis_by judged.grounds) name.now rtype.0
-        judged.report.links judged.report.last judged.report.verdict) }
-    ensures kept { IsTrue keeps → IfOk result (λ judged. IsKept judged.grounds rtype.0 judged.report.links
-        judged.report.last judged.report.verdict judged.hashes.items judged.hope) }
-    ensures unkept { IsFalse keeps → IfOk result (λ judged. (judged.hashes.items ≡ []) × (judged.hope ≡ None)) }
-{
     if !is_question(name, rtype) {
         return Err(VerdictError::BadQuestion);
     }
-    a_question_leads_one_way();
-    a_whole_chain_is_told_by_the_verdict();
-    a_table_is_its_verifier();
-    let mut asked = Count::new();
-    let table = ask_all(alloc, bump, capture, moment, verifier, &mut asked)?;
-    let trust = trusted(alloc, capture, anchors, &table)?;
-    let denials = DenialRecords::of(alloc, capture, &trust)?;
-    let grounds = Grounds {
-        capture,
-        anchors,
-        table,
-        trust,
-        denials,
-    };
-    let mut hashed = Count::new();
-    let mut trail = Trail::new(alloc, keeps);
-    let followed = follow(alloc, &grounds, name, rtype, &mut hashed, &mut trail)?;
-    let hashed = exact_hashed(&hashed, capture, &followed.way);
-    let report = Report {
-        links: followed.way.links,
-        last: followed.way.last,
-        verdict: followed.verdict,
-        asked: exact(&asked, &grounds.table),
-        hashed,
-    };
-    Ok(Judged {
-        report,
-        grounds,
-        hashes: trail.hashes,
-        hope: trail.hope,
-    })
-}
-
-/// The count of a table's entries: they lie in memory, so their number is below the greatest value of a count.
-fn exact(asked: &Count, table: &Table<'_>) -> u64
-    requires { asked.now ≡ counted 0 (length table.now.answers) }
-    ensures { result ≡ length table.now.answers }
-{
-    // What is true of every table.
-    let _entries = table.len();
-    asked.value()
-}
-
-/// The count of the digests that hash the names of the way: there are so few names, a capture has so few iterations and
-/// salts, and a name so few labels, that their number is below the greatest value of a count.
-fn exact_hashed(hashed: &Count, capture: &Capture<'_>, way: &Way) -> u64
-    requires hashed { (all : List Nsec3Parameters) → AreParameters (nsec3_rdata capture.now.rrsets) all
-        → hashed.now ≡ counted 0 (hashes_on (names_on way.now.links way.now.last) all) }
-    requires names { AllByRecursion IsName (names_on way.now.links way.now.last) }
-    ensures exact { IsNumberHashedOn capture.now.rrsets (names_on way.now.links way.now.last) result }
-    ensures few { IsFewHashedOn capture.now.rrsets (names_on way.now.links way.now.last) result }
-{
-    // What is true of every capture and of every way.
-    let _limits = capture.rrsets();
-    let _parameters = capture.nsec3_parameters();
-    let _links = way.links.as_slice();
-    hashed.value()
+    let case = Case::new(alloc, bump, capture, anchors, moment, verifier)?;
+    let judged = case.judge(alloc, name, rtype, false)?;
+    Ok(judged.report)
 }

@@ -2,7 +2,7 @@
 ghost use Rattle.std.specs.Prelude.{◌≡◌, IsFalse, Ok, OnOk};
 ghost use Rattle.dnsv_verdict.specs.Trail.{AddsHashes, IsEmpty, SetsHope};
 
-use crate::grounds::Hope;
+use crate::at_name::Hope;
 use dnsv_denial::Hashes;
 use std::alloc::{AllocError, Global};
 

@@ -2,14 +2,13 @@
 ghost use Rattle.std.specs.Prelude.{◌≡◌, ◌⊎◌, ◌↔◌, ◌<◌, ◌++◌, ℕ, List, [], ◌∷◌, Contains, IfErr, IfOk, IsFalse, IsTrue, MatchOption, length};
 ghost use Rattle.std.specs.List.{AllByRecursion};
 ghost use Rattle.dnsv_names.specs.Count.{counted};
-ghost use Rattle.dnsv_names.specs.Name.{IsName, SameName};
+ghost use Rattle.dnsv_names.specs.Name.{IsName, Labels, SameName};
 ghost use Rattle.dnsv_records.specs.declared.nsec3.Nsec3Parameters.{Nsec3Parameters};
 ghost use Rattle.dnsv_canonical.specs.Evidence.{AreParameters, nsec3_rdata};
 ghost use Rattle.dnsv_canonical.specs.Rrsets.{IsQuestion};
 ghost use Rattle.dnsv_verifier.specs.Table.{IsTableOf};
 ghost use Rattle.dnsv_verifier.specs.declared.answer.Answer.{Answer};
 ghost use Rattle.dnsv_verifier.specs.declared.entry.Entry.{Entry};
-ghost use Rattle.dnsv_verdict.specs.Grounds.{HasTrust};
 ghost use Rattle.dnsv_verdict.specs.Hashed.{hashes_on};
 ghost use Rattle.dnsv_verdict.specs.Report.{IsKept};
 ghost use Rattle.dnsv_verdict.specs.Trail.{IsEmpty};
@@ -19,15 +18,16 @@ ghost use Rattle.dnsv_verdict.specs.declared.link.Link.{Link};
 ghost use Rattle.dnsv_verdict.specs.declared.verdict.Verdict.TheVariants.{SecureAlias};
 ghost use Rattle.dnsv_verdict.specs.Verdict.{basis_of};
 
+use crate::at_name::verdict_at;
+use crate::case::Case;
 use crate::error::VerdictError;
-use crate::grounds::{Grounds, verdict_at};
 use crate::link::{LINK_LIMIT, Link, Links};
 use crate::target::target_of;
 use crate::trail::Trail;
 use crate::verdict::Verdict;
 use dnsv_canonical::is_question;
 use dnsv_names::{Count, Name, RecordType, counts_add_up};
-use std::alloc::Global;
+use std::alloc::{AllocError, Global};
 
 /// A way as far as it was followed.
 #[derive(Drop)]
@@ -52,28 +52,27 @@ pub struct Followed<'a> {
 /// at the target; the first of these, in this order.
 pub fn follow<'a>(
     alloc: Global,
-    grounds: &Grounds<'a>,
+    case: &Case<'a>,
     name: &Name,
     rtype: RecordType,
     hashed: &mut Count,
     trail: &mut Trail<'a>,
 ) -> Result<Followed<'a>, VerdictError>
-    requires { HasTrust grounds.now }
     ensures value { (meaning : Entry → Answer) (moment : ℕ)
-        → IsTableOf meaning moment grounds.now.capture.now.rrsets grounds.now.table
-        → IfOk result (λ followed. IsVerdictOf (basis_of grounds.now.capture.now.rrsets grounds.now.anchors.now moment
+        → IsTableOf meaning moment case.now.rrsets case.now.table
+        → IfOk result (λ followed. IsVerdictOf (basis_of case.now.rrsets case.now.anchors moment
         meaning) name.now rtype.0 followed.way.links followed.way.last followed.verdict) }
     ensures refused { (meaning : Entry → Answer) (moment : ℕ)
-        → IsTableOf meaning moment grounds.now.capture.now.rrsets grounds.now.table
-        → IfErr result (λ error. (error ≡ OutOfMemory) ⊎ IsRefusedFor (basis_of grounds.now.capture.now.rrsets
-        grounds.now.anchors.now moment meaning) name.now rtype.0 error) }
+        → IsTableOf meaning moment case.now.rrsets case.now.table
+        → IfErr result (λ error. (error ≡ OutOfMemory) ⊎ IsRefusedFor (basis_of case.now.rrsets
+        case.now.anchors moment meaning) name.now rtype.0 error) }
     ensures hashed { IfOk result (λ followed. (all : List Nsec3Parameters)
-        → AreParameters (nsec3_rdata grounds.now.capture.now.rrsets) all
+        → AreParameters (nsec3_rdata case.now.rrsets) all
         → hashed.new ≡ counted hashed.old (hashes_on (names_on followed.way.links followed.way.last) all)) }
     ensures names { IfOk result (λ followed. AllByRecursion IsName
         (names_on followed.way.links followed.way.last)) }
     ensures kept { IfOk result (λ followed. IsTrue trail.old.keeps → IsEmpty trail.old
-        → IsKept grounds.now rtype.0 followed.way.links followed.way.last followed.verdict trail.new.hashes.items
+        → IsKept case.now rtype.0 followed.way.links followed.way.last followed.verdict trail.new.hashes.items
         trail.new.hope) }
     ensures unkept { IfOk result (λ followed. IsFalse trail.old.keeps → trail.new ≡ trail.old) }
 {
@@ -86,11 +85,11 @@ pub fn follow<'a>(
         last: name.clone()?,
     };
     'links: loop {
-        let verdict = verdict_at(alloc, grounds, trail, &way.last, rtype, hashed)?;
+        let verdict = verdict_at(alloc, case, trail, &way.last, rtype, hashed)?;
         let Some((rrset, signature)) = alias_of(&verdict) else {
             return Ok(Followed { way, verdict });
         };
-        let target = next_name(alloc, grounds, &way, rrset, rtype)?;
+        let target = next_name(alloc, case, &way, rrset, rtype)?;
         way = longer(way, rrset, signature, target);
     }
 }
@@ -127,19 +126,19 @@ fn longer(way: Way, rrset: usize, signature: usize, target: Name) -> Way
 /// The target of the alias at the way's last name, where the way can go on to it.
 fn next_name(
     alloc: Global,
-    grounds: &Grounds<'_>,
+    case: &Case<'_>,
     way: &Way,
     rrset: usize,
     rtype: RecordType,
 ) -> Result<Name, VerdictError>
-    ensures target { IfOk result (IsTarget grounds.now.capture.now.rrsets rrset) }
+    ensures target { IfOk result (IsTarget case.now.rrsets rrset) }
     ensures new { IfOk result (λ target. ¬ IsAmong target (names_on way.now.links way.now.last)) }
     ensures few { IfOk result (λ target. length way.now.links < most_links) }
     ensures question { IfOk result (λ target. IsQuestion target rtype.0) }
-    ensures stops { IfErr result (λ error. (error ≡ OutOfMemory) ⊎ Stops grounds.now.capture.now.rrsets rtype.0
+    ensures stops { IfErr result (λ error. (error ≡ OutOfMemory) ⊎ Stops case.now.rrsets rtype.0
         (names_on way.now.links way.now.last) (length way.now.links) rrset error) }
 {
-    let Some(target) = target_of(alloc, grounds.capture, rrset)? else {
+    let Some(target) = target_in(alloc, case, rrset)? else {
         return Err(VerdictError::AliasTargets);
     };
     if is_on(way, &target) {
@@ -151,6 +150,15 @@ fn next_name(
     if !is_question(&target, rtype) {
         return Err(VerdictError::BadQuestion);
     }
+    Ok(target)
+}
+
+/// The target of the case's RRset with the number.
+fn target_in(alloc: Global, case: &Case<'_>, rrset: usize) -> Result<Option<Name>, AllocError>
+    ensures { IfOk result (λ found. MatchOption found
+        ((target : Labels) → ¬ IsTarget case.now.rrsets rrset target) (IsTarget case.now.rrsets rrset)) }
+{
+    let target = target_of(alloc, case.capture(), rrset)?;
     Ok(target)
 }
 

@@ -1,6 +1,7 @@
 //! What holds for a verdict.
 ghost use Rattle.std.specs.Prelude.{◌≡◌, ◌↔◌, [], IsTrue, OnOk};
-ghost use Rattle.dnsv_verdict.specs.Grounds.{HasHope, HasTrust, IsHope, basis_by};
+ghost use Rattle.dnsv_verdict.specs.Case.{HasTrust, basis_by};
+ghost use Rattle.dnsv_verdict.specs.Hope.{HasHope, IsHope};
 ghost use Rattle.dnsv_verdict.specs.Report.{hashed_in};
 ghost use Rattle.dnsv_verdict.specs.Verdict.{IsSettledVerdict, IsVerdictAt};
 ghost use Rattle.dnsv_explain.specs.Explained.{explained_by};
@@ -15,7 +16,7 @@ use crate::explanation::told::add_settled;
 use dnsv_denial::Hashes;
 use dnsv_lines::{Kind, Line};
 use dnsv_names::{Name, RecordType};
-use dnsv_verdict::{Grounds, Hope, Judged, Verdict};
+use dnsv_verdict::{Case, Hope, Judged, Verdict};
 use dnsv_verifier::Entries;
 use std::alloc::{AllocError, Global};
 
@@ -24,28 +25,25 @@ use std::alloc::{AllocError, Global};
 pub fn add_verdict<'a>(
     alloc: Global,
     evidence: &Evidence<'_>,
+    case: &Case<'a>,
     judged: &Judged<'a>,
     hashes: &Hashes<'a>,
     lines: &mut Vec<Line>,
     rtype: RecordType,
 ) -> Result<(), AllocError>
-    requires trust { HasTrust judged.now.grounds }
-    requires evidence { evidence.now ≡ explained_by judged.now.grounds [] }
-    requires hashes { hashes.now ≡ hashed_in judged.now.grounds.capture.now.rrsets judged.now.report.last }
-    requires verdict { IsVerdictAt (basis_by judged.now.grounds) judged.now.report.last rtype.0
+    requires trust { HasTrust case.now }
+    requires evidence { evidence.now ≡ explained_by case.now [] }
+    requires hashes { hashes.now ≡ hashed_in case.now.rrsets judged.now.report.last }
+    requires verdict { IsVerdictAt (basis_by case.now) judged.now.report.last rtype.0
         judged.now.report.verdict }
-    requires hope { HasHope judged.now.grounds judged.now.report.last rtype.0 judged.now.report.verdict judged.now.hope }
+    requires hope { HasHope case.now judged.now.report.last rtype.0 judged.now.report.verdict judged.now.hope }
     ensures { OnOk result (Adds (IsVerdictTold evidence.now judged.now.report.last rtype.0 judged.now.report.verdict)
         lines.old.items lines.new.items) }
 {
-    let (grounds, name) = (&judged.grounds, &judged.report.last);
+    let name = &judged.report.last;
     let verdict = &judged.report.verdict;
     if is_settled(verdict) {
-        let at = At {
-            grounds,
-            hashes,
-            name,
-        };
+        let at = At { case, hashes, name };
         return Ok(add_settled(alloc, evidence, &at, lines, rtype, verdict)?);
     }
     let Verdict::Pending(unknown) = verdict else {
@@ -55,7 +53,7 @@ pub fn add_verdict<'a>(
         return Ok(());
     };
     Ok(add_hope(
-        alloc, evidence, grounds, hope, unknown, hashes, lines, name, rtype,
+        alloc, evidence, case, hope, unknown, hashes, lines, name, rtype,
     )?)
 }
 
@@ -64,7 +62,7 @@ pub fn add_verdict<'a>(
 fn add_hope<'a>(
     alloc: Global,
     evidence: &Evidence<'_>,
-    grounds: &Grounds<'a>,
+    case: &Case<'a>,
     hope: &Hope<'a>,
     unknown: &Entries<'_>,
     hashes: &Hashes<'a>,
@@ -72,20 +70,20 @@ fn add_hope<'a>(
     name: &Name,
     rtype: RecordType,
 ) -> Result<(), AllocError>
-    requires evidence { evidence.now ≡ explained_by grounds.now [] }
-    requires hashes { hashes.now ≡ hashed_in grounds.now.capture.now.rrsets name.now }
-    requires hope { IsHope grounds.now name.now rtype.0 hope.now }
+    requires evidence { evidence.now ≡ explained_by case.now [] }
+    requires hashes { hashes.now ≡ hashed_in case.now.rrsets name.now }
+    requires hope { IsHope case.now name.now rtype.0 hope.now }
     ensures { OnOk result (Adds (IsHopeTold evidence.now name.now rtype.0 unknown.now) lines.old.items lines.new.items) }
 {
     let Some(kind) = kind_of(&hope.verdict) else {
         return Ok(());
     };
-    let bare = evidence_of(&hope.grounds, Some(unknown));
+    let bare = evidence_of(&hope.case, Some(unknown));
     let ways = first_ways(alloc, &bare)?;
     let hoped = bare.with_ways(&ways);
     lines.push(Line::Hope(kind))?;
     let at = At {
-        grounds: &hope.grounds,
+        case: &hope.case,
         hashes,
         name,
     };

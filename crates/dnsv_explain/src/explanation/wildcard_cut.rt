@@ -1,8 +1,9 @@
 //! The lines of an answer from a wildcard against which Opt-Out may stand.
-ghost use Rattle.std.specs.Prelude.{◌≡◌, OnOk};
+ghost use Rattle.std.specs.Prelude.{◌≡◌, ℕ, MatchOption, OnOk};
 ghost use Rattle.dnsv_chain.specs.Trust.{SecuredIn as KeptIn};
 ghost use Rattle.dnsv_denial.specs.unsigned_cuts.Cuts.{HasUnsignedCut};
-ghost use Rattle.dnsv_verdict.specs.Insecure.{IsUnsigned};
+ghost use Rattle.dnsv_verdict.specs.Insecure.{IsOptOutWildcardSet, IsUnsigned};
+ghost use Rattle.dnsv_verdict.specs.Secure.{IsFirstSuch};
 ghost use Rattle.dnsv_explain.specs.At.{IsAt, viewed_at};
 ghost use Rattle.dnsv_explain.specs.Explanation.{IsUnsignedFromTold};
 ghost use Rattle.dnsv_explain.specs.Explained.{setting_in};
@@ -17,7 +18,7 @@ use dnsv_canonical::SignatureNumber;
 use dnsv_denial::{PartName, View};
 use dnsv_lines::{InsecureCase, Line};
 use dnsv_names::RecordType;
-use dnsv_verdict::opt_out_wildcard;
+use dnsv_verdict::{Found, opt_out_wildcard};
 use std::alloc::{AllocError, Global};
 
 /// Adds the lines of the first RRset of the name and type, or of CNAME, that comes from a wildcard against which Opt-Out
@@ -38,8 +39,8 @@ pub fn add_wildcard_cut(
     ensures { OnOk result (Adds (IsUnsignedFromTold (setting_in evidence.now) at.now.name.now rtype.0) lines.old.items
         lines.new.items) }
 {
-    let (grounds, name) = (at.grounds, at.name);
-    let Some(found) = opt_out_wildcard(grounds.capture, &grounds.trust, name, rtype, view) else {
+    let name = at.name;
+    let Some(found) = open_wildcard(at, view, rtype) else {
         return Ok(());
     };
     let labels = found.rrsig.labels as usize;
@@ -55,4 +56,19 @@ pub fn add_wildcard_cut(
     let case = InsecureCase::OptOutWildcard;
     add_unsigned(alloc, evidence, lines, name, &shown, case, &cut)?;
     Ok(())
+}
+
+/// The first RRset of the name, and of the type or CNAME, and its first signature, that come from a wildcard and against
+/// which an unsigned delegation may stand, as the case has them.
+fn open_wildcard<'a>(at: &At<'_, 'a>, view: &View<'_, '_>, rtype: RecordType) -> Option<Found<'a>>
+    requires { view.now ≡ viewed_at at.now }
+    ensures { MatchOption result
+        ((k s : ℕ) → ¬ IsOptOutWildcardSet (KeptIn at.now.case.now.trust) at.now.case.now.rrsets at.now.name.now rtype.0 k s)
+        (λ found. (is : IsFirstSuch (IsOptOutWildcardSet (KeptIn at.now.case.now.trust) at.now.case.now.rrsets
+        at.now.name.now rtype.0) found.rrset found.signature) × (is.such.rrsig ≡ found.rrsig.now)) }
+{
+    let case = at.case;
+    let capture = case.capture();
+    let trust = case.trust();
+    opt_out_wildcard(capture, trust, at.name, rtype, view)
 }

@@ -105,7 +105,7 @@ fn add_zone(
         name: &name,
         speaks: labels == speaker,
     };
-    let records = at.grounds.denials.of_zone(&name);
+    let records = at.case.denials().of_zone(&name);
     add_nsecs(alloc, at, lines, rtype, &zone, &records.nsecs)?;
     let nsec3s = records.nsec3s.as_slice();
     add_nsec3s(alloc, at, lines, rtype, &zone, nsec3s, parameters)?;

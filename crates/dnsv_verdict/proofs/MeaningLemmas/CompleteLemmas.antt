@@ -12,7 +12,7 @@ use Rattle.dnsv_denial.specs.proving.FirstProof.{CanProveNoData, CanProveNoName}
 use Rattle.dnsv_denial.specs.proving.WholeChain.{HasWholeChainWithoutOptOut, IsJustChainWithoutOptOut, IsJustNsec3Chain}
 use Rattle.dnsv_denial.specs.unsigned_cuts.Cuts.{HasUnsignedCut}
 use Rattle.dnsv_denial.proofs.meaning.JustChainProofs.{can_be, just_no_name, just_no_data, just3_no_name, just3_no_data}
-use Rattle.dnsv_denial.proofs.meaning.WholeChainProofs.{without_opt_out_no_name, without_opt_out_no_data, no_name_or_cut, no_data_or_cut}
+use Rattle.dnsv_denial.proofs.meaning.WholeChainProofs.{without_opt_out_no_name, without_opt_out_no_data, no_name_or_cut, no_data_or_cut, whole_cut}
 use Rattle.dnsv_verdict.specs.Complete.{SaysNoName, SaysNoData, SaysInsecure, IsDenied, IsDeniedOrUnsigned, IsDeniedSomehow, SecuredBy, HasNoAnswer, TellsWholeChains}
 use Rattle.dnsv_verdict.specs.Verdict.{Basis, IsVerdictAt, IsSettledBy}
 use Rattle.dnsv_verdict.specs.declared.verdict.Verdict.{Verdict}
@@ -129,4 +129,15 @@ module _ (basis : Basis) (name : Labels) (t : ℕ) where
         without_opt_out = λ zone none just. denied verdict zone (told verdict none is) other another just;
         opt_out = λ zone none just. denied_or_unsigned verdict zone (told verdict none is) other another just;
         whole = λ zone none chain. denied_somehow verdict zone (told verdict none is) other another chain;
+        delegation = λ zone cut none chain under unsigned. (told verdict none is).if_cut
+            (whole_cut (SecuredBy basis) basis.rrsets name zone cut chain under unsigned);
+        missing_name = λ zone none chain lookup. ⊎_elim
+            (λ (can : CanProveNoName (SecuredBy basis) basis.rrsets name). inl ((told verdict none is).if_no_name can))
+            (λ (cut : HasUnsignedCut (SecuredBy basis) basis.rrsets name). (told verdict none is).if_cut cut)
+            (no_name_or_cut (SecuredBy basis) basis.rrsets name zone chain t lookup);
+        missing_type = λ zone source none chain lookup. ⊎_elim
+            (λ (can : CanProveNoData (SecuredBy basis) basis.rrsets name t). ⊎_elim
+            (λ (says : SaysNoName verdict). inl says) (λ (says : SaysNoData verdict). inr (inl says)) ((told verdict none is).if_no_data can))
+            (λ (cut : HasUnsignedCut (SecuredBy basis) basis.rrsets name). (told verdict none is).if_cut cut)
+            (no_data_or_cut (SecuredBy basis) basis.rrsets name zone chain t source other another lookup);
       }

@@ -17,7 +17,7 @@ failed-requires-clause-unproved c = c.is_unproved.ensures.0 c.if-is_unproved.tru
 pub returns-then-not-is_settled : goal.returns-then-not-is_settled
 returns-then-not-is_settled c =
     let report = c.args.judged.now.report in
-    open_ended c.with_ways-evidence.result c.args.judged.now.grounds (c.with_ways-evidence.ensures ∙ c.evidence_of-bare.ensures) c.args.rtype.0
+    open_ended c.with_ways-evidence.result c.args.case.now (c.with_ways-evidence.ensures ∙ c.evidence_of-bare.ensures) c.args.rtype.0
     report.links report.last report.verdict c.new-lines.result.items _ _ c.new-lines.ensures.items
     (λ unproved. let holds = c.is_unproved.ensures.1 unproved in let fails = c.if-is_unproved.false in cc)
     (λ settled. let holds = c.is_settled.ensures.1 settled in let fails = c.if-not-is_settled.true in cc)
@@ -28,7 +28,7 @@ returns-then-not-is_settled c =
 pub returns : goal.returns
 returns c =
     let report = c.args.judged.now.report in
-    settled_ended c.with_ways-evidence.result c.args.judged.now.grounds (c.with_ways-evidence.ensures ∙ c.evidence_of-bare.ensures) c.args.rtype.0
+    settled_ended c.with_ways-evidence.result c.args.case.now (c.with_ways-evidence.ensures ∙ c.evidence_of-bare.ensures) c.args.rtype.0
     report.links report.last report.verdict c.new-lines.result.items _ _ c.new-lines.ensures.items
     (c.is_settled.ensures.0 c.if-not-is_settled.false)
     (way_added c.with_ways-evidence.result c.args.rtype.0 report.links report.last report.verdict c.new-lines.result.items _ _

@@ -25,15 +25,15 @@ pub add_failure-requires : goal.add_failure-requires
 add_failure-requires c =
     let judged = c.args.judged.now in record {
       trust = c.requires.trust;
-      evidence = todo_same judged.grounds c.with_ways-evidence.result [] (c.with_ways-evidence.ensures ∙ c.evidence_of-bare.ensures);
-      hashes = last_hashed judged.grounds.capture.now.rrsets judged.report.links c.as_slice.result.now judged.report.last
+      evidence = todo_same case c.with_ways-evidence.result [] (c.with_ways-evidence.ensures ∙ c.evidence_of-bare.ensures);
+      hashes = last_hashed case.rrsets judged.report.links c.as_slice.result.now judged.report.last
           judged.hashes.items c.index-last.result.now c.as_slice.ensures.value c.requires.kept.each_name c.index-last.ensures;
     }
 
 pub returns : goal.returns
 returns c =
     let report = c.args.judged.now.report in
-    failed_ended c.with_ways-evidence.result c.args.judged.now.grounds (c.with_ways-evidence.ensures ∙ c.evidence_of-bare.ensures) c.args.rtype.0
+    failed_ended c.with_ways-evidence.result c.args.case.now (c.with_ways-evidence.ensures ∙ c.evidence_of-bare.ensures) c.args.rtype.0
     report.links report.last report.verdict c.new-lines.result.items _ _ c.new-lines.ensures.items _ c.requires.unproved
     c.in_ok-add_failure.ensures
     (way_added c.with_ways-evidence.result c.args.rtype.0 report.links report.last report.verdict _ _ _

@@ -11,10 +11,10 @@ use Rattle.dnsv_verifier.specs.Table.{TableContents, hoped_answer, hopeful, tabl
 use Rattle.dnsv_verifier.specs.declared.answer.Answer.{Answer}
 use Rattle.dnsv_verifier.specs.declared.answer.Answer.TheVariants.{Valid, Invalid, Unknown}
 use Rattle.dnsv_verifier.specs.declared.entry.Entry.{Entry}
-use Rattle.dnsv_verdict.specs.Grounds.{HasHope, IsHope}
+use Rattle.dnsv_verdict.specs.Hope.{HasHope, IsHope}
 use Rattle.dnsv_verdict.specs.Verdict.{IsSettledAsBy}
-use Rattle.dnsv_verdict.specs.declared.grounds.Grounds.{Grounds}
-use Rattle.dnsv_verdict.specs.declared.grounds.Hope.{Hope}
+use Rattle.dnsv_verdict.specs.Case.{CaseContents}
+use Rattle.dnsv_verdict.specs.declared.at_name.Hope.{Hope}
 use Rattle.dnsv_verdict.specs.declared.verdict.Verdict.{Verdict}
 use Rattle.dnsv_verdict.specs.declared.verdict.Verdict.TheVariants.{Pending}
 use Rattle.dnsv_explain.specs.Explained.{Explained, basis_in, explained_by, hoped, setting_in}
@@ -80,19 +80,19 @@ module _ (explained : Explained) (unknown : List Entry) where
 
 -- ---- what is hoped
 
-module _ (grounds : Grounds) (name : Labels) (t : ℕ) (verdict : Verdict) (hope : Option Hope) (unknown : List Entry)
-    (is : verdict ≡ Pending unknown) (has : HasHope grounds name t verdict hope) where
-  has_its : HasHope grounds name t (Pending unknown) hope
-  has_its = let Has : Verdict → Type 0 = λ each. HasHope grounds name t each hope in subst Has is has
+module _ (case : CaseContents) (name : Labels) (t : ℕ) (verdict : Verdict) (hope : Option Hope) (unknown : List Entry)
+    (is : verdict ≡ Pending unknown) (has : HasHope case name t verdict hope) where
+  has_its : HasHope case name t (Pending unknown) hope
+  has_its = let Has : Verdict → Type 0 = λ each. HasHope case name t each hope in subst Has is has
 
   pub no_hope : hope ≡ None → ⊥
-  no_hope none = let Has : Option Hope → Type 0 = λ each. HasHope grounds name t (Pending unknown) each in subst Has none has_its
+  no_hope none = let Has : Option Hope → Type 0 = λ each. HasHope case name t (Pending unknown) each in subst Has none has_its
 
-  pub the_hope : (this : Hope) → hope ≡ Some this → IsHope grounds name t this
-  the_hope this some = let Has : Option Hope → Type 0 = λ each. HasHope grounds name t (Pending unknown) each in subst Has some has_its
+  pub the_hope : (this : Hope) → hope ≡ Some this → IsHope case name t this
+  the_hope this some = let Has : Option Hope → Type 0 = λ each. HasHope case name t (Pending unknown) each in subst Has some has_its
 
-module _ (explained its : Explained) (grounds : Grounds) (hope : Hope) (unknown : List Entry) (name : Labels) (t : ℕ)
-    (same : explained ≡ explained_by grounds []) (its_same : its ≡ explained_by hope.grounds unknown) (is : IsHope grounds name t hope) where
+module _ (explained its : Explained) (case : CaseContents) (hope : Hope) (unknown : List Entry) (name : Labels) (t : ℕ)
+    (same : explained ≡ explained_by case []) (its_same : its ≡ explained_by hope.case unknown) (is : IsHope case name t hope) where
   is_hoped : its ≡ hoped explained unknown
   is_hoped =
       its_same

@@ -4,26 +4,26 @@ use Rattle.dnsv_names.specs.Name.{Labels}
 use Rattle.dnsv_canonical.specs.Rrsets.{ReceivedRrset}
 use Rattle.dnsv_chain.specs.declared.anchor.Anchor.{Anchor}
 use Rattle.dnsv_verdict.proofs.ReportLemmas.{no_error}
-use Rattle.dnsv_verdict.specs.Grounds.{AreGroundsOf}
+use Rattle.dnsv_verdict.specs.Case.{IsCaseOf}
 use Rattle.dnsv_verdict.specs.Report.{Refuses}
 use Rattle.dnsv_verdict.specs.Verdict.{Basis}
 use Rattle.dnsv_verdict.specs.declared.error.VerdictError.TheVariants.{BadQuestion, OutOfMemory}
-use Rattle.dnsv_verdict.specs.declared.grounds.Grounds.{Grounds}
+use Rattle.dnsv_verdict.specs.Case.{CaseContents}
 use Rattle.dnsv_verdict.specs.declared.report.Report.{Report}
 use Rattle.dnsv_explain.specs.Explained.{explained_by}
 use Rattle.dnsv_explain.specs.Explanation.{IsExplanation, IsExplanationOf}
 use Rattle.dnsv_lines.specs.declared.line.Line.{Line}
 
--- what is explained by the grounds of the question is so of it
-pub explained_of : (basis : Basis) (grounds : Grounds) (t : ℕ) (report : Report) (lines : List Line) → AreGroundsOf basis grounds
-    → IsExplanation (explained_by grounds []) t report.links report.last report.verdict lines → IsExplanationOf basis t report lines
-explained_of basis grounds t report lines are is =
+-- what is explained by the case of the question is so of it
+pub explained_of : (basis : Basis) (case : CaseContents) (t : ℕ) (report : Report) (lines : List Line) → IsCaseOf basis case
+    → IsExplanation (explained_by case []) t report.links report.last report.verdict lines → IsExplanationOf basis t report lines
+explained_of basis case t report lines are is =
     let By : List ReceivedRrset → List Anchor → Type 0 = λ rrsets anchors.
-    IsExplanation (record { rrsets = rrsets; anchors = anchors; table = grounds.table; todo = [] }) t report.links report.last
+    IsExplanation (record { rrsets = rrsets; anchors = anchors; table = case.table; todo = [] }) t report.links report.last
     report.verdict lines in
-    let Rrsets : List ReceivedRrset → Type 0 = λ each. By each grounds.anchors.now in
+    let Rrsets : List ReceivedRrset → Type 0 = λ each. By each case.anchors in
     let Anchors : List Anchor → Type 0 = λ each. By basis.rrsets each in
-    record { table = grounds.table; of = are.table; is = subst Anchors are.anchors (subst Rrsets are.rrsets is) }
+    record { table = case.table; of = are.table; is = subst Anchors are.anchors (subst Rrsets are.rrsets is) }
 
 module _ {T U : Type 0} (basis : Basis) (name : Labels) (t : ℕ) (value : T) (refuses : Refuses {T = T} basis name t (Ok value)) where
   -- a question that isn't refused still isn't

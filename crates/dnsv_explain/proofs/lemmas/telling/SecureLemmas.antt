@@ -13,12 +13,12 @@ use Rattle.dnsv_denial.specs.proving.FirstProof.{CanProveNoCloser, CanProveNoDat
 use Rattle.dnsv_denial.specs.unsigned_cuts.Cuts.{HasUnsignedCut, IsUnsignedCut}
 use Rattle.dnsv_verdict.proofs.OneProof.{can_be, cut_stands}
 use Rattle.dnsv_verifier.specs.declared.entry.Entry.{Entry}
-use Rattle.dnsv_verdict.specs.Grounds.{basis_by}
+use Rattle.dnsv_verdict.specs.Case.{basis_by}
 use Rattle.dnsv_verdict.specs.Insecure.{IsOptOutWildcardCut, IsUnsigned, IsUnsignedFrom}
 use Rattle.dnsv_verdict.specs.Secure.{HoldsForName, IsSecureSet}
 use Rattle.dnsv_verdict.specs.Verdict.{Basis, IsSettledAsBy, IsSettledVerdict, IsVerdictAt}
 use Rattle.dnsv_verdict.specs.Way.{LeadTo}
-use Rattle.dnsv_verdict.specs.declared.grounds.Grounds.{Grounds}
+use Rattle.dnsv_verdict.specs.Case.{CaseContents}
 use Rattle.dnsv_verdict.specs.declared.link.Link.{Link}
 use Rattle.dnsv_verdict.specs.declared.verdict.Verdict.{Verdict}
 use Rattle.dnsv_verdict.specs.declared.verdict.Verdict.TheVariants.{SecureAnswer, SecureAlias, SecureNoName, SecureNoData, Insecure, Pending, Bogus, Indeterminate}
@@ -163,9 +163,9 @@ link_secure explained t name (link ∷ links) last leads zero d within =
 link_secure explained t name (link ∷ links) last leads (suc place) d within =
     link_secure explained t leads.1 links last leads.4 place d (omega (arith, within))
 
-module _ (grounds : Grounds) (explained : Explained) (todo : List Entry) (same : explained ≡ explained_by grounds todo) where
+module _ (case : CaseContents) (explained : Explained) (todo : List Entry) (same : explained ≡ explained_by case todo) where
   pub item_secure : (t : ℕ) (name : Labels) (links xs : List Link) (last : Labels) (place : ℕ) (link : Link) → xs ≡ links
-      → place < length xs → link ≡ get_or xs place link → LeadTo (basis_by grounds) t name links last
+      → place < length xs → link ≡ get_or xs place link → LeadTo (basis_by case) t name links last
       → IsSecure (setting_in explained) link.name (record { rrset = link.rrset; signature = link.signature })
   item_secure t name links xs last place link is within at leads =
       let Leads : Explained → Type 0 = λ each. LeadTo (basis_in each) t name links last in
@@ -173,12 +173,12 @@ module _ (grounds : Grounds) (explained : Explained) (todo : List Entry) (same :
       subst Secure (sym (at_same xs links place link is at))
       (link_secure explained t name links last (subst Leads (sym same) leads) place link (within_same xs links place is within))
 
-  -- what is settled by the grounds
-  pub settled_by : (name : Labels) (t : ℕ) (verdict : Verdict) → IsSettledVerdict verdict → IsVerdictAt (basis_by grounds) name t verdict
+  -- what is settled by the case
+  pub settled_by : (name : Labels) (t : ℕ) (verdict : Verdict) → IsSettledVerdict verdict → IsVerdictAt (basis_by case) name t verdict
       → IsSettledAsBy (basis_in explained) name t verdict
   settled_by name t verdict settled is =
       let By : Explained → Type 0 = λ each. IsSettledAsBy (basis_in each) name t verdict in
-      subst By (sym same) (settled_as explained name t (basis_by grounds) verdict settled is)
+      subst By (sym same) (settled_as explained name t (basis_by case) verdict settled is)
 
 by_word : (verdict : Verdict) (some : Bool) → some ≡ is_some (told_kind verdict) → (some ≡ true) ↔ IsSettledVerdict verdict
 by_word (SecureAnswer k s) some is = (λ yes. tt, λ settled. is)

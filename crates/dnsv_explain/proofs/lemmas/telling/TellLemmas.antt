@@ -18,12 +18,12 @@ use Rattle.dnsv_denial.specs.declared.unsigned_cuts.shown_cut.ShownCut.{ShownCut
 use Rattle.dnsv_verifier.specs.declared.entry.Entry.{Entry}
 use Rattle.dnsv_verdict.proofs.SettledLemmas.{unsigned_to}
 use Rattle.dnsv_verdict.proofs.SettledLemmas.EvidenceLemmas.{no_closer_can_to, no_data_can_to, no_name_can_to}
-use Rattle.dnsv_verdict.specs.Grounds.{HasTrust}
+use Rattle.dnsv_verdict.specs.Case.{HasTrust}
 use Rattle.dnsv_verdict.specs.Insecure.{IsOptOutWildcardSet, IsUnsigned}
 use Rattle.dnsv_verdict.specs.Report.{hashed_in}
 use Rattle.dnsv_verdict.specs.Secure.{IsFirstSuch}
 use Rattle.dnsv_verdict.specs.Way.{names_on}
-use Rattle.dnsv_verdict.specs.declared.grounds.Grounds.{Grounds}
+use Rattle.dnsv_verdict.specs.Case.{CaseContents}
 use Rattle.dnsv_verdict.specs.declared.link.Link.{Link}
 use Rattle.dnsv_explain.specs.Denials.{IsDenialTold, IsShownDenial}
 use Rattle.dnsv_explain.specs.Denials.IsShownBy.{no_name, no_data, no_closer}
@@ -50,10 +50,10 @@ signature_at rrsets number rrset rrsigs rrsig is_rrset zip numbered =
     record { is_rrset = is_rrset; rdata = there.0; is_signature = (numbered.0, there.1); read = there.2 }
 
 -- what is explained with some entries is so with its own
-pub todo_same : (grounds : Grounds) (explained : Explained) (todo : List Entry) → explained ≡ explained_by grounds todo
-    → explained ≡ explained_by grounds explained.todo
-todo_same grounds explained todo same =
-    same ∙ ap (λ (each : List Entry). explained_by grounds each) (sym (ap (λ (each : Explained). each.todo) same))
+pub todo_same : (its_case : CaseContents) (explained : Explained) (todo : List Entry) → explained ≡ explained_by its_case todo
+    → explained ≡ explained_by its_case explained.todo
+todo_same its_case explained todo same =
+    same ∙ ap (λ (each : List Entry). explained_by its_case each) (sym (ap (λ (each : Explained). each.todo) same))
 
 pub owned_added : (setting : Setting) (name : Labels) (number : SignatureNumber) (rrset : ReceivedRrset) (rrsig : Rrsig)
     (old more new : List Line) → IsSignatureAt setting.rrsets number rrset rrsig → ¬ IsExpanded rrset.owner rrsig
@@ -61,27 +61,27 @@ pub owned_added : (setting : Setting) (name : Labels) (number : SignatureNumber)
 owned_added setting name number rrset rrsig old more new at plain told is =
     record { more = more; is = is; says = as_owned rrset rrsig at plain told }
 
-module _ (grounds : Grounds) (explained : Explained) (same : explained ≡ explained_by grounds explained.todo) (trusted : HasTrust grounds)
+module _ (its_case : CaseContents) (explained : Explained) (same : explained ≡ explained_by its_case explained.todo) (trusted : HasTrust its_case)
     (view : Viewed) (name : Labels)
-    (is_view : view ≡ record { rrsets = grounds.capture.now.rrsets; trust = grounds.trust; name = name }) where
+    (is_view : view ≡ record { rrsets = its_case.rrsets; trust = its_case.trust; name = name }) where
   abbrev Its : Setting
   Its = setting_in explained
 
-  good : IsTrustIn Its grounds.trust
-  good = subst (λ (each : Explained). IsTrustIn (setting_in each) grounds.trust) (sym same) trusted.0
+  good : IsTrustIn Its its_case.trust
+  good = subst (λ (each : Explained). IsTrustIn (setting_in each) its_case.trust) (sym same) trusted
 
   abbrev its_view : Viewed
-  its_view = record { rrsets = explained.rrsets; trust = grounds.trust; name = name }
+  its_view = record { rrsets = explained.rrsets; trust = its_case.trust; name = name }
 
   viewed : view ≡ its_view
   viewed = is_view ∙ (λ i. record {
     rrsets = sym (ap (λ (each : Explained). each.rrsets) same) i;
-    trust = grounds.trust;
+    trust = its_case.trust;
     name = name;
   })
 
   -- what is good is kept
-  kept : (k s : ℕ) → GoodIn Its k s → SecuredIn grounds.trust k s
+  kept : (k s : ℕ) → GoodIn Its k s → SecuredIn its_case.trust k s
   kept k s is = ((good.signed k).members s).1 is
 
   stays : (k : ℕ) (rrset : ReceivedRrset) → IsNumbered explained.rrsets k rrset → IsNumbered explained.rrsets k rrset
@@ -91,7 +91,7 @@ module _ (grounds : Grounds) (explained : Explained) (same : explained ≡ expla
 
   its_no_closer : (labels : ℕ) (zone : Labels) (shown : ShownDenial)
       → IsShownNoCloser (SecuredIn view.trust) view.rrsets view.name labels zone shown
-      → IsShownNoCloser (SecuredIn grounds.trust) explained.rrsets name labels zone shown
+      → IsShownNoCloser (SecuredIn its_case.trust) explained.rrsets name labels zone shown
   its_no_closer labels zone shown =
       subst (λ (each : Viewed). IsShownNoCloser (SecuredIn each.trust) each.rrsets each.name labels zone shown) viewed
 
@@ -99,17 +99,17 @@ module _ (grounds : Grounds) (explained : Explained) (same : explained ≡ expla
       → CanProveNoCloser (SecuredIn view.trust) view.rrsets view.name labels zone
   closer_there labels zone can =
       subst (λ (each : Viewed). CanProveNoCloser (SecuredIn each.trust) each.rrsets each.name labels zone) (sym viewed)
-      (no_closer_can_to (GoodIn Its) (SecuredIn grounds.trust) kept explained.rrsets explained.rrsets stays name labels zone can)
+      (no_closer_can_to (GoodIn Its) (SecuredIn its_case.trust) kept explained.rrsets explained.rrsets stays name labels zone can)
 
   pub closer_back : (labels : ℕ) (zone : Labels) → CanProveNoCloser (SecuredIn view.trust) view.rrsets view.name labels zone
       → CanProveNoCloser (GoodIn Its) explained.rrsets name labels zone
   closer_back labels zone can =
-      no_closer_can_to (SecuredIn grounds.trust) (GoodIn Its) (kept_good Its grounds.trust good) explained.rrsets explained.rrsets stays name labels zone
+      no_closer_can_to (SecuredIn its_case.trust) (GoodIn Its) (kept_good Its its_case.trust good) explained.rrsets explained.rrsets stays name labels zone
       (subst (λ (each : Viewed). CanProveNoCloser (SecuredIn each.trust) each.rrsets each.name labels zone) viewed can)
 
   pub no_closer_shown : (labels : ℕ) (zone : Labels) (shown : ShownDenial)
       → IsShownNoCloser (SecuredIn view.trust) view.rrsets view.name labels zone shown → IsShownDenial Its name shown
-  no_closer_shown labels zone shown is = (grounds.trust, good, no_closer labels zone (its_no_closer labels zone shown is))
+  no_closer_shown labels zone shown is = (its_case.trust, good, no_closer labels zone (its_no_closer labels zone shown is))
 
   pub wildcard_added : (number : SignatureNumber) (rrset : ReceivedRrset) (rrsig : Rrsig) (shown : ShownDenial) (old more mid new : List Line)
       → IsSignatureAt explained.rrsets number rrset rrsig → IsExpanded rrset.owner rrsig
@@ -121,47 +121,47 @@ module _ (grounds : Grounds) (explained : Explained) (same : explained ≡ expla
       (record { more = more; is = pushed; says = told }) denial in record {
         more = both.more;
         is = both.is;
-        says = by_wildcard rrset rrsig grounds.trust shown at expanded good (its_no_closer rrsig.labels rrsig.signer shown is) both.says;
+        says = by_wildcard rrset rrsig its_case.trust shown at expanded good (its_no_closer rrsig.labels rrsig.signer shown is) both.says;
       }
 
   -- ---- no such name
 
   its_no_name : (shown : ShownDenial) → IsShownNoName (SecuredIn view.trust) view.rrsets view.name shown
-      → IsShownNoName (SecuredIn grounds.trust) explained.rrsets name shown
+      → IsShownNoName (SecuredIn its_case.trust) explained.rrsets name shown
   its_no_name shown = subst (λ (each : Viewed). IsShownNoName (SecuredIn each.trust) each.rrsets each.name shown) viewed
 
   pub name_there : CanProveNoName (GoodIn Its) explained.rrsets name → CanProveNoName (SecuredIn view.trust) view.rrsets view.name
   name_there can =
       subst (λ (each : Viewed). CanProveNoName (SecuredIn each.trust) each.rrsets each.name) (sym viewed)
-      (no_name_can_to (GoodIn Its) (SecuredIn grounds.trust) kept explained.rrsets explained.rrsets stays name can)
+      (no_name_can_to (GoodIn Its) (SecuredIn its_case.trust) kept explained.rrsets explained.rrsets stays name can)
 
   pub no_name_shown : (shown : ShownDenial) → IsShownNoName (SecuredIn view.trust) view.rrsets view.name shown
       → IsShownDenial Its name shown
-  no_name_shown shown is = (grounds.trust, good, no_name (its_no_name shown is))
+  no_name_shown shown is = (its_case.trust, good, no_name (its_no_name shown is))
 
   pub no_name_added : (shown : ShownDenial) (old new : List Line) → IsShownNoName (SecuredIn view.trust) view.rrsets view.name shown
       → Adds (IsDenialTold Its name shown) old new → Adds (IsNoNameTold Its name) old new
   no_name_added shown old new is denial = record {
     more = denial.more;
     is = denial.is;
-    says = record { trust = grounds.trust; good = good; shown = shown; is = its_no_name shown is; told = denial.says };
+    says = record { trust = its_case.trust; good = good; shown = shown; is = its_no_name shown is; told = denial.says };
   }
 
   -- ---- no data
 
   its_no_data : (t : ℕ) (shown : ShownDenial) → IsShownNoData (SecuredIn view.trust) view.rrsets view.name t shown
-      → IsShownNoData (SecuredIn grounds.trust) explained.rrsets name t shown
+      → IsShownNoData (SecuredIn its_case.trust) explained.rrsets name t shown
   its_no_data t shown = subst (λ (each : Viewed). IsShownNoData (SecuredIn each.trust) each.rrsets each.name t shown) viewed
 
   pub data_there : (t : ℕ) → CanProveNoData (GoodIn Its) explained.rrsets name t
       → CanProveNoData (SecuredIn view.trust) view.rrsets view.name t
   data_there t can =
       subst (λ (each : Viewed). CanProveNoData (SecuredIn each.trust) each.rrsets each.name t) (sym viewed)
-      (no_data_can_to (GoodIn Its) (SecuredIn grounds.trust) kept explained.rrsets explained.rrsets stays name t can)
+      (no_data_can_to (GoodIn Its) (SecuredIn its_case.trust) kept explained.rrsets explained.rrsets stays name t can)
 
   pub no_data_shown : (t : ℕ) (shown : ShownDenial) → IsShownNoData (SecuredIn view.trust) view.rrsets view.name t shown
       → IsShownDenial Its name shown
-  no_data_shown t shown is = (grounds.trust, good, no_data t (its_no_data t shown is))
+  no_data_shown t shown is = (its_case.trust, good, no_data t (its_no_data t shown is))
 
   pub no_data_added : (t : ℕ) (shown : ShownDenial) (old new : List Line)
       → IsShownNoData (SecuredIn view.trust) view.rrsets view.name t shown
@@ -169,14 +169,14 @@ module _ (grounds : Grounds) (explained : Explained) (same : explained ≡ expla
   no_data_added t shown old new is denial = record {
     more = denial.more;
     is = denial.is;
-    says = record { trust = grounds.trust; good = good; shown = shown; is = its_no_data t shown is; told = denial.says };
+    says = record { trust = its_case.trust; good = good; shown = shown; is = its_no_data t shown is; told = denial.says };
   }
 
   -- ---- a name that may be unsigned
 
   pub cut_shown_by : (cut : ShownCut) → IsShownCut (SecuredIn view.trust) view.rrsets view.name cut → IsCutShownBy Its name cut
   cut_shown_by cut is = (
-    grounds.trust,
+    its_case.trust,
     good,
     subst (λ (each : Viewed). IsShownCut (SecuredIn each.trust) each.rrsets each.name cut) viewed is,
   )
@@ -186,42 +186,42 @@ module _ (grounds : Grounds) (explained : Explained) (same : explained ≡ expla
   cut_added t cut old new is told =
       record { more = told.more; is = told.is; says = by_cut cut (cut_shown_by cut is) told.says }
 
-  its_none : ¬ HasUnsignedCut (SecuredIn view.trust) view.rrsets view.name → ¬ HasUnsignedCut (SecuredIn grounds.trust) explained.rrsets name
+  its_none : ¬ HasUnsignedCut (SecuredIn view.trust) view.rrsets view.name → ¬ HasUnsignedCut (SecuredIn its_case.trust) explained.rrsets name
   its_none none has =
       none (subst (λ (each : Viewed). HasUnsignedCut (SecuredIn each.trust) each.rrsets each.name) (sym viewed) has)
 
   -- what may be unsigned, and not by records of the zones above it, is so by an answer from a wildcard
   pub open_there : (t : ℕ) → ¬ HasUnsignedCut (SecuredIn view.trust) view.rrsets view.name → IsUnsigned (GoodIn Its) explained.rrsets name t
-      → ((k s : ℕ) → ¬ IsOptOutWildcardSet (SecuredIn grounds.trust) grounds.capture.now.rrsets name t k s) → ⊥
+      → ((k s : ℕ) → ¬ IsOptOutWildcardSet (SecuredIn its_case.trust) its_case.rrsets name t k s) → ⊥
   open_there t none unsigned never =
-      let In : List ReceivedRrset → Type 0 = λ all. (k s : ℕ) → ¬ IsOptOutWildcardSet (SecuredIn grounds.trust) all name t k s in
-      let kept_unsigned : IsUnsigned (SecuredIn grounds.trust) explained.rrsets name t =
-      unsigned_to (GoodIn Its) (SecuredIn grounds.trust) kept explained.rrsets explained.rrsets stays name t unsigned in
-      ⊎_elim (λ (cut : HasUnsignedCut (SecuredIn grounds.trust) explained.rrsets name). its_none none cut)
-      (λ (found : (k : ℕ) × (s : ℕ) × IsOptOutWildcardSet (SecuredIn grounds.trust) explained.rrsets name t k s).
+      let In : List ReceivedRrset → Type 0 = λ all. (k s : ℕ) → ¬ IsOptOutWildcardSet (SecuredIn its_case.trust) all name t k s in
+      let kept_unsigned : IsUnsigned (SecuredIn its_case.trust) explained.rrsets name t =
+      unsigned_to (GoodIn Its) (SecuredIn its_case.trust) kept explained.rrsets explained.rrsets stays name t unsigned in
+      ⊎_elim (λ (cut : HasUnsignedCut (SecuredIn its_case.trust) explained.rrsets name). its_none none cut)
+      (λ (found : (k : ℕ) × (s : ℕ) × IsOptOutWildcardSet (SecuredIn its_case.trust) explained.rrsets name t k s).
       subst In (sym (ap (λ (each : Explained). each.rrsets) same)) never found.0 found.1 found.2) kept_unsigned
 
-  module _ (t : ℕ) (k s : ℕ) (first : IsFirstSuch (IsOptOutWildcardSet (SecuredIn grounds.trust) grounds.capture.now.rrsets name t) k s)
+  module _ (t : ℕ) (k s : ℕ) (first : IsFirstSuch (IsOptOutWildcardSet (SecuredIn its_case.trust) its_case.rrsets name t) k s)
       (rrsig : Rrsig) (is : first.such.rrsig ≡ rrsig) where
     -- the next closer name is covered with the Opt-Out flag
     pub covered_there : HasOptedOutNextCloser (SecuredIn view.trust) view.rrsets view.name rrsig.labels rrsig.signer
     covered_there =
-        let Of : Rrsig → Type 0 = λ each. HasOptedOutNextCloser (SecuredIn grounds.trust) grounds.capture.now.rrsets name each.labels each.signer in
+        let Of : Rrsig → Type 0 = λ each. HasOptedOutNextCloser (SecuredIn its_case.trust) its_case.rrsets name each.labels each.signer in
         subst (λ (each : Viewed). HasOptedOutNextCloser (SecuredIn each.trust) each.rrsets each.name rrsig.labels rrsig.signer)
         (sym is_view)
         (subst Of is first.such.such.1.1)
 
     abbrev ItsFirst : List ReceivedRrset → Type 0
-    ItsFirst all = (its : IsFirstSuch (IsOptOutWildcardSet (SecuredIn grounds.trust) all name t) k s) × (its.such.rrsig ≡ rrsig)
+    ItsFirst all = (its : IsFirstSuch (IsOptOutWildcardSet (SecuredIn its_case.trust) all name t) k s) × (its.such.rrsig ≡ rrsig)
 
     its_first : ItsFirst explained.rrsets
     its_first = subst ItsFirst (sym (ap (λ (each : Explained). each.rrsets) same)) (first, is)
 
     pub its_secured : GoodIn Its k s
-    its_secured = kept_good Its grounds.trust good k s its_first.0.such.secured
+    its_secured = kept_good Its its_case.trust good k s its_first.0.such.secured
 
     pub its_covered : (shown : ShownDenial) → IsShownOptOutCloser (SecuredIn view.trust) view.rrsets view.name rrsig.labels rrsig.signer shown
-        → IsShownOptOutCloser (SecuredIn grounds.trust) explained.rrsets name rrsig.labels rrsig.signer shown
+        → IsShownOptOutCloser (SecuredIn its_case.trust) explained.rrsets name rrsig.labels rrsig.signer shown
     its_covered shown =
         subst (λ (each : Viewed). IsShownOptOutCloser (SecuredIn each.trust) each.rrsets each.name rrsig.labels rrsig.signer shown) viewed
 
@@ -231,7 +231,7 @@ module _ (grounds : Grounds) (explained : Explained) (same : explained ≡ expla
     pub open_shown : (shown : ShownDenial) → IsShownOptOutCloser (SecuredIn view.trust) view.rrsets view.name rrsig.labels rrsig.signer shown
         → (rrsig.labels < length name) × IsShownUnsigned Its name shown case.OptOutWildcard (rightmost name (rrsig.labels + 1))
     open_shown shown covers =
-        (proper, closer_opted_out grounds.trust good rrsig.labels rrsig.signer (its_covered shown covers))
+        (proper, closer_opted_out its_case.trust good rrsig.labels rrsig.signer (its_covered shown covers))
 
     pub open_added : (shown : ShownDenial) (cut : Labels) (old mid new : List Line)
         → IsShownOptOutCloser (SecuredIn view.trust) view.rrsets view.name rrsig.labels rrsig.signer shown
@@ -240,7 +240,7 @@ module _ (grounds : Grounds) (explained : Explained) (same : explained ≡ expla
         → Adds (IsUnsignedTold Its name shown case.OptOutWildcard cut) mid new → Adds (IsUnsignedFromTold Its name t) old new
     open_added shown cut old mid new covers none at derived told =
         let Cut : Labels → Type 0 = λ each. Adds (IsUnsignedTold Its name shown case.OptOutWildcard each) mid new in
-        let Of : Rrsig → Type 0 = λ each. IsShownOptOutCloser (SecuredIn grounds.trust) explained.rrsets name each.labels each.signer shown in
+        let Of : Rrsig → Type 0 = λ each. IsShownOptOutCloser (SecuredIn its_case.trust) explained.rrsets name each.labels each.signer shown in
         let same_cut : cut ≡ rightmost name (its_first.0.such.rrsig.labels + 1) =
         at ∙ ap (λ (each : Rrsig). rightmost name (each.labels + 1)) (sym its_first.1) in
         let both = both_added (IsSignatureTold Its (signature_of k s))
@@ -248,7 +248,7 @@ module _ (grounds : Grounds) (explained : Explained) (same : explained ≡ expla
         derived (subst Cut same_cut told) in record {
           more = both.more;
           is = both.is;
-          says = by_open_wildcard grounds.trust good (its_none none) k s its_first.0 shown
+          says = by_open_wildcard its_case.trust good (its_none none) k s its_first.0 shown
               (subst Of (sym its_first.1) (its_covered shown covers)) both.says;
         }
 

@@ -2,7 +2,7 @@
 use Rattle.std.proofs.Common.{◌≡◌, ◌∙◌, ℕ, List, [], ◌++◌, ap, sym, subst}
 use Rattle.dnsv_names.specs.Name.{Labels}
 use Rattle.dnsv_verdict.specs.Verdict.{IsSettledVerdict}
-use Rattle.dnsv_verdict.specs.declared.grounds.Grounds.{Grounds}
+use Rattle.dnsv_verdict.specs.Case.{CaseContents}
 use Rattle.dnsv_verdict.specs.declared.link.Link.{Link}
 use Rattle.dnsv_verdict.specs.declared.verdict.Verdict.{Verdict}
 use Rattle.dnsv_verdict.specs.declared.verdict.Verdict.TheVariants.{SecureAnswer, SecureAlias, SecureNoName, SecureNoData, Insecure, Pending, Bogus, Indeterminate}
@@ -123,25 +123,25 @@ module _ (explained : Explained) where
         failure_is t links last verdict unproved new
         (first_said (AreBoth Failure Rest) old new empty (both_added Failure Rest old faults new failure (both_added Way End faults mid new way end)))
 
-module _ (explained : Explained) (grounds : Grounds) (same : explained ≡ explained_by grounds []) (t : ℕ) (links : List Link)
+module _ (explained : Explained) (case : CaseContents) (same : explained ≡ explained_by case []) (t : ℕ) (links : List Link)
     (last : Labels) (verdict : Verdict) (old mid new : List Line) (empty : old ≡ []) where
   abbrev Whole : Explained → Type 0
   Whole each = IsExplanation each t links last verdict new
 
   pub open_ended : ¬ IsUnproved verdict → ¬ IsSettledVerdict verdict → Adds (IsWayTold explained t links last verdict) old mid
-      → Adds (ArePlacesTold explained.rrsets) mid new → IsExplanation (explained_by grounds []) t links last verdict new
+      → Adds (ArePlacesTold explained.rrsets) mid new → IsExplanation (explained_by case []) t links last verdict new
   open_ended apart open_still way places =
       subst Whole same (whole explained t links last verdict old mid new empty apart way (places_as explained verdict mid new open_still places))
 
   pub settled_ended : IsSettledVerdict verdict → Adds (IsWayTold explained t links last verdict) old mid
-      → Adds (IsEnd explained.rrsets explained.table.moment) mid new → IsExplanation (explained_by grounds []) t links last verdict new
+      → Adds (IsEnd explained.rrsets explained.table.moment) mid new → IsExplanation (explained_by case []) t links last verdict new
   settled_ended settled way end =
       subst Whole same (whole explained t links last verdict old mid new empty (settled_apart verdict settled) way (end_as explained verdict mid new settled end))
 
   -- where nothing is proved, with what fails before
   pub failed_ended : (faults : List Line) → IsUnproved verdict → Adds (IsFailureTold (setting_in explained) last t) old faults
       → Adds (IsWayTold explained t links last verdict) faults mid → Adds (ArePlacesTold explained.rrsets) mid new
-      → IsExplanation (explained_by grounds []) t links last verdict new
+      → IsExplanation (explained_by case []) t links last verdict new
   failed_ended faults unproved failure way places =
       subst Whole same (failed_whole explained t links last verdict old faults mid new empty unproved failure way
       (places_as explained verdict mid new (λ settled. settled_apart verdict settled unproved) places))

@@ -6,9 +6,9 @@ use Rattle.dnsv_verdict.proofs.way.follow.Given as goal
 
 abbrev pub invariant-links : goal.invariant-links
 invariant-links l =
-    IsFollowed l.grounds.capture.now.rrsets l.grounds.anchors.now l.grounds.table l.rtype.0 l.name l.initial.hashed l.hashed
+    IsFollowed l.case.rrsets l.case.anchors l.case.table l.rtype.0 l.name l.initial.hashed l.hashed
     l.way.links l.way.last
-    × IsTrailOf l.grounds.capture.now.rrsets (map (λ link. link.name) l.way.links) l.initial.trail l.trail
+    × IsTrailOf l.case.rrsets (map (λ link. link.name) l.way.links) l.initial.trail l.trail
 
 -- each turn adds a link
 abbrev pub decreases-links : goal.decreases-links

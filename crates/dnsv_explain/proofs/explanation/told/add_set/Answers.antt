@@ -52,7 +52,7 @@ returns-in_default-shown_no_closer c =
     let is_rrset : IsNumbered explained.rrsets c.args.number.rrset rrset =
     in_list explained.rrsets c.rrsets.result.now c.args.number.rrset rrset c.rrsets.ensures c.in-Some.ensures in
     absurd ((rw c.to_name.ensures at c.in_default-shown_no_closer.ensures.first)
-    (closer_there c.args.at.now.grounds.now explained c.requires.at.evidence c.requires.at.trust c.in_ok-view.view c.args.at.now.name.now
+    (closer_there c.args.at.now.case.now explained c.requires.at.evidence c.requires.at.trust c.in_ok-view.view c.args.at.now.name.now
     c.in_ok-view.ensures rrsig.labels rrsig.signer
     (must_hold (setting_in explained) c.args.at.now.name.now c.args.number c.requires.secure rrset is_rrset rrsig
     (signature_at explained.rrsets c.args.number rrset c.signatures.result.now rrsig is_rrset c.signatures.ensures
@@ -60,7 +60,7 @@ returns-in_default-shown_no_closer c =
 
 pub add_denial-requires : goal.add_denial-requires
 add_denial-requires c =
-    no_closer_shown c.args.at.now.grounds.now c.args.evidence.now c.requires.at.evidence c.requires.at.trust
+    no_closer_shown c.args.at.now.case.now c.args.evidence.now c.requires.at.evidence c.requires.at.trust
     c.in_ok-view.view c.args.at.now.name.now c.in_ok-view.ensures _ _
     c.in-Some-shown_no_closer.shown c.in-Some-shown_no_closer.ensures.first
 
@@ -71,7 +71,7 @@ returns c =
     let rrsig = c.in-Some-numbered.rrsig.now in
     let test = rw c.owner.ensures at c.is_expanded.ensures in
     let Told : List Line → Type 0 = λ before. IsSignatureTold (setting_in explained) c.args.number before c.in-Some-2.more.items in
-    wildcard_added c.args.at.now.grounds.now explained c.requires.at.evidence c.requires.at.trust
+    wildcard_added c.args.at.now.case.now explained c.requires.at.evidence c.requires.at.trust
     c.in_ok-view.view c.args.at.now.name.now c.in_ok-view.ensures c.args.number rrset rrsig
     c.in-Some-shown_no_closer.shown c.args.lines.now.items c.in-Some-2.more.items _ _
     (signature_at explained.rrsets c.args.number rrset c.signatures.result.now rrsig

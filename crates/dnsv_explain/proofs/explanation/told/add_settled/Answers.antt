@@ -35,12 +35,12 @@ add_wildcard_cut-requires-clause-unsigned c =
 
 pub add_cut-requires : goal.add_cut-requires
 add_cut-requires c =
-    cut_shown_by c.args.at.now.grounds.now c.args.evidence.now c.requires.at.evidence c.requires.at.trust c.in_ok-view-in-Insecure.view c.args.at.now.name.now c.in_ok-view-in-Insecure.ensures c.in-Some.shown c.in-Some.ensures.first
+    cut_shown_by c.args.at.now.case.now c.args.evidence.now c.requires.at.evidence c.requires.at.trust c.in_ok-view-in-Insecure.view c.args.at.now.name.now c.in_ok-view-in-Insecure.ensures c.in-Some.shown c.in-Some.ensures.first
 
 pub returns-in_ok-add_cut-in-Insecure : goal.returns-in_ok-add_cut-in-Insecure
 returns-in_ok-add_cut-in-Insecure c =
     let Told : Verdict → Type 0 = λ each. Adds (IsSettledTold (setting_in c.args.evidence.now) c.args.at.now.name.now c.args.rtype.0 each)
     c.args.lines.now.items c.add_cut.new.lines.items in
     subst Told (sym c.in-Insecure.is)
-    (cut_added c.args.at.now.grounds.now c.args.evidence.now c.requires.at.evidence c.requires.at.trust c.in_ok-view-in-Insecure.view c.args.at.now.name.now c.in_ok-view-in-Insecure.ensures
+    (cut_added c.args.at.now.case.now c.args.evidence.now c.requires.at.evidence c.requires.at.trust c.in_ok-view-in-Insecure.view c.args.at.now.name.now c.in_ok-view-in-Insecure.ensures
     c.args.rtype.0 c.in-Some.shown _ _ c.in-Some.ensures.first c.in_ok-add_cut-in-Insecure.ensures)

@@ -6,12 +6,12 @@ use Rattle.dnsv_explain.proofs.explanation.verdict.add_verdict.Goals as goal
 pub add_settled-requires-clause-at : goal.add_settled-requires-clause-at
 add_settled-requires-clause-at c = record {
   trust = c.requires.trust;
-  evidence = todo_same c.args.judged.now.grounds c.args.evidence.now [] c.requires.evidence;
+  evidence = todo_same c.args.case.now c.args.evidence.now [] c.requires.evidence;
   hashes = c.requires.hashes;
 }
 
 pub add_settled-requires-clause-verdict : goal.add_settled-requires-clause-verdict
 add_settled-requires-clause-verdict c =
     let judged = c.args.judged.now in
-    settled_by judged.grounds c.args.evidence.now [] c.requires.evidence judged.report.last c.args.rtype.0 judged.report.verdict
+    settled_by case c.args.evidence.now [] c.requires.evidence judged.report.last c.args.rtype.0 judged.report.verdict
     (c.is_settled.ensures.0 c.if-is_settled.true) c.requires.verdict

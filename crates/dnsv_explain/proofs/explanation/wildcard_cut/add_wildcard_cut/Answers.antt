@@ -8,7 +8,7 @@ use Rattle.dnsv_explain.proofs.explanation.wildcard_cut.add_wildcard_cut.Goals a
 
 pub returns-in_default : goal.returns-in_default
 returns-in_default c =
-    absurd (open_there c.args.at.now.grounds.now c.args.evidence.now c.requires.at.evidence c.requires.at.trust c.args.view.now
+    absurd (open_there c.args.at.now.case.now c.args.evidence.now c.requires.at.evidence c.requires.at.trust c.args.view.now
     c.args.at.now.name.now c.requires.view c.args.rtype.0
     c.requires.none c.requires.unsigned c.in_default.ensures)
 
@@ -16,14 +16,14 @@ pub returns-in_default-shown_loose_closer : goal.returns-in_default-shown_loose_
 returns-in_default-shown_loose_closer c =
     let found = c.in-Some.found in
     absurd ((rw c.to_name.ensures at c.in_default-shown_loose_closer.ensures)
-    (covered_there c.args.at.now.grounds.now c.args.evidence.now c.requires.at.evidence c.requires.at.trust c.args.view.now
+    (covered_there c.args.at.now.case.now c.args.evidence.now c.requires.at.evidence c.requires.at.trust c.args.view.now
     c.args.at.now.name.now c.requires.view c.args.rtype.0
     found.rrset found.signature c.in-Some.ensures.0 found.rrsig.now c.in-Some.ensures.1))
 
 pub add_derivation-requires : goal.add_derivation-requires
 add_derivation-requires c =
     let found = c.in-Some.found in
-    its_secured c.args.at.now.grounds.now c.args.evidence.now c.requires.at.evidence c.requires.at.trust c.args.view.now
+    its_secured c.args.at.now.case.now c.args.evidence.now c.requires.at.evidence c.requires.at.trust c.args.view.now
     c.args.at.now.name.now c.requires.view c.args.rtype.0
     found.rrset found.signature c.in-Some.ensures.0 found.rrsig.now c.in-Some.ensures.1
 
@@ -33,7 +33,7 @@ add_unsigned-requires c =
     let shown = c.in-Some-shown_loose_closer.shown in
     let At : Labels → Type 0 = λ at. IsShownUnsigned (setting_in c.args.evidence.now) c.args.at.now.name.now shown case.OptOutWildcard at in
     let is =
-    open_shown c.args.at.now.grounds.now c.args.evidence.now c.requires.at.evidence c.requires.at.trust c.args.view.now
+    open_shown c.args.at.now.case.now c.args.evidence.now c.requires.at.evidence c.requires.at.trust c.args.view.now
     c.args.at.now.name.now c.requires.view c.args.rtype.0
     found.rrset found.signature c.in-Some.ensures.0 found.rrsig.now c.in-Some.ensures.1 shown (rw c.to_name.ensures at c.in-Some-shown_loose_closer.ensures) in
     subst At (sym (c.of-cut.ensures.value is.0)) is.1
@@ -43,10 +43,10 @@ returns c =
     let found = c.in-Some.found in
     let shown = c.in-Some-shown_loose_closer.shown in
     let is =
-    open_shown c.args.at.now.grounds.now c.args.evidence.now c.requires.at.evidence c.requires.at.trust c.args.view.now
+    open_shown c.args.at.now.case.now c.args.evidence.now c.requires.at.evidence c.requires.at.trust c.args.view.now
     c.args.at.now.name.now c.requires.view c.args.rtype.0
     found.rrset found.signature c.in-Some.ensures.0 found.rrsig.now c.in-Some.ensures.1 shown (rw c.to_name.ensures at c.in-Some-shown_loose_closer.ensures) in
-    open_added c.args.at.now.grounds.now c.args.evidence.now c.requires.at.evidence c.requires.at.trust c.args.view.now
+    open_added c.args.at.now.case.now c.args.evidence.now c.requires.at.evidence c.requires.at.trust c.args.view.now
     c.args.at.now.name.now c.requires.view c.args.rtype.0
     found.rrset found.signature c.in-Some.ensures.0 found.rrsig.now c.in-Some.ensures.1 shown c.of-cut.result c.args.lines.now.items _ _
     (rw c.to_name.ensures at c.in-Some-shown_loose_closer.ensures) c.requires.none (c.of-cut.ensures.value is.0) c.in_ok-add_derivation.ensures

@@ -35,14 +35,14 @@ pub returns : goal.returns
 returns c =
     let setting = setting_in c.args.evidence.now in
     let name = c.args.at.now.name.now in
-    let trust = c.args.at.now.grounds.now.trust in
+    let trust = c.args.at.now.case.now.trust in
     let zone = c.suffix-name.result in
     let speaker = rightmost name c.args.speaker in
     let good = its_trust c.args.evidence.now c.args.at.now c.requires.at in
     let kept = c.of_zone-records.result.now in
     let Records : List ReceivedRrset → Type 0 = λ each. AreSecuredRecords (KeptIn trust) each zone kept in
     let are = subst Records (sym (ap (λ (each : Explained). each.rrsets) c.requires.at.evidence))
-    (c.of_zone-records.ensures trust c.args.at.now.grounds.now.capture.now.rrsets c.requires.at.trust.1) in
+    (c.of_zone-records.ensures trust c.args.at.now.case.now.rrsets c.denials.ensures) in
     let Good : List NsecEntry → Type 0 = λ each. AreNsecsOf (SecuredIn setting) setting.rrsets zone each in
     let Good3 : List Nsec3Entry → Type 0 = λ each. AreNsec3sOf (SecuredIn setting) setting.rrsets zone each in
     let nsecs = subst Good (sym c.deref.ensures.value)

@@ -145,8 +145,8 @@ module _ (explained : Explained) (at : At) (is : IsAt explained at) where
   abbrev Its : Setting
   Its = setting_in explained
 
-  pub its_trust : IsTrustIn Its at.grounds.now.trust
-  its_trust = subst (λ (each : Explained). IsTrustIn (setting_in each) at.grounds.now.trust) (sym is.evidence) is.trust.0
+  pub its_trust : IsTrustIn Its at.case.now.trust
+  its_trust = subst (λ (each : Explained). IsTrustIn (setting_in each) at.case.now.trust) (sym is.evidence) is.trust
 
   -- the hashes are of the same evidence
   pub its_rrsets : at.hashes.now.rrsets ≡ explained.rrsets

@@ -19,7 +19,7 @@ returns-then-not-is_expanded c =
 
 pub returns : goal.returns
 returns c =
-    let grounds = c.args.at.now.grounds.now in
+    let case = c.args.at.now.case.now in
     let evidence = c.args.evidence.now in
     let view = c.args.view.now in
     let name = c.args.at.now.name.now in
@@ -29,8 +29,8 @@ returns c =
     (CanProveNoCloser (KeptIn view.trust) view.rrsets view.name rrsig.labels rrsig.signer)
     (CanProveNoCloser (SecuredIn (setting_in evidence)) evidence.rrsets name rrsig.labels rrsig.signer)
     (IsFirstNoCloser (KeptIn view.trust) view.rrsets view.name rrsig.labels rrsig.signer)
-    (closer_there grounds evidence c.requires.at.evidence c.requires.at.trust view name c.requires.view rrsig.labels rrsig.signer)
-    (closer_back grounds evidence c.requires.at.evidence c.requires.at.trust view name c.requires.view rrsig.labels rrsig.signer)
+    (closer_there case evidence c.requires.at.evidence c.requires.at.trust view name c.requires.view rrsig.labels rrsig.signer)
+    (closer_back case evidence c.requires.at.evidence c.requires.at.trust view name c.requires.view rrsig.labels rrsig.signer)
     (λ proof found. (found.chain, found.stands)) (rw c.to_name.ensures at c.no_closer.ensures.first) c.is_none.ensures in (
       λ yes. record {
         expanded = subst Expanded c.owner.ensures (c.is_expanded.ensures.0 c.if-not-is_expanded.false);

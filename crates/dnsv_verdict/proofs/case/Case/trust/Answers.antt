@@ -1,0 +1,6 @@
+use Rattle.std.proofs.Common.{subst}
+use Rattle.dnsv_verdict.specs.Case.{CaseContents, HasTrust}
+use Rattle.dnsv_verdict.proofs.case.Case.trust.Goals as goal
+
+pub returns-clause-of : goal.returns-clause-of
+returns-clause-of c = subst (λ (case : CaseContents). HasTrust case) c.self.view_is c.self.invariant.0

@@ -1,0 +1,180 @@
+//! A case: what any number of questions are judged by.
+
+mod judging;
+
+ghost use Rattle.std.specs.Prelude.{◌≡◌, ℕ, IfOk, length};
+ghost use Rattle.dnsv_names.specs.Count.{counted};
+ghost use Rattle.dnsv_chain.specs.Trust.{SecuredIn};
+ghost use Rattle.dnsv_denial.specs.gathering.ByZone.{AreDenialRecords};
+ghost use Rattle.dnsv_verdict.specs.Case.{HasTrust, IsCaseOf, IsCaseWith};
+ghost use Rattle.dnsv_verdict.specs.Verdict.{basis_of};
+ghost use Rattle.dnsv_verifier.specs.Asked.{IsNumberAsked};
+ghost use Rattle.dnsv_verifier.specs.Table.{IsTableOf};
+ghost use Rattle.dnsv_verifier.specs.declared.answer.Answer.{Answer};
+ghost use Rattle.dnsv_verifier.specs.declared.entry.Entry.{Entry};
+
+use bumpalo::Bump;
+use dnsv_canonical::Capture;
+use dnsv_chain::{Anchors, Trust, trusted};
+use dnsv_denial::DenialRecords;
+use dnsv_names::Count;
+use dnsv_verifier::{Table, Verifier, ask_all};
+use std::alloc::{AllocError, Global};
+use std::marker::Model;
+
+/// What questions are judged by: the evidence, the trust anchors, what a verifier says at a moment, and the trust that
+/// these give. Any number of questions can be judged by one case, in any order and each as often as one likes: nothing
+/// is asked of the verifier again, and no question changes the case.
+#[derive(Drop)]
+pub struct Case<'a> {
+    capture: &'a Capture<'a>,
+    anchors: &'a Anchors<'a>,
+    table: Table<'a>,
+    trust: Trust<'a>,
+    /// The records of denials that zones secured by the trust, gathered once for all names that are asked.
+    denials: DenialRecords<'a>,
+    /// How many entries the verifier was asked.
+    asked: u64,
+}
+
+impl<'a> Model for Case<'a> {
+    ghost use Rattle.std.specs.Prelude.{◌≡◌, length};
+    ghost use Rattle.dnsv_chain.specs.Trust.{SecuredIn};
+    ghost use Rattle.dnsv_denial.specs.gathering.ByZone.{AreDenialRecords};
+    ghost use Rattle.dnsv_verdict.specs.Case.{CaseContents, HasTrust};
+
+    ghost Value = { CaseContents };
+
+    ghost view = { λ case. record {
+      rrsets = case.capture.now.rrsets;
+      anchors = case.anchors.now;
+      table = case.table;
+      trust = case.trust;
+    } };
+
+    ghost invariant = { λ case. HasTrust (record {
+      rrsets = case.capture.now.rrsets;
+      anchors = case.anchors.now;
+      table = case.table;
+      trust = case.trust;
+    }) × AreDenialRecords (SecuredIn case.trust) case.capture.now.rrsets case.denials
+        × (case.asked ≡ length case.table.answers) };
+}
+
+impl<'a> Case<'a> {
+    /// The case of a capture and trust anchors at a moment, in seconds since 1970, under what the verifier says. It is
+    /// asked here, once for each distinct entry that may be verified at the moment, and never again. What it is asked
+    /// lies in the arena.
+    pub fn new<V: Verifier>(
+        alloc: Global,
+        bump: &'a Bump,
+        capture: &'a Capture<'a>,
+        anchors: &'a Anchors<'a>,
+        moment: u64,
+        verifier: &V,
+    ) -> Result<Case<'a>, AllocError>
+        ensures of { IfOk result (IsCaseOf (basis_of capture.now.rrsets anchors.now moment (V.meaning verifier.now))) }
+        ensures asked { IfOk result (λ case. IsNumberAsked moment capture.now.rrsets (length case.table.answers)) }
+    {
+        let mut asked = Count::new();
+        let table = ask_all(alloc, bump, capture, moment, verifier, &mut asked)?;
+        let asked = exact(&asked, &table);
+        let case = with_trust(alloc, capture, anchors, table, asked)?;
+        Ok(case)
+    }
+
+    /// The case of a capture and trust anchors with a table, which says what a verifier says of the capture at a moment.
+    /// Nobody is asked.
+    pub fn of(
+        alloc: Global,
+        capture: &'a Capture<'a>,
+        anchors: &'a Anchors<'a>,
+        table: Table<'a>,
+    ) -> Result<Case<'a>, AllocError>
+        ensures of { IfOk result (IsCaseWith capture.now.rrsets anchors.now table.entry) }
+        // Whoever the table is of, it is that verifier's case.
+        ensures basis { (meaning : Entry → Answer) (moment : ℕ)
+            → IsTableOf meaning moment capture.now.rrsets table.entry
+            → IfOk result (IsCaseOf (basis_of capture.now.rrsets anchors.now moment meaning)) }
+    {
+        let asked = table.len() as u64;
+        let case = with_trust(alloc, capture, anchors, table, asked)?;
+        Ok(case)
+    }
+
+    /// The evidence.
+    pub fn capture(&self) -> &'a Capture<'a>
+        ensures { result.now.rrsets ≡ self.now.rrsets }
+    {
+        self.capture
+    }
+
+    /// The trust anchors.
+    pub fn anchors(&self) -> &'a Anchors<'a>
+        ensures { result.now ≡ self.now.anchors }
+    {
+        self.anchors
+    }
+
+    /// What the verifier says, and at which moment.
+    pub fn table(&self) -> &Table<'a>
+        ensures { result.now ≡ self.now.table }
+    {
+        &self.table
+    }
+
+    /// What the evidence, the anchors and the table make trusted.
+    pub fn trust(&self) -> &Trust<'a>
+        ensures value { result.now ≡ self.now.trust }
+        ensures of { HasTrust self.now }
+    {
+        &self.trust
+    }
+
+    /// The records of denials that zones secured by the trust.
+    pub fn denials(&self) -> &DenialRecords<'a>
+        ensures { AreDenialRecords (SecuredIn self.now.trust) self.now.rrsets result.now }
+    {
+        &self.denials
+    }
+
+    /// How many entries the verifier was asked, each once: those of the table.
+    pub fn asked(&self) -> u64
+        ensures { result ≡ length self.now.table.answers }
+    {
+        self.asked
+    }
+}
+
+/// The case with the trust that the evidence, the anchors and the table give.
+fn with_trust<'a>(
+    alloc: Global,
+    capture: &'a Capture<'a>,
+    anchors: &'a Anchors<'a>,
+    table: Table<'a>,
+    asked: u64,
+) -> Result<Case<'a>, AllocError>
+    requires { asked ≡ length table.answers }
+    ensures { IfOk result (IsCaseWith capture.now.rrsets anchors.now table.entry) }
+{
+    let trust = trusted(alloc, capture, anchors, &table)?;
+    let denials = DenialRecords::of(alloc, capture, &trust)?;
+    Ok(Case {
+        capture,
+        anchors,
+        table,
+        trust,
+        denials,
+        asked,
+    })
+}
+
+/// The count of a table's entries: they lie in memory, so their number is below the greatest value of a count.
+fn exact(asked: &Count, table: &Table<'_>) -> u64
+    requires { asked.now ≡ counted 0 (length table.now.answers) }
+    ensures { result ≡ length table.now.answers }
+{
+    // What is true of every table.
+    let _entries = table.len();
+    asked.value()
+}
