@@ -11,7 +11,8 @@ BEGINS = re.compile(r"\bCount(?:>|\s+as\s+Default>)?::(?:new|default)\b|\bDefaul
 # Where counts are begun, how many, and why.
 NAMED = {
     "dnsv_names/src/count.rt": 1,  # the default of a count
-    "dnsv_verdict/src/report.rt": 2,  # the two numbers that a report tells
+    "dnsv_verdict/src/case.rt": 1,  # how much the verifier was asked for a case
+    "dnsv_verdict/src/case/judging.rt": 1,  # the digests that a report tells
     "dnsv_program/src/texts/todo.rt": 1,  # `list` asks a verifier, and prints no number
 }
 
