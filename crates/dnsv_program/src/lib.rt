@@ -12,6 +12,7 @@ pub use laws::{
 pub use machine::{Host, Machine};
 pub use program::{exit_status, exit_status_on};
 pub use status::{Fault, InputFile, Place, Refusal, Status};
+pub use texts::format::Format;
 pub use work::{Inputs, run};
 
 mod command_line;

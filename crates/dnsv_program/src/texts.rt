@@ -2,6 +2,7 @@
 
 pub mod checking;
 pub mod explaining;
+pub mod format;
 pub mod hex_text;
 pub mod json;
 pub mod listing;

@@ -23,6 +23,7 @@ use crate::files::text::text_in;
 use crate::opening::{Opening, opening_in};
 use crate::status::{Fault, InputFile, Status};
 use crate::texts::checking::{Outcome, judge};
+use crate::texts::format::Format;
 use crate::texts::listing::listing;
 use crate::texts::showing::showing;
 use crate::texts::todo::still_to_check;
@@ -116,19 +117,19 @@ fn outcome_of<R: Read>(
         Request::List {
             all,
             moment,
-            json,
+            format,
             ..
-        } => Ok(done(list(alloc, *all, *json, *moment, inputs, bump)?)),
+        } => Ok(done(list(alloc, *all, *format, *moment, inputs, bump)?)),
         Request::Check {
             name,
             rtype,
             moment,
-            json,
+            format,
             why,
             ..
         } => check(
             alloc,
-            *json,
+            *format,
             *why,
             name.as_bytes(),
             *rtype,
@@ -166,13 +167,13 @@ fn show<R: Read>(alloc: Global, inputs: &mut Inputs<R>, bump: &Bump) -> Result<S
 fn list<R: Read>(
     alloc: Global,
     all: bool,
-    json: bool,
+    format: Format,
     moment: Moment,
     inputs: &mut Inputs<R>,
     bump: &Bump,
 ) -> Result<String, Fault>
     ensures text { (files : Files) → AreTold R.remaining inputs.old files
-        → IfOk result (λ text. IsListed all json moment files (string_bytes text)) }
+        → IfOk result (λ text. IsListed all format moment files (string_bytes text)) }
     ensures faults { TellsFaults (IsFirstFaultOfList all) R.remaining inputs.old inputs.new result }
     ensures reached { (files : Files) → AreTold R.remaining inputs.old files
         → IfErr result (OfFailedRead (IsReachedByList all files)) }
@@ -180,16 +181,16 @@ fn list<R: Read>(
 {
     let held = evidence_in(alloc, &Opening::Plain, &mut inputs.capture, bump)?;
     if all {
-        return Ok(listing(alloc, json, moment, &held)?);
+        return Ok(listing(alloc, format, moment, &held)?);
     }
     let statements: Statements = text_in(alloc, InputFile::Statements, &mut inputs.statements)?;
-    Ok(still_to_check(alloc, bump, json, &held, moment, &statements)?)
+    Ok(still_to_check(alloc, bump, format, &held, moment, &statements)?)
 }
 
 /// The verdict on the question, if it is one that can be asked, and why it stands, where that is asked for.
 fn check<R: Read>(
     alloc: Global,
-    json: bool,
+    format: Format,
     why: bool,
     asked: &[u8],
     rtype: RecordType,
@@ -198,7 +199,7 @@ fn check<R: Read>(
     bump: &Bump,
 ) -> Result<Outcome, Fault>
     ensures text { (files : Files) → AreTold R.remaining inputs.old files → IfOk result (λ outcome.
-        IsAnswered json why asked.now rtype.0 moment files outcome.status (string_bytes outcome.text)) }
+        IsAnswered format why asked.now rtype.0 moment files outcome.status (string_bytes outcome.text)) }
     ensures faults { TellsFaults (IsFirstFaultOfCheck asked.now rtype.0 moment) R.remaining inputs.old inputs.new
         result }
     ensures question { (fault : Fault) → IsFaultOfQuestion asked.now rtype.0 fault → result ≡ Err fault }
@@ -207,13 +208,13 @@ fn check<R: Read>(
     ensures unwritten { IfErr result (λ fault. fault ≡ Fault.WriteFailed → ⊥) }
 {
     let name = question_name(asked, rtype)?;
-    check_question(alloc, json, why, &name, rtype, moment, inputs, bump)
+    check_question(alloc, format, why, &name, rtype, moment, inputs, bump)
 }
 
 /// The verdict on the question, and why it stands, where that is asked for.
 fn check_question<R: Read>(
     alloc: Global,
-    json: bool,
+    format: Format,
     why: bool,
     name: &Name,
     rtype: RecordType,
@@ -223,7 +224,7 @@ fn check_question<R: Read>(
 ) -> Result<Outcome, Fault>
     requires { IsQuestion name.now rtype.0 }
     ensures text { (files : Files) → AreTold R.remaining inputs.old files → IfOk result (λ outcome.
-        IsCheck json why name.now rtype.0 moment files outcome.status (string_bytes outcome.text)) }
+        IsCheck format why name.now rtype.0 moment files outcome.status (string_bytes outcome.text)) }
     ensures faults { TellsFaults (IsFirstFaultOfName name.now rtype.0 moment) R.remaining inputs.old inputs.new
         result }
     ensures reached { (files : Files) → AreTold R.remaining inputs.old files
@@ -237,7 +238,7 @@ fn check_question<R: Read>(
     judge(
         alloc,
         bump,
-        json,
+        format,
         why,
         &held,
         &anchors,

@@ -1,5 +1,5 @@
 -- The check of a question over files that were all taken.
-use Rattle.std.proofs.Common.{◌≡◌, ℕ, Bool, true, false, List, Option, Some, refl, subst, string_bytes}
+use Rattle.std.proofs.Common.{◌≡◌, ℕ, Bool, false, List, Option, Some, refl, subst, string_bytes}
 use Rattle.std.specs.Prelude.{Result, Ok, Err, IfOk, IfSome}
 use Rattle.dnsv_names.specs.Name.{Labels}
 use Rattle.dnsv_message.specs.Message.{Contents}
@@ -23,17 +23,19 @@ use Rattle.dnsv_program.specs.Files.{Files, octets_or_none}
 use Rattle.dnsv_program.specs.Files.Statements.{IsMeaningOf}
 use Rattle.dnsv_lines.specs.Json.{parted}
 use Rattle.dnsv_program.specs.declared.texts.checking.Outcome.{Outcome}
+use Rattle.dnsv_program.specs.declared.texts.format.Format.{Format}
+use Rattle.dnsv_program.specs.declared.texts.format.Format.TheVariants.{Json}
 use Rattle.dnsv_program.specs.declared.status.Fault.{Fault}
 use Rattle.dnsv_program.proofs.FileLemmas.Faults.{of_told}
 
 -- the outcome is that of the verdict on this evidence
-abbrev pub IsOutcome : Bool → Bool → List Anchor → ℕ → (Entry → Answer) → Labels → ℕ → Outcome → Evidence → Type 0
-IsOutcome json why anchors moment meaning name rtype outcome held =
+abbrev pub IsOutcome : Format → Bool → List Anchor → ℕ → (Entry → Answer) → Labels → ℕ → Outcome → Evidence → Type 0
+IsOutcome format why anchors moment meaning name rtype outcome held =
     (report : Report) × (told : Option (List Line))
     × IsVerdictOf (basis_of held.rrsets anchors moment meaning) name rtype report.links report.last report.verdict
     × IsWhy why (basis_of held.rrsets anchors moment meaning) rtype report told
     × (outcome.status ≡ verdict_status report.verdict)
-    × (string_bytes outcome.text ≡ check_text json name rtype moment held.rrsets report.links report.verdict told)
+    × (string_bytes outcome.text ≡ check_text format name rtype moment held.rrsets report.links report.verdict told)
 
 -- the files are in order whose parts were all taken
 abbrev pub all_in_order : (moment : ℕ) (files : Files) (opening : Opening) → IsOpeningOf files.keys files.macs moment opening → (anchors : List Anchor)
@@ -50,16 +52,16 @@ all_in_order moment files opening opens anchors meaning messages holds trusted s
   said = said;
 }
 
-module _ (json why : Bool) (name : Labels) (rtype moment : ℕ) (files : Files) (opening : Opening) (opens : IsOpeningOf files.keys files.macs moment opening) (held : Evidence) (anchors : List Anchor) (meaning : Entry → Answer) where
+module _ (format : Format) (why : Bool) (name : Labels) (rtype moment : ℕ) (files : Files) (opening : Opening) (opens : IsOpeningOf files.keys files.macs moment opening) (held : Evidence) (anchors : List Anchor) (meaning : Entry → Answer) where
   pub all_checked : (result : Result Outcome Fault) {octets : Option (List ℕ)} → octets ≡ Some files.capture
       → IfSome octets (λ file. (messages : List Contents) × Holds NewEvidence opening file messages × (held ≡ evidence_of messages))
       → HasAnchors (octets_or_none files.anchors) anchors → IsMeaningOf (octets_or_none files.statements) meaning
-      → IfOk result (λ outcome. IsOutcome json why anchors moment meaning name rtype outcome held)
-      → IfOk result (λ outcome. IsCheck json why name rtype moment files outcome.status (string_bytes outcome.text))
+      → IfOk result (λ outcome. IsOutcome format why anchors moment meaning name rtype outcome held)
+      → IfOk result (λ outcome. IsCheck format why name rtype moment files outcome.status (string_bytes outcome.text))
   all_checked (Err told) is taken trusted said judged = tt
   all_checked (Ok outcome) is taken trusted said judged =
       let evidence = of_told (λ file. (messages : List Contents) × Holds NewEvidence opening file messages × (held ≡ evidence_of messages)) is taken in
-      let outcome_is = subst (IsOutcome json why anchors moment meaning name rtype outcome) evidence.2 judged in record {
+      let outcome_is = subst (IsOutcome format why anchors moment meaning name rtype outcome) evidence.2 judged in record {
         given = all_in_order moment files opening opens anchors meaning evidence.0 evidence.1 trusted said;
         report = outcome_is.0;
         told = outcome_is.1;
@@ -70,7 +72,7 @@ module _ (json why : Bool) (name : Labels) (rtype moment : ℕ) (files : Files) 
       }
 
 -- what is added in JSON for what carries the verdict are the members for it, behind others
-pub members_are : (rrsets : List ReceivedRrset) (verdict : Verdict) → reason_text true rrsets verdict ≡ parted false (reason_members rrsets verdict)
+pub members_are : (rrsets : List ReceivedRrset) (verdict : Verdict) → reason_text Json rrsets verdict ≡ parted false (reason_members rrsets verdict)
 members_are rrsets (verdict.SecureAnswer k s) = refl
 members_are rrsets (verdict.SecureAlias k s) = refl
 members_are rrsets (verdict.SecureNoName proof) = refl

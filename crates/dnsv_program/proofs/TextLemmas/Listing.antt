@@ -1,5 +1,5 @@
 -- What is listed, RRset by RRset and signature by signature.
-use Rattle.std.proofs.Common.{◌≡◌, ℕ, zero, suc, Bool, true, false, Option, ◌+◌, ◌<◌, ◌≤◌, List, [], ◌∷◌, ◌++◌, length, get_or, drop, map, refl, sym, ap, subst, ◌∙◌, arith, append_assoc}
+use Rattle.std.proofs.Common.{◌≡◌, ℕ, zero, suc, Bool, false, Option, ◌+◌, ◌<◌, ◌≤◌, List, [], ◌∷◌, ◌++◌, length, get_or, drop, map, refl, sym, ap, subst, ◌∙◌, arith, append_assoc}
 use Rattle.std.proofs.lemmas.List.{drop_more, drop_all, append-nil, map-append}
 use Rattle.std.proofs.lemmas.List.Concat.{flat_map-append}
 use Rattle.std.specs.List.{AllZip}
@@ -8,6 +8,8 @@ use Rattle.dnsv_records.specs.Rrsig.{IsRrsig}
 use Rattle.dnsv_canonical.specs.Rrsets.{ReceivedRrset}
 use Rattle.dnsv_canonical.specs.SignedData.{IsSignedData}
 use Rattle.dnsv_lines.specs.Json.{parted, still_first}
+use Rattle.dnsv_program.specs.declared.texts.format.Format.{Format}
+use Rattle.dnsv_program.specs.declared.texts.format.Format.TheVariants.{Json, Lines}
 use Rattle.dnsv_program.specs.Texts.Listing.{ListsRrsets, ListsSignatures, SignedOctets, data_json, data_line, listed_part}
 use Rattle.dnsv_lines.proofs.JsonLemmas.{parted-append, still_first-append}
 
@@ -17,52 +19,52 @@ same_first : {X Y : Type 0} (f : X → Y) (first : Bool) (xs : List X) → still
 same_first f first [] = refl
 same_first f first (x ∷ xs) = refl
 
-listed_part-append : (json first : Bool) (xs ys : List SignedOctets)
-    → listed_part json first (xs ++ ys) ≡ listed_part json first xs ++ listed_part json (still_first first xs) ys
-listed_part-append false first xs ys = flat_map-append data_line xs ys
-listed_part-append true first xs ys =
+listed_part-append : (format : Format) (first : Bool) (xs ys : List SignedOctets)
+    → listed_part format first (xs ++ ys) ≡ listed_part format first xs ++ listed_part format (still_first first xs) ys
+listed_part-append Lines first xs ys = flat_map-append data_line xs ys
+listed_part-append Json first xs ys =
     ap (parted first) (map-append data_json xs ys) ∙ parted-append first (map data_json xs) (map data_json ys)
     ∙ ap (λ b. parted first (map data_json xs) ++ parted b (map data_json ys)) (same_first data_json first xs)
 
 -- the text of this list was added, and what follows is the first, or isn't
-pub record Adds (json start : Bool) (before : List ℕ) (listed : List SignedOctets) (first : Bool) (now : List ℕ) : Type 0 where
-  pub text : now ≡ before ++ listed_part json start listed
+pub record Adds (format : Format) (start : Bool) (before : List ℕ) (listed : List SignedOctets) (first : Bool) (now : List ℕ) : Type 0 where
+  pub text : now ≡ before ++ listed_part format start listed
   pub still : first ≡ still_first start listed
 
-Adds-none : (json start : Bool) (before : List ℕ) → Adds json start before [] start before
-Adds-none false start before = record { text = sym (append-nil before); still = refl }
-Adds-none true start before = record { text = sym (append-nil before); still = refl }
+Adds-none : (format : Format) (start : Bool) (before : List ℕ) → Adds format start before [] start before
+Adds-none Lines start before = record { text = sym (append-nil before); still = refl }
+Adds-none Json start before = record { text = sym (append-nil before); still = refl }
 
-Adds-more : {json start : Bool} {before : List ℕ} {listed : List SignedOctets} {first : Bool} {now : List ℕ} → Adds json start before listed first now
-    → (others : List SignedOctets) (firstly : Bool) (after : List ℕ) → after ≡ now ++ listed_part json first others → firstly ≡ still_first first others
-    → Adds json start before (listed ++ others) firstly after
-Adds-more {json} {start} {before} {listed} {first} {now} adds others firstly after line is = record {
-  text = line ∙ ap (λ xs. xs ++ listed_part json first others) adds.text
-      ∙ append_assoc before (listed_part json start listed) (listed_part json first others)
-      ∙ ap (λ b. before ++ (listed_part json start listed ++ listed_part json b others)) adds.still
-      ∙ ap (λ t. before ++ t) (sym (listed_part-append json start listed others));
+Adds-more : {format : Format} {start : Bool} {before : List ℕ} {listed : List SignedOctets} {first : Bool} {now : List ℕ} → Adds format start before listed first now
+    → (others : List SignedOctets) (firstly : Bool) (after : List ℕ) → after ≡ now ++ listed_part format first others → firstly ≡ still_first first others
+    → Adds format start before (listed ++ others) firstly after
+Adds-more {format} {start} {before} {listed} {first} {now} adds others firstly after line is = record {
+  text = line ∙ ap (λ xs. xs ++ listed_part format first others) adds.text
+      ∙ append_assoc before (listed_part format start listed) (listed_part format first others)
+      ∙ ap (λ b. before ++ (listed_part format start listed ++ listed_part format b others)) adds.still
+      ∙ ap (λ t. before ++ t) (sym (listed_part-append format start listed others));
   still = is ∙ ap (λ b. still_first b others) adds.still ∙ sym (still_first-append start listed others);
 }
 
 -- ---- the signatures of an RRset
 
 -- the signatures before the place are listed, and the rest of the list may follow
-pub record Listed (json : Bool) (number : ℕ) (rrset : ReceivedRrset) (signatures : List (List ℕ)) (done : ℕ) (start : Bool) (before : List ℕ) (first : Bool) (now : List ℕ) : Type 0 where
+pub record Listed (format : Format) (number : ℕ) (rrset : ReceivedRrset) (signatures : List (List ℕ)) (done : ℕ) (start : Bool) (before : List ℕ) (first : Bool) (now : List ℕ) : Type 0 where
   pub listed : List SignedOctets
-  pub adds : Adds json start before listed first now
+  pub adds : Adds format start before listed first now
   pub lists : (rest : List SignedOctets) → ListsSignatures number rrset (done + 1) (drop done signatures) rest → ListsSignatures number rrset 1 signatures (listed ++ rest)
 
-pub Listed-start : (json : Bool) (number : ℕ) (rrset : ReceivedRrset) (signatures : List (List ℕ)) (start : Bool) (before : List ℕ)
-    → Listed json number rrset signatures 0 start before start before
-Listed-start json number rrset signatures start before = record { listed = []; adds = Adds-none json start before; lists = λ rest lists. lists }
+pub Listed-start : (format : Format) (number : ℕ) (rrset : ReceivedRrset) (signatures : List (List ℕ)) (start : Bool) (before : List ℕ)
+    → Listed format number rrset signatures 0 start before start before
+Listed-start format number rrset signatures start before = record { listed = []; adds = Adds-none format start before; lists = λ rest lists. lists }
 
-pub Listed-next : {json : Bool} {number : ℕ} {rrset : ReceivedRrset} {signatures : List (List ℕ)} {done : ℕ} {start : Bool} {before : List ℕ} {first : Bool} {now : List ℕ}
-    → Listed json number rrset signatures done start before first now
+pub Listed-next : {format : Format} {number : ℕ} {rrset : ReceivedRrset} {signatures : List (List ℕ)} {done : ℕ} {start : Bool} {before : List ℕ} {first : Bool} {now : List ℕ}
+    → Listed format number rrset signatures done start before first now
     → (rdata : List ℕ) (rrsig : Rrsig) (octets : Option (List ℕ)) (firstly : Bool) (after : List ℕ) → done < length signatures → get_or signatures done [] ≡ rdata → IsRrsig rdata rrsig
     → IsSignedData rrset.owner rrset.rtype rrset.rdata rrsig octets
-    → after ≡ now ++ listed_part json first (record { rrset = number; signature = done + 1; octets = octets } ∷ []) → firstly ≡ false
-    → Listed json number rrset signatures (done + 1) start before firstly after
-Listed-next {json} {number} {rrset} {signatures} {done} {start} {before} {first} {now} so_far rdata rrsig octets firstly after within here is signs line no_more =
+    → after ≡ now ++ listed_part format first (record { rrset = number; signature = done + 1; octets = octets } ∷ []) → firstly ≡ false
+    → Listed format number rrset signatures (done + 1) start before firstly after
+Listed-next {format} {number} {rrset} {signatures} {done} {start} {before} {first} {now} so_far rdata rrsig octets firstly after within here is signs line no_more =
     let signed : SignedOctets = record { rrset = number; signature = done + 1; octets = octets } in
     record {
       listed = so_far.listed ++ signed ∷ [];
@@ -75,11 +77,11 @@ Listed-next {json} {number} {rrset} {signatures} {done} {start} {before} {first}
           (rrsig, octets, rest, is, signs, subst (λ n. ListsSignatures number rrset n (drop (done + 1) signatures) rest) (omega arith) lists, refl)));
     }
 
-pub Listed-all : {json : Bool} {number : ℕ} {rrset : ReceivedRrset} {signatures : List (List ℕ)} {done : ℕ} {start : Bool} {before : List ℕ} {first : Bool} {now : List ℕ}
-    → Listed json number rrset signatures done start before first now → length signatures ≤ done
+pub Listed-all : {format : Format} {number : ℕ} {rrset : ReceivedRrset} {signatures : List (List ℕ)} {done : ℕ} {start : Bool} {before : List ℕ} {first : Bool} {now : List ℕ}
+    → Listed format number rrset signatures done start before first now → length signatures ≤ done
     → (listed : List SignedOctets) × ListsSignatures number rrset 1 signatures listed
-    × (now ≡ before ++ listed_part json start listed) × (first ≡ still_first start listed)
-Listed-all {json} {number} {rrset} {signatures} {done} {start} {before} {first} {now} so_far all = (
+    × (now ≡ before ++ listed_part format start listed) × (first ≡ still_first start listed)
+Listed-all {format} {number} {rrset} {signatures} {done} {start} {before} {first} {now} so_far all = (
   so_far.listed,
   subst (λ xs. ListsSignatures number rrset 1 signatures xs) (append-nil so_far.listed)
       (so_far.lists [] (subst (λ xs. ListsSignatures number rrset (done + 1) xs []) (sym (drop_all done signatures all)) refl)),
@@ -90,20 +92,20 @@ Listed-all {json} {number} {rrset} {signatures} {done} {start} {before} {first} 
 -- ---- the RRsets
 
 -- the signatures of the RRsets before the place are listed, and the rest of the list may follow
-pub record Shown (json : Bool) (rrsets : List ReceivedRrset) (done : ℕ) (start : Bool) (before : List ℕ) (first : Bool) (now : List ℕ) : Type 0 where
+pub record Shown (format : Format) (rrsets : List ReceivedRrset) (done : ℕ) (start : Bool) (before : List ℕ) (first : Bool) (now : List ℕ) : Type 0 where
   pub listed : List SignedOctets
-  pub adds : Adds json start before listed first now
+  pub adds : Adds format start before listed first now
   pub lists : (rest : List SignedOctets) → ListsRrsets (done + 1) (drop done rrsets) rest → ListsRrsets 1 rrsets (listed ++ rest)
 
-pub Shown-start : (json : Bool) (rrsets : List ReceivedRrset) (start : Bool) (before : List ℕ) → Shown json rrsets 0 start before start before
-Shown-start json rrsets start before = record { listed = []; adds = Adds-none json start before; lists = λ rest lists. lists }
+pub Shown-start : (format : Format) (rrsets : List ReceivedRrset) (start : Bool) (before : List ℕ) → Shown format rrsets 0 start before start before
+Shown-start format rrsets start before = record { listed = []; adds = Adds-none format start before; lists = λ rest lists. lists }
 
-pub Shown-next : {json : Bool} {rrsets : List ReceivedRrset} {done : ℕ} {start : Bool} {before : List ℕ} {first : Bool} {now : List ℕ}
-    → Shown json rrsets done start before first now → (rrset : ReceivedRrset) (firstly : Bool) (after : List ℕ) → done < length rrsets → ((d : ReceivedRrset) → get_or rrsets done d ≡ rrset)
+pub Shown-next : {format : Format} {rrsets : List ReceivedRrset} {done : ℕ} {start : Bool} {before : List ℕ} {first : Bool} {now : List ℕ}
+    → Shown format rrsets done start before first now → (rrset : ReceivedRrset) (firstly : Bool) (after : List ℕ) → done < length rrsets → ((d : ReceivedRrset) → get_or rrsets done d ≡ rrset)
     → (listed : List SignedOctets) × ListsSignatures (done + 1) rrset 1 rrset.signatures listed
-    × (after ≡ now ++ listed_part json first listed) × (firstly ≡ still_first first listed)
-    → Shown json rrsets (done + 1) start before firstly after
-Shown-next {json} {rrsets} {done} {start} {before} {first} {now} so_far rrset firstly after within here added = record {
+    × (after ≡ now ++ listed_part format first listed) × (firstly ≡ still_first first listed)
+    → Shown format rrsets (done + 1) start before firstly after
+Shown-next {format} {rrsets} {done} {start} {before} {first} {now} so_far rrset firstly after within here added = record {
   listed = so_far.listed ++ added.0;
   adds = Adds-more so_far.adds added.0 firstly after added.2 added.3;
   lists = λ rest lists.
@@ -113,10 +115,10 @@ Shown-next {json} {rrsets} {done} {start} {before} {first} {now} so_far rrset fi
       (added.0, rest, added.1, subst (λ n. ListsRrsets n (drop (done + 1) rrsets) rest) (omega arith) lists, refl)));
 }
 
-pub Shown-all : {json : Bool} {rrsets : List ReceivedRrset} {done : ℕ} {start : Bool} {before : List ℕ} {first : Bool} {now : List ℕ}
-    → Shown json rrsets done start before first now → length rrsets ≤ done
-    → (listed : List SignedOctets) × ListsRrsets 1 rrsets listed × (now ≡ before ++ listed_part json start listed)
-Shown-all {json} {rrsets} {done} {start} {before} {first} {now} so_far all = (
+pub Shown-all : {format : Format} {rrsets : List ReceivedRrset} {done : ℕ} {start : Bool} {before : List ℕ} {first : Bool} {now : List ℕ}
+    → Shown format rrsets done start before first now → length rrsets ≤ done
+    → (listed : List SignedOctets) × ListsRrsets 1 rrsets listed × (now ≡ before ++ listed_part format start listed)
+Shown-all {format} {rrsets} {done} {start} {before} {first} {now} so_far all = (
   so_far.listed,
   subst (λ xs. ListsRrsets 1 rrsets xs) (append-nil so_far.listed) (so_far.lists [] (subst (λ xs. ListsRrsets (done + 1) xs []) (sym (drop_all done rrsets all)) refl)),
   so_far.adds.text,

@@ -30,6 +30,8 @@ use Rattle.dnsv_program.specs.Files.{Files, octets_or_none}
 use Rattle.dnsv_program.specs.Files.Statements.{IsMeaningOf}
 use Rattle.dnsv_program.specs.Status.{status_code}
 use Rattle.dnsv_lines.specs.Json.{array, member, name_json, object, parted, quoted}
+use Rattle.dnsv_program.specs.declared.texts.format.Format.{Format}
+use Rattle.dnsv_program.specs.declared.texts.format.Format.TheVariants.{Json, Lines}
 use Rattle.dnsv_program.specs.Texts.Json.{object_line}
 use Rattle.dnsv_program.specs.Texts.Todo.{todo_json, todo_line}
 use Rattle.dnsv_program.specs.Texts.Why.{why_lines, why_members}
@@ -170,31 +172,31 @@ verdict_json name rtype moment rrsets links verdict why = object_line (verdict_m
     ++ member (codes "aliases") (array (map alias_json links)) ∷ (reason_members rrsets verdict ++ why_members why))
 
 -- lines, or JSON: behind the verdict and what carries it why it stands, where that is told
-abbrev pub check_text : Bool → Labels → ℕ → ℕ → List ReceivedRrset → List Link → Verdict → Option (List Line) → List ℕ
-check_text false name rtype moment rrsets links verdict why = verdict_text name rtype rrsets links verdict ++ why_lines why
-check_text true name rtype moment rrsets links verdict why = verdict_json name rtype moment rrsets links verdict why
+abbrev pub check_text : Format → Labels → ℕ → ℕ → List ReceivedRrset → List Link → Verdict → Option (List Line) → List ℕ
+check_text Lines name rtype moment rrsets links verdict why = verdict_text name rtype rrsets links verdict ++ why_lines why
+check_text Json name rtype moment rrsets links verdict why = verdict_json name rtype moment rrsets links verdict why
 
 -- ---- what is added for a part of it, to lines or behind other members
 
-abbrev pub signature_text : Bool → ℕ → ℕ → List ℕ
-signature_text false rrset signature = signature_line rrset signature
-signature_text true rrset signature = parted false (signature_members rrset signature)
+abbrev pub signature_text : Format → ℕ → ℕ → List ℕ
+signature_text Lines rrset signature = signature_line rrset signature
+signature_text Json rrset signature = parted false (signature_members rrset signature)
 
-abbrev pub proof_text : Bool → List ReceivedRrset → List RecordNumber → List ℕ
-proof_text false rrsets numbers = proof_lines rrsets numbers
-proof_text true rrsets numbers = parted false (proof_member rrsets numbers ∷ [])
+abbrev pub proof_text : Format → List ReceivedRrset → List RecordNumber → List ℕ
+proof_text Lines rrsets numbers = proof_lines rrsets numbers
+proof_text Json rrsets numbers = parted false (proof_member rrsets numbers ∷ [])
 
-abbrev pub cut_text : Bool → Labels → List ℕ
-cut_text false cut = cut_line cut
-cut_text true cut = parted false (cut_member cut ∷ [])
+abbrev pub cut_text : Format → Labels → List ℕ
+cut_text Lines cut = cut_line cut
+cut_text Json cut = parted false (cut_member cut ∷ [])
 
-abbrev pub entries_text : Bool → List Entry → List ℕ
-entries_text false entries = todo_lines entries
-entries_text true entries = parted false (todo_member entries ∷ [])
+abbrev pub entries_text : Format → List Entry → List ℕ
+entries_text Lines entries = todo_lines entries
+entries_text Json entries = parted false (todo_member entries ∷ [])
 
-abbrev pub reason_text : Bool → List ReceivedRrset → Verdict → List ℕ
-reason_text json rrsets verdict =
-    reason_by (signature_text json) (proof_text json rrsets) (cut_text json) (entries_text json) verdict
+abbrev pub reason_text : Format → List ReceivedRrset → Verdict → List ℕ
+reason_text format rrsets verdict =
+    reason_by (signature_text format) (proof_text format rrsets) (cut_text format) (entries_text format) verdict
 
 -- ---- refusals
 
@@ -233,14 +235,14 @@ IsWhy true basis rtype report (Some lines) = IsExplanationOf basis rtype report 
 
 -- The files are in order, and the end and the text are those of the verdict that they prove of the question, and of why
 -- it stands, where that is asked for.
-pub record IsCheck (json why : Bool) (name : Labels) (rtype moment : ℕ) (files : Files) (end : Status) (text : List ℕ) : Type 0 where
+pub record IsCheck (format : Format) (why : Bool) (name : Labels) (rtype moment : ℕ) (files : Files) (end : Status) (text : List ℕ) : Type 0 where
   pub given : AreInOrder moment files
   pub report : Report
   pub is_verdict : IsVerdictOf (basis_in given) name rtype report.links report.last report.verdict
   pub told : Option (List Line)
   pub is_told : IsWhy why (basis_in given) rtype report told
   pub ends : end ≡ verdict_status report.verdict
-  pub lines : text ≡ check_text json name rtype moment (basis_in given).rrsets report.links report.verdict told
+  pub lines : text ≡ check_text format name rtype moment (basis_in given).rrsets report.links report.verdict told
 
 -- The files are in order, and the question is refused: a way over aliases from its name ends at one that can't be
 -- followed. The refusal has no place.

@@ -1,5 +1,5 @@
 -- The text of `list --all`: what each signature of a capture signs.
-use Rattle.std.specs.Prelude.{◌≡◌, ℕ, suc, Bool, true, false, List, [], ◌∷◌, ◌++◌, Option, Some, None, codes, map}
+use Rattle.std.specs.Prelude.{◌≡◌, ℕ, suc, Bool, List, [], ◌∷◌, ◌++◌, Option, Some, None, codes, map}
 use Rattle.std.specs.Fmt.{decimal}
 use Rattle.std.specs.List.{flat_map}
 use Rattle.hex.specs.Hex.{encode_lower}
@@ -11,6 +11,8 @@ use Rattle.dnsv_canonical.specs.Rrsets.{ReceivedRrset}
 use Rattle.dnsv_canonical.specs.SignedData.{IsSignedData}
 use Rattle.dnsv_program.specs.declared.opening.Opening.TheVariants.{Plain}
 use Rattle.dnsv_program.specs.Files.Capture.{Holds, NewEvidence}
+use Rattle.dnsv_program.specs.declared.texts.format.Format.{Format}
+use Rattle.dnsv_program.specs.declared.texts.format.Format.TheVariants.{Json, Lines}
 use Rattle.dnsv_lines.specs.Json.{array, member, object, parted, quoted}
 use Rattle.dnsv_program.specs.Texts.Json.{object_line, octets_json}
 
@@ -62,18 +64,18 @@ data_json signed = object (member (codes "rrset") (decimal signed.rrset)
     ∷ member (codes "signature") (decimal signed.signature) ∷ member (codes "data") (octets_or_null signed.octets) ∷ [])
 
 -- lines, or JSON
-abbrev pub listing_text : Bool → ℕ → List SignedOctets → List ℕ
-listing_text false moment listed = flat_map data_line listed
-listing_text true moment listed = object_line (member (codes "command") (quoted (codes "list"))
+abbrev pub listing_text : Format → ℕ → List SignedOctets → List ℕ
+listing_text Lines moment listed = flat_map data_line listed
+listing_text Json moment listed = object_line (member (codes "command") (quoted (codes "list"))
     ∷ member (codes "moment") (decimal moment) ∷ member (codes "data") (array (map data_json listed)) ∷ [])
 
 -- a part of either: behind others, or as the first
-abbrev pub listed_part : Bool → Bool → List SignedOctets → List ℕ
-listed_part false first listed = flat_map data_line listed
-listed_part true first listed = parted first (map data_json listed)
+abbrev pub listed_part : Format → Bool → List SignedOctets → List ℕ
+listed_part Lines first listed = flat_map data_line listed
+listed_part Json first listed = parted first (map data_json listed)
 
 -- the file holds messages, each of them evidence besides those before it, and the text lists their signatures
-abbrev pub IsListing : Bool → ℕ → List ℕ → List ℕ → Type 0
-IsListing json moment file text =
+abbrev pub IsListing : Format → ℕ → List ℕ → List ℕ → Type 0
+IsListing format moment file text =
     (messages : List Contents) × Holds NewEvidence Plain file messages × (listed : List SignedOctets)
-    × ListsRrsets 1 (evidence_of messages).rrsets listed × (text ≡ listing_text json moment listed)
+    × ListsRrsets 1 (evidence_of messages).rrsets listed × (text ≡ listing_text format moment listed)

@@ -9,10 +9,12 @@ ghost use Rattle.dnsv_verdict.specs.VerdictError.{verdict_error_code};
 ghost use Rattle.dnsv_lines.specs.declared.line.Line.{Line};
 ghost use Rattle.dnsv_program.specs.Status.{fault_number};
 ghost use Rattle.dnsv_program.specs.Texts.Checking as specs;
+ghost use Rattle.dnsv_program.specs.declared.texts.format.Format.TheVariants.{Lines};
 
 use crate::command_line::moment::Moment;
 use crate::status::{Fault, Place, Refusal, Status};
 use crate::texts::explaining::{push_why, report_and_why};
+use crate::texts::format::Format;
 use crate::texts::json::checking::verdict_json;
 use crate::texts::reason::push_reason;
 use bumpalo::Bump;
@@ -46,7 +48,7 @@ pub struct Asked<'a> {
 pub fn judge<V: Verifier>(
     alloc: Global,
     bump: &Bump,
-    json: bool,
+    format: Format,
     why: bool,
     held: &Capture<'_>,
     anchors: &Anchors<'_>,
@@ -62,7 +64,7 @@ pub fn judge<V: Verifier>(
         × specs.IsWhy why (basis_of held.now.rrsets anchors.now moment (V.meaning verifier.now)) rtype.0 report told
         × (outcome.status ≡ specs.verdict_status report.verdict)
         × (string_bytes outcome.text
-        ≡ specs.check_text json name.now rtype.0 moment held.now.rrsets report.links report.verdict told)) }
+        ≡ specs.check_text format name.now rtype.0 moment held.now.rrsets report.links report.verdict told)) }
     ensures only { IfErr result (λ told. (told ≡ Fault.OutOfMemory) ⊎ ((error : VerdictError)
         × IsRefusedFor (basis_of held.now.rrsets anchors.now moment (V.meaning verifier.now)) name.now rtype.0 error
         × (told ≡ specs.verdict_fault error))) }
@@ -78,7 +80,7 @@ pub fn judge<V: Verifier>(
     ) {
         Ok((report, told)) => Ok(Outcome {
             status: status_of(&report.verdict),
-            text: text_of(alloc, json, &asked, held.rrsets(), &report, &told)?,
+            text: text_of(alloc, format, &asked, held.rrsets(), &report, &told)?,
         }),
         Err(error) => Err(verdict_fault(error)),
     }
@@ -87,19 +89,34 @@ pub fn judge<V: Verifier>(
 /// The text of a report, and of why its verdict stands: in lines, or in JSON.
 fn text_of(
     alloc: Global,
-    json: bool,
+    format: Format,
     asked: &Asked<'_>,
     rrsets: &[Rrset<'_>],
     report: &Report<'_>,
     why: &Option<Explanation>,
 ) -> Result<String, AllocError>
     ensures { IfOk result (λ text. string_bytes text
-        ≡ specs.check_text json asked.now.name.now asked.now.rtype.0 asked.now.moment rrsets.now report.now.links
+        ≡ specs.check_text format asked.now.name.now asked.now.rtype.0 asked.now.moment rrsets.now report.now.links
         report.now.verdict why.now) }
 {
-    if json {
-        return verdict_json(alloc, asked, rrsets, report, why);
+    match format {
+        Format::Lines => verdict_lines(alloc, asked, rrsets, report, why),
+        Format::Json => verdict_json(alloc, asked, rrsets, report, why),
     }
+}
+
+/// The lines of a report, and of why its verdict stands.
+fn verdict_lines(
+    alloc: Global,
+    asked: &Asked<'_>,
+    rrsets: &[Rrset<'_>],
+    report: &Report<'_>,
+    why: &Option<Explanation>,
+) -> Result<String, AllocError>
+    ensures { IfOk result (λ text. string_bytes text
+        ≡ specs.check_text Lines asked.now.name.now asked.now.rtype.0 asked.now.moment rrsets.now report.now.links
+        report.now.verdict why.now) }
+{
     let mut text = verdict_text(alloc, asked.name, asked.rtype, rrsets, report)?;
     push_why(&mut text, why)?;
     Ok(text)
@@ -143,7 +160,7 @@ fn verdict_text(
     let mut text = String::new(alloc);
     push_verdict(&mut text, &report.verdict, name, rtype)?;
     push_aliases(&mut text, report.links.as_slice())?;
-    push_reason(&mut text, false, rrsets, &report.verdict)?;
+    push_reason(&mut text, Format::Lines, rrsets, &report.verdict)?;
     Ok(text)
 }
 

@@ -2,10 +2,12 @@
 ghost use Rattle.std.specs.Prelude.{◌≡◌, ◌++◌, ◌∷◌, [], List, IfOk, OnOk, false, string_bytes, true};
 ghost use Rattle.std.specs.Option.{option_map};
 ghost use Rattle.dnsv_lines.specs.Json.{parted, still_first};
+ghost use Rattle.dnsv_program.specs.declared.texts.format.Format.TheVariants.{Json, Lines};
 ghost use Rattle.dnsv_program.specs.Texts.Listing.{ListsRrsets, ListsSignatures, SignedOctets};
 ghost use Rattle.dnsv_program.specs.Texts.Listing.{data_json, data_line, listed_part, listing_text, octets_or_null};
 
 use crate::command_line::moment::Moment;
+use crate::texts::format::Format;
 use crate::texts::hex_text::push_hex;
 use crate::texts::json::push_octets;
 use dnsv_canonical::{Capture, Rrset, signed_data};
@@ -15,34 +17,33 @@ use std::alloc::{AllocError, Global};
 /// What each signature of each RRset of the evidence signs: in lines, or in JSON.
 pub fn listing(
     alloc: Global,
-    json: bool,
+    format: Format,
     moment: Moment,
     held: &Capture<'_>,
 ) -> Result<String, AllocError>
     ensures { IfOk result (λ text. (listed : List SignedOctets) × ListsRrsets 1 held.now.rrsets listed
-        × (string_bytes text ≡ listing_text json moment listed)) }
+        × (string_bytes text ≡ listing_text format moment listed)) }
 {
-    if json {
-        listing_json(alloc, moment, held.rrsets())
-    } else {
-        listing_lines(alloc, held.rrsets())
+    match format {
+        Format::Lines => listing_lines(alloc, held.rrsets()),
+        Format::Json => listing_json(alloc, moment, held.rrsets()),
     }
 }
 
 /// A line for each signature.
 fn listing_lines(alloc: Global, rrsets: &[Rrset<'_>]) -> Result<String, AllocError>
     ensures { IfOk result (λ text. (listed : List SignedOctets) × ListsRrsets 1 rrsets.now listed
-        × (string_bytes text ≡ listing_text false 0 listed)) }
+        × (string_bytes text ≡ listing_text Lines 0 listed)) }
 {
     let mut text = String::new(alloc);
-    push_rrsets(alloc, &mut text, false, rrsets)?;
+    push_rrsets(alloc, &mut text, Format::Lines, rrsets)?;
     Ok(text)
 }
 
 /// An object with an array, which has an object for each signature.
 fn listing_json(alloc: Global, moment: Moment, rrsets: &[Rrset<'_>]) -> Result<String, AllocError>
     ensures { IfOk result (λ text. (listed : List SignedOctets) × ListsRrsets 1 rrsets.now listed
-        × (string_bytes text ≡ listing_text true moment listed)) }
+        × (string_bytes text ≡ listing_text Json moment listed)) }
 {
     let mut text = String::new(alloc);
     let seconds = moment.seconds();
@@ -50,7 +51,7 @@ fn listing_json(alloc: Global, moment: Moment, rrsets: &[Rrset<'_>]) -> Result<S
         text,
         "{{\"command\":\"list\",\"moment\":{seconds},\"data\":["
     )?;
-    push_rrsets(alloc, &mut text, true, rrsets)?;
+    push_rrsets(alloc, &mut text, Format::Json, rrsets)?;
     text.push_str("]}\n")?;
     Ok(text)
 }
@@ -59,15 +60,15 @@ fn listing_json(alloc: Global, moment: Moment, rrsets: &[Rrset<'_>]) -> Result<S
 fn push_rrsets(
     alloc: Global,
     text: &mut String,
-    json: bool,
+    format: Format,
     rrsets: &[Rrset<'_>],
 ) -> Result<(), AllocError>
     ensures { OnOk result ((listed : List SignedOctets) × ListsRrsets 1 rrsets.now listed
-        × (string_bytes text.new ≡ string_bytes text.old ++ listed_part json true listed)) }
+        × (string_bytes text.new ≡ string_bytes text.old ++ listed_part format true listed)) }
 {
     let mut first = true;
     for (index, rrset) in rrsets.iter().enumerate() {
-        push_rrset(alloc, text, json, &mut first, index + 1, rrset)?;
+        push_rrset(alloc, text, format, &mut first, index + 1, rrset)?;
     }
     Ok(())
 }
@@ -76,19 +77,19 @@ fn push_rrsets(
 fn push_rrset(
     alloc: Global,
     text: &mut String,
-    json: bool,
+    format: Format,
     first: &mut bool,
     number: usize,
     rrset: &Rrset<'_>,
 ) -> Result<(), AllocError>
     ensures { OnOk result ((listed : List SignedOctets) × ListsSignatures number rrset.now 1 rrset.now.signatures listed
-        × (string_bytes text.new ≡ string_bytes text.old ++ listed_part json first.old listed)
+        × (string_bytes text.new ≡ string_bytes text.old ++ listed_part format first.old listed)
         × (first.new ≡ still_first first.old listed)) }
 {
     let signatures = rrset.signatures();
     for (index, rrsig) in signatures.iter().enumerate() {
         let octets = signed_data(alloc, rrset, rrsig)?;
-        push_signed(text, json, first, number, index + 1, octets)?;
+        push_signed(text, format, first, number, index + 1, octets)?;
     }
     Ok(())
 }
@@ -96,24 +97,25 @@ fn push_rrset(
 /// Adds what a signature signs, behind others or as the first.
 fn push_signed(
     text: &mut String,
-    json: bool,
+    format: Format,
     first: &mut bool,
     rrset: usize,
     signature: usize,
     octets: Option<Vec<u8>>,
 ) -> Result<(), AllocError>
-    ensures text { OnOk result (string_bytes text.new ≡ string_bytes text.old ++ listed_part json first.old (record {
+    ensures text { OnOk result (string_bytes text.new ≡ string_bytes text.old ++ listed_part format first.old (record {
       rrset = rrset;
       signature = signature;
       octets = option_map (λ octets. octets.items) octets;
     } ∷ [])) }
     ensures first { OnOk result (first.new ≡ false) }
 {
-    if json {
-        push_object(text, first, rrset, signature, octets)
-    } else {
-        *first = false;
-        push_line(text, rrset, signature, octets)
+    match format {
+        Format::Lines => {
+            *first = false;
+            push_line(text, rrset, signature, octets)
+        }
+        Format::Json => push_object(text, first, rrset, signature, octets),
     }
 }
 

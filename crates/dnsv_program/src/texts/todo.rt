@@ -1,9 +1,10 @@
 //! The text of `list` without `--all`: what a verifier still has to check.
-ghost use Rattle.std.specs.Prelude.{◌≡◌, ◌++◌, false, IfOk, OnOk, flat_map, string_bytes};
+ghost use Rattle.std.specs.Prelude.{◌≡◌, ◌++◌, IfOk, OnOk, flat_map, string_bytes};
 ghost use Rattle.dnsv_verifier.specs.Table.{IsTableOf, TableContents, unknown_entries};
 ghost use Rattle.dnsv_program.specs.Texts.Todo.{todo_line, todo_text};
 
 use crate::command_line::moment::Moment;
+use crate::texts::format::Format;
 use crate::texts::hex_text::push_hex_text;
 use crate::texts::json::todo::todo_json;
 use bumpalo::Bump;
@@ -16,34 +17,33 @@ use std::alloc::{AllocError, Global};
 pub fn still_to_check<V: Verifier>(
     alloc: Global,
     bump: &Bump,
-    json: bool,
+    format: Format,
     held: &Capture<'_>,
     moment: Moment,
     verifier: &V,
 ) -> Result<String, AllocError>
     ensures { IfOk result (λ text. (table : TableContents)
         × IsTableOf (V.meaning verifier.now) moment held.now.rrsets table
-        × (string_bytes text ≡ todo_text json moment (unknown_entries table))) }
+        × (string_bytes text ≡ todo_text format moment (unknown_entries table))) }
 {
     let mut asked = Count::new();
     let table = ask_all(alloc, bump, held, moment.seconds(), verifier, &mut asked)?;
     let unknown = table.unknown(alloc)?;
-    Ok(text_of(alloc, json, moment, &unknown)?)
+    Ok(text_of(alloc, format, moment, &unknown)?)
 }
 
 /// The text of the entries: in lines, or in JSON.
 fn text_of(
     alloc: Global,
-    json: bool,
+    format: Format,
     moment: Moment,
     entries: &Entries<'_>,
 ) -> Result<String, AllocError>
-    ensures { IfOk result (λ text. string_bytes text ≡ todo_text json moment entries.now) }
+    ensures { IfOk result (λ text. string_bytes text ≡ todo_text format moment entries.now) }
 {
-    if json {
-        todo_json(alloc, moment, entries)
-    } else {
-        todo_lines(alloc, entries)
+    match format {
+        Format::Lines => todo_lines(alloc, entries),
+        Format::Json => todo_json(alloc, moment, entries),
     }
 }
 

@@ -66,7 +66,7 @@ returns-clause-faults g c =
 
 pub returns-clause-text : goal.returns-clause-text
 returns-clause-text g c = λ files are.
-    all_checked c.args.json c.args.why c.args.name.now c.args.rtype.0 c.args.moment files c.in_ok-opening.opening
+    all_checked c.args.format c.args.why c.args.name.now c.args.rtype.0 c.args.moment files c.in_ok-opening.opening
     (c.in_ok-opening.ensures.opening files.keys files.macs are.keys are.macs) c.in_ok-held.held c.in_ok-anchors.anchors
     (listed_answer c.in_ok-statements.statements) c.judge.result are.capture c.in_ok-held.ensures.evidence
     (c.in_ok-anchors.ensures.said files.anchors are.anchors)

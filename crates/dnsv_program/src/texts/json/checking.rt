@@ -5,6 +5,7 @@ ghost use Rattle.dnsv_program.specs.Texts.Checking as specs;
 
 use crate::command_line::question::question_word;
 use crate::texts::checking::{Asked, status_of, verdict_word};
+use crate::texts::format::Format;
 use crate::texts::json::explaining::push_why;
 use crate::texts::json::todo::push_entries;
 use crate::texts::reason::push_reason;
@@ -32,7 +33,7 @@ pub fn verdict_json(
     push_verdict(&mut text, why.is_some(), asked, &report.verdict)?;
     text.push_str(",\"aliases\":")?;
     push_aliases(&mut text, report.links.as_slice())?;
-    push_reason(&mut text, true, rrsets, &report.verdict)?;
+    push_reason(&mut text, Format::Json, rrsets, &report.verdict)?;
     push_why(&mut text, why)?;
     text.push_str("}\n")?;
     Ok(text)

@@ -2,6 +2,7 @@
 ghost use Rattle.std.specs.Prelude.{◌≡◌, ◌++◌, ◌∷◌, [], false, true, map, IfOk, OnOk, string_bytes};
 ghost use Rattle.dnsv_lines.specs.Json.{array, parted};
 ghost use Rattle.dnsv_program.specs.Texts.Todo as specs;
+ghost use Rattle.dnsv_program.specs.declared.texts.format.Format.TheVariants.{Json};
 
 use crate::command_line::moment::Moment;
 use crate::texts::json::push_octets;
@@ -11,7 +12,7 @@ use std::alloc::{AllocError, Global};
 
 /// The object with the entries.
 pub fn todo_json(alloc: Global, moment: Moment, entries: &Entries<'_>) -> Result<String, AllocError>
-    ensures { IfOk result (λ text. string_bytes text ≡ specs.todo_text true moment entries.now) }
+    ensures { IfOk result (λ text. string_bytes text ≡ specs.todo_text Json moment entries.now) }
 {
     let mut text = String::new(alloc);
     let seconds = moment.seconds();
