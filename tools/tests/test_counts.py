@@ -12,7 +12,7 @@ BEGINS = re.compile(r"\bCount(?:>|\s+as\s+Default>)?::(?:new|default)\b|\bDefaul
 NAMED = {
     "dnsv_names/src/count.rt": 1,  # the default of a count
     "dnsv_verdict/src/report.rt": 2,  # the two numbers that a report tells
-    "dnsv_program/src/texts/todo.rt": 1,  # `list` asks a verifier, and prints no number
+    "dnsv_program/src/work/listing.rt": 1,  # `list` asks a verifier, and prints no number
 }
 
 

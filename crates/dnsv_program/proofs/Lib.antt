@@ -6,3 +6,4 @@ pub mod OpeningLemmas
 pub mod ProgramLemmas
 pub mod ReachedLemmas
 pub mod TextLemmas
+pub mod WorkLemmas

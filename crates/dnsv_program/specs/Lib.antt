@@ -7,3 +7,4 @@ pub mod Run
 pub mod Status
 pub mod Texts
 pub mod Told
+pub mod Work

@@ -17,14 +17,14 @@ use Rattle.dnsv_program.specs.declared.status.Status.TheVariants.{Done}
 use Rattle.dnsv_program.specs.declared.texts.format.Format.{Format}
 use Rattle.dnsv_program.specs.Files.Anchors.{HasAnchors, IsFaultOfAnchors}
 use Rattle.dnsv_program.specs.Files.Capture.{AnyMessage, NewEvidence, Holds, IsFaultOfCapture}
-use Rattle.dnsv_program.specs.Texts.Checking.{IsCheck, IsStopped}
+use Rattle.dnsv_program.specs.Work.Checking.{IsCheck, IsStopped}
 use Rattle.dnsv_program.specs.Opening.Given.{IsOpeningOf, IsOpeningReached, IsFaultOfOpening}
 use Rattle.dnsv_program.specs.Files.{Files, IsGiven, octets_or_none}
-use Rattle.dnsv_program.specs.Texts.Listing.{IsListing}
+use Rattle.dnsv_program.specs.Work.Listing.{IsListing}
 use Rattle.dnsv_program.specs.CommandLine.Question.{IsQuestionRefused, Spells}
-use Rattle.dnsv_program.specs.Texts.Showing.{IsShowing}
+use Rattle.dnsv_program.specs.Work.Showing.{IsShowing}
 use Rattle.dnsv_program.specs.Files.Statements.{IsFaultOfStatements}
-use Rattle.dnsv_program.specs.Texts.Todo.{IsTodo}
+use Rattle.dnsv_program.specs.Work.Listing.{IsTodo}
 
 -- ---- the text
 

@@ -19,7 +19,8 @@ use Rattle.dnsv_program.specs.declared.status.Refusal.TheVariants as refusal
 use Rattle.dnsv_program.specs.declared.opening.Opening.TheVariants.{Plain}
 use Rattle.dnsv_program.specs.declared.texts.format.Format.{Format}
 use Rattle.dnsv_program.specs.Files.Capture.{AllTaken, Fails, Holds, Meets, NewEvidence}
-use Rattle.dnsv_program.specs.Texts.Listing.{IsListing, ListsRrsets, ListsSignatures, SignedOctets, listing_text}
+use Rattle.dnsv_program.specs.Texts.Listing.{ListsRrsets, ListsSignatures, SignedOctets, listing_text}
+use Rattle.dnsv_program.specs.Work.Listing.{IsListing}
 use Rattle.dnsv_program.specs.Status.{TellsCaptureError}
 
 -- ---- a message is evidence, or is refused for a reason that is told

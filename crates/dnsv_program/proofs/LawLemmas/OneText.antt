@@ -27,16 +27,19 @@ use Rattle.dnsv_program.specs.declared.command_line.request.Request.TheVariants 
 use Rattle.dnsv_program.specs.declared.status.Status.{Status}
 use Rattle.dnsv_program.specs.declared.texts.format.Format.{Format}
 use Rattle.dnsv_program.specs.Files.Capture.{AnyMessage, NewEvidence, Holds}
-use Rattle.dnsv_program.specs.Texts.Checking.{AreInOrder, IsCheck, IsWhy, basis_in, check_text, verdict_status}
+use Rattle.dnsv_program.specs.Texts.Checking.{check_text}
+use Rattle.dnsv_program.specs.Work.Checking.{AreInOrder, IsCheck, IsWhy, basis_in, verdict_status}
 use Rattle.dnsv_program.specs.Opening.Given.{IsOpeningOf}
 use Rattle.dnsv_program.specs.Files.{Files, octets_or_none}
 use Rattle.dnsv_program.specs.Opening.Keys.{MayHaveKeys}
 use Rattle.dnsv_program.specs.Layers.{LayerLaws}
 use Rattle.dnsv_program.specs.Texts.Listing.{ListsRrsets, ListsSignatures, SignedOctets, listing_text}
 use Rattle.dnsv_program.specs.CommandLine.Question.{Spells}
+use Rattle.dnsv_program.specs.Status.{status_code}
 use Rattle.dnsv_program.specs.Run.{IsAnswered, IsTextAskedFor}
 use Rattle.dnsv_program.specs.Texts.Showing.{message_text, texts_from}
-use Rattle.dnsv_program.specs.Texts.Todo.{IsTodo, todo_text}
+use Rattle.dnsv_program.specs.Texts.Todo.{todo_text}
+use Rattle.dnsv_program.specs.Work.Listing.{IsTodo}
 use Rattle.dnsv_program.proofs.OpeningLemmas.Keys.{same_keys}
 use Rattle.dnsv_program.proofs.OpeningLemmas.Macs.{same_macs}
 use Rattle.dnsv_program.proofs.LawLemmas.OneCapture.{one_holding}
@@ -144,9 +147,10 @@ module _ (laws : LayerLaws) where
         let ways = laws.verdicts.one_way (basis_in y.given) name rtype x.report.links y.report.links x.report.last y.report.last x.report.verdict y.report.verdict
         (subst (λ (each : Basis). IsVerdictOf each name rtype x.report.links x.report.last x.report.verdict) bases x.is_verdict) y.is_verdict in
         let tolds : x.told ≡ y.told = one_why why (basis_in y.given) name y.report x.told y.told y.is_verdict
-        (why_of why (basis_in y.given) x.report y.report ways.0 ways.1 ways.2 x.told (subst (λ (each : Basis). IsWhy why each rtype x.report x.told) bases x.is_told)) y.is_told in (
-          x.ends ∙ ap verdict_status ways.2 ∙ sym y.ends,
-          x.lines ∙ (λ i. check_text format name rtype moment (bases i).rrsets (ways.0 i) (ways.2 i) (tolds i)) ∙ sym y.lines,
+        (why_of why (basis_in y.given) x.report y.report ways.0 ways.1 ways.2 x.told (subst (λ (each : Basis). IsWhy why each rtype x.report x.told) bases x.is_told)) y.is_told in
+        let ends : s ≡ t = x.ends ∙ ap verdict_status ways.2 ∙ sym y.ends in (
+          ends,
+          x.lines ∙ (λ i. check_text format name rtype moment (status_code (ends i)) (bases i).rrsets (ways.0 i) (ways.2 i) (tolds i)) ∙ sym y.lines,
         )
 
     one_answer : (format : Format) (why : Bool) (asked : List ℕ) (s t : Status) (a b : List ℕ) → IsAnswered format why asked rtype moment files s a → IsAnswered format why asked rtype moment files t b

@@ -3,14 +3,10 @@ use Rattle.std.specs.Prelude.{◌≡◌, ℕ, suc, Bool, List, [], ◌∷◌, �
 use Rattle.std.specs.Fmt.{decimal}
 use Rattle.std.specs.List.{flat_map}
 use Rattle.hex.specs.Hex.{encode_lower}
-use Rattle.dnsv_message.specs.Message.{Contents}
 use Rattle.dnsv_records.specs.declared.rrsig.Rrsig.{Rrsig}
 use Rattle.dnsv_records.specs.Rrsig.{IsRrsig}
-use Rattle.dnsv_canonical.specs.Evidence.{evidence_of}
 use Rattle.dnsv_canonical.specs.Rrsets.{ReceivedRrset}
 use Rattle.dnsv_canonical.specs.SignedData.{IsSignedData}
-use Rattle.dnsv_program.specs.declared.opening.Opening.TheVariants.{Plain}
-use Rattle.dnsv_program.specs.Files.Capture.{Holds, NewEvidence}
 use Rattle.dnsv_program.specs.declared.texts.format.Format.{Format}
 use Rattle.dnsv_program.specs.declared.texts.format.Format.TheVariants.{Json, Lines}
 use Rattle.dnsv_lines.specs.Json.{array, member, object, parted, quoted}
@@ -73,9 +69,3 @@ listing_text Json moment listed = object_line (member (codes "command") (quoted 
 abbrev pub listed_part : Format → Bool → List SignedOctets → List ℕ
 listed_part Lines first listed = flat_map data_line listed
 listed_part Json first listed = parted first (map data_json listed)
-
--- the file holds messages, each of them evidence besides those before it, and the text lists their signatures
-abbrev pub IsListing : Format → ℕ → List ℕ → List ℕ → Type 0
-IsListing format moment file text =
-    (messages : List Contents) × Holds NewEvidence Plain file messages × (listed : List SignedOctets)
-    × ListsRrsets 1 (evidence_of messages).rrsets listed × (text ≡ listing_text format moment listed)

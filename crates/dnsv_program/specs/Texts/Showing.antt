@@ -1,5 +1,5 @@
 -- The text of `show`: the messages of a capture, with their questions and records.
-use Rattle.std.specs.Prelude.{◌≡◌, ℕ, suc, List, [], ◌∷◌, ◌++◌, codes, length}
+use Rattle.std.specs.Prelude.{ℕ, suc, List, [], ◌∷◌, ◌++◌, codes, length}
 use Rattle.std.specs.List.{flat_map}
 use Rattle.std.specs.Fmt.{decimal}
 use Rattle.std.specs.Int.{to_be_bytes, w16}
@@ -9,8 +9,6 @@ use Rattle.dnsv_names.specs.Text.{text_of}
 use Rattle.dnsv_message.specs.declared.record.Question.{Question}
 use Rattle.dnsv_message.specs.declared.record.Record.{Record}
 use Rattle.dnsv_message.specs.Message.{Contents, records_of}
-use Rattle.dnsv_program.specs.declared.opening.Opening.TheVariants.{Plain}
-use Rattle.dnsv_program.specs.Files.Capture.{Holds, AnyMessage}
 use Rattle.dnsv_program.specs.Texts.Hex.{hex_text}
 
 -- the octets of a number of 16 bits, the high one first, in lower case hex
@@ -50,8 +48,3 @@ abbrev pub message_text : ℕ → Contents → List ℕ
 message_text number message =
     message_line number message ++ flat_map question_line message.questions
     ++ texts_from record_line 1 (records_of message)
-
--- the file holds messages, whatever they are, and the text has the lines of each
-abbrev pub IsShowing : List ℕ → List ℕ → Type 0
-IsShowing file text =
-    (messages : List Contents) × Holds AnyMessage Plain file messages × (text ≡ texts_from message_text 1 messages)

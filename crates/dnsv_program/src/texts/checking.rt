@@ -1,149 +1,66 @@
 //! The text of `check` and of `explain`: a question's verdict, what carries it, and why it stands.
-ghost use Rattle.std.specs.Prelude.{◌≡◌, ◌⊎◌, ◌++◌, IfErr, IfOk, List, OnOk, Option, Some, flat_map, string_bytes};
-ghost use Rattle.dnsv_canonical.specs.Rrsets.{IsQuestion};
-ghost use Rattle.dnsv_verdict.specs.Way.{IsRefusedFor, IsVerdictOf};
-ghost use Rattle.dnsv_verdict.specs.declared.error.VerdictError.{VerdictError};
-ghost use Rattle.dnsv_verdict.specs.declared.report.Report.{Report};
-ghost use Rattle.dnsv_verdict.specs.Verdict.{basis_of};
-ghost use Rattle.dnsv_verdict.specs.VerdictError.{verdict_error_code};
-ghost use Rattle.dnsv_lines.specs.declared.line.Line.{Line};
-ghost use Rattle.dnsv_program.specs.Status.{fault_number};
+ghost use Rattle.std.specs.Prelude.{◌≡◌, ◌++◌, IfOk, OnOk, Some, flat_map, string_bytes};
+ghost use Rattle.std.specs.Option.{option_map};
 ghost use Rattle.dnsv_program.specs.Texts.Checking as specs;
 ghost use Rattle.dnsv_program.specs.declared.texts.format.Format.TheVariants.{Lines};
 
-use crate::command_line::moment::Moment;
-use crate::status::{Fault, Place, Refusal, Status};
-use crate::texts::explaining::{push_why, report_and_why};
+use crate::texts::explaining::push_why;
 use crate::texts::format::Format;
 use crate::texts::json::checking::verdict_json;
 use crate::texts::reason::push_reason;
-use bumpalo::Bump;
-use dnsv_canonical::{Capture, RecordNumber, Rrset, numbered};
-use dnsv_chain::Anchors;
-use dnsv_explain::Explanation;
+use dnsv_canonical::{RecordNumber, Rrset, numbered};
+use dnsv_lines::Line;
 use dnsv_names::{Name, RecordType};
-use dnsv_verdict::{Link, Report, Verdict, VerdictError};
-use dnsv_verifier::Verifier;
+use dnsv_verdict::{Link, Report, Verdict};
 use std::alloc::{AllocError, Global};
 
-/// How a run ends that makes its whole text.
-#[derive(Drop)]
-pub struct Outcome {
-    pub status: Status,
-    pub text: String,
-}
-
-/// What is asked, and the moment that the verdict speaks of.
+/// What stands at the head of the text of a verdict.
 #[derive(Clone, Copy)]
-pub struct Asked<'a> {
+pub struct Heading<'a> {
+    /// The name that is asked for.
     pub name: &'a Name,
+    /// The type that is asked for.
     pub rtype: RecordType,
-    pub moment: Moment,
-}
-
-/// The verdict on the question, the aliases that lead to the name where it stands, what carries it, and where that is
-/// asked for, why it stands: in lines, or in JSON.
-///
-/// An alias that can't be followed is refused, without a place.
-pub fn judge<V: Verifier>(
-    alloc: Global,
-    bump: &Bump,
-    format: Format,
-    why: bool,
-    held: &Capture<'_>,
-    anchors: &Anchors<'_>,
-    moment: Moment,
-    verifier: &V,
-    name: &Name,
-    rtype: RecordType,
-) -> Result<Outcome, Fault>
-    requires { IsQuestion name.now rtype.0 }
-    ensures verdict { IfOk result (λ outcome. (report : Report) × (told : Option (List Line))
-        × IsVerdictOf (basis_of held.now.rrsets anchors.now moment (V.meaning verifier.now)) name.now rtype.0
-        report.links report.last report.verdict
-        × specs.IsWhy why (basis_of held.now.rrsets anchors.now moment (V.meaning verifier.now)) rtype.0 report told
-        × (outcome.status ≡ specs.verdict_status report.verdict)
-        × (string_bytes outcome.text
-        ≡ specs.check_text format name.now rtype.0 moment held.now.rrsets report.links report.verdict told)) }
-    ensures only { IfErr result (λ told. (told ≡ Fault.OutOfMemory) ⊎ ((error : VerdictError)
-        × IsRefusedFor (basis_of held.now.rrsets anchors.now moment (V.meaning verifier.now)) name.now rtype.0 error
-        × (told ≡ specs.verdict_fault error))) }
-{
-    let asked = Asked {
-        name,
-        rtype,
-        moment,
-    };
-    let seconds = moment.seconds();
-    match report_and_why(
-        alloc, bump, why, held, anchors, seconds, verifier, name, rtype,
-    ) {
-        Ok((report, told)) => Ok(Outcome {
-            status: status_of(&report.verdict),
-            text: text_of(alloc, format, &asked, held.rrsets(), &report, &told)?,
-        }),
-        Err(error) => Err(verdict_fault(error)),
-    }
+    /// The moment that the verdict speaks of, in seconds since 1970-01-01 00:00:00 UTC.
+    pub moment: u64,
+    /// The exit status that goes with the verdict.
+    pub status: u8,
 }
 
 /// The text of a report, and of why its verdict stands: in lines, or in JSON.
-fn text_of(
+pub fn check_text(
     alloc: Global,
     format: Format,
-    asked: &Asked<'_>,
+    heading: &Heading<'_>,
     rrsets: &[Rrset<'_>],
     report: &Report<'_>,
-    why: &Option<Explanation>,
+    why: Option<&[Line]>,
 ) -> Result<String, AllocError>
     ensures { IfOk result (λ text. string_bytes text
-        ≡ specs.check_text format asked.now.name.now asked.now.rtype.0 asked.now.moment rrsets.now report.now.links
-        report.now.verdict why.now) }
+        ≡ specs.check_text format heading.now.name.now heading.now.rtype.0 heading.now.moment heading.now.status rrsets.now report.now.links
+        report.now.verdict (option_map (λ lines. lines.now) why.entry)) }
 {
     match format {
-        Format::Lines => verdict_lines(alloc, asked, rrsets, report, why),
-        Format::Json => verdict_json(alloc, asked, rrsets, report, why),
+        Format::Lines => verdict_lines(alloc, heading, rrsets, report, why),
+        Format::Json => verdict_json(alloc, heading, rrsets, report, why),
     }
 }
 
 /// The lines of a report, and of why its verdict stands.
 fn verdict_lines(
     alloc: Global,
-    asked: &Asked<'_>,
+    heading: &Heading<'_>,
     rrsets: &[Rrset<'_>],
     report: &Report<'_>,
-    why: &Option<Explanation>,
+    why: Option<&[Line]>,
 ) -> Result<String, AllocError>
     ensures { IfOk result (λ text. string_bytes text
-        ≡ specs.check_text Lines asked.now.name.now asked.now.rtype.0 asked.now.moment rrsets.now report.now.links
-        report.now.verdict why.now) }
+        ≡ specs.check_text Lines heading.now.name.now heading.now.rtype.0 heading.now.moment heading.now.status rrsets.now report.now.links
+        report.now.verdict (option_map (λ lines. lines.now) why.entry)) }
 {
-    let mut text = verdict_text(alloc, asked.name, asked.rtype, rrsets, report)?;
+    let mut text = verdict_text(alloc, heading.name, heading.rtype, rrsets, report)?;
     push_why(&mut text, why)?;
     Ok(text)
-}
-
-/// The fault by which it is told that a question has no verdict. It has no place.
-fn verdict_fault(error: VerdictError) -> Fault
-    ensures told { result ≡ specs.verdict_fault error }
-    ensures number { fault_number result ≡ verdict_error_code error }
-{
-    match error {
-        VerdictError::OutOfMemory => Fault::OutOfMemory,
-        _ => Fault::Refused(Refusal::Question(error), Place::NOWHERE),
-    }
-}
-
-/// The end of a run by the verdict.
-pub fn status_of(verdict: &Verdict<'_>) -> Status
-    ensures { result ≡ specs.verdict_status verdict.now }
-{
-    match verdict {
-        Verdict::Insecure(_) => Status::Insecure,
-        Verdict::Pending(_) => Status::Pending,
-        Verdict::Bogus => Status::Bogus,
-        Verdict::Indeterminate => Status::Indeterminate,
-        _ => Status::Done,
-    }
 }
 
 /// The verdict's line, those of the aliases, and those of what carries it.

@@ -6,7 +6,6 @@ ghost use Rattle.dnsv_program.specs.declared.texts.format.Format.TheVariants.{Js
 ghost use Rattle.dnsv_program.specs.Texts.Listing.{ListsRrsets, ListsSignatures, SignedOctets};
 ghost use Rattle.dnsv_program.specs.Texts.Listing.{data_json, data_line, listed_part, listing_text, octets_or_null};
 
-use crate::command_line::moment::Moment;
 use crate::texts::format::Format;
 use crate::texts::hex_text::push_hex;
 use crate::texts::json::push_octets;
@@ -14,11 +13,12 @@ use dnsv_canonical::{Capture, Rrset, signed_data};
 use dnsv_lines::push_comma;
 use std::alloc::{AllocError, Global};
 
-/// What each signature of each RRset of the evidence signs: in lines, or in JSON.
+/// What each signature of each RRset of the evidence signs: in lines, or in JSON with the moment, in seconds since
+/// 1970-01-01 00:00:00 UTC.
 pub fn listing(
     alloc: Global,
     format: Format,
-    moment: Moment,
+    moment: u64,
     held: &Capture<'_>,
 ) -> Result<String, AllocError>
     ensures { IfOk result (λ text. (listed : List SignedOctets) × ListsRrsets 1 held.now.rrsets listed
@@ -41,15 +41,14 @@ fn listing_lines(alloc: Global, rrsets: &[Rrset<'_>]) -> Result<String, AllocErr
 }
 
 /// An object with an array, which has an object for each signature.
-fn listing_json(alloc: Global, moment: Moment, rrsets: &[Rrset<'_>]) -> Result<String, AllocError>
+fn listing_json(alloc: Global, moment: u64, rrsets: &[Rrset<'_>]) -> Result<String, AllocError>
     ensures { IfOk result (λ text. (listed : List SignedOctets) × ListsRrsets 1 rrsets.now listed
         × (string_bytes text ≡ listing_text Json moment listed)) }
 {
     let mut text = String::new(alloc);
-    let seconds = moment.seconds();
     write!(
         text,
-        "{{\"command\":\"list\",\"moment\":{seconds},\"data\":["
+        "{{\"command\":\"list\",\"moment\":{moment},\"data\":["
     )?;
     push_rrsets(alloc, &mut text, Format::Json, rrsets)?;
     text.push_str("]}\n")?;

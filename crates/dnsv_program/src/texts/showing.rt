@@ -1,28 +1,15 @@
-//! The text of `show`: the captured messages with their questions and records.
-ghost use Rattle.std.specs.Prelude.{◌≡◌, ◌++◌, ◌+◌, ◌<◌, ◌≤◌, List, IfErr, IfOk, IfSome, OnOk, length, flat_map, string_bytes};
+//! The text of `show`: a captured message with its questions and records.
+ghost use Rattle.std.specs.Prelude.{◌≡◌, ◌++◌, ◌+◌, ◌<◌, ◌≤◌, OnOk, length, flat_map, string_bytes};
 ghost use Rattle.arrayvec.specs.ArrayString.{array_string_len};
-ghost use Rattle.dnsv_message.specs.Message.{Contents};
-ghost use Rattle.dnsv_message.specs.Streams.Counted.{inner_of, failures_of};
-ghost use Rattle.dnsv_message.specs.Streams.Frames.{octets_at_each};
-ghost use Rattle.dnsv_canonical.specs.Evidence.{no_evidence};
-ghost use Rattle.dnsv_program.specs.Files.Capture.{AnyMessage, AllTaken, FirstRefused, IsFaultOfCapture};
-ghost use Rattle.dnsv_program.specs.Files.Faults.{TellsFileFaults};
-ghost use Rattle.dnsv_program.specs.Texts.Showing.{IsShowing, texts_from, message_line, question_line, record_line};
+ghost use Rattle.dnsv_program.specs.Texts.Showing.{texts_from, message_line, question_line, record_line};
 ghost use Rattle.dnsv_program.specs.Texts.Showing.{message_text, about_text};
-ghost use Rattle.dnsv_program.specs.Told.{IsFaultOf};
-ghost use Rattle.dnsv_program.specs.declared.opening.Opening.TheVariants.{Plain};
 
-use crate::files::capture::{frames, message_of};
-use crate::opening::Opening;
-use crate::status::{Fault, InputFile};
 use crate::texts::hex_text::push_hex_text;
 use arrayvec::ArrayString;
-use bumpalo::Bump;
-use dnsv_message::{Class, Counted, Message, NameRef, Question, Record, Section};
+use dnsv_message::{Class, Message, NameRef, Question, Record, Section};
 use dnsv_names::{RecordType, TEXT_LIMIT};
 use itoa::Buffer;
 use std::alloc::{AllocError, Global};
-use std::io::Read;
 
 /// How much room a name, a type and a class take in a line.
 const ABOUT_LIMIT: usize = TEXT_LIMIT + 12;
@@ -33,44 +20,9 @@ const LINE_LIMIT: usize = ABOUT_LIMIT + 64;
 /// A line, or its beginning up to the RDATA. It takes no memory of its own.
 type Line = ArrayString<LINE_LIMIT>;
 
-/// The lines of each message of the file, whose octets are placed in the arena.
-///
-/// The fault is the first in the order of the work: reading the file, its framing, and then each message in
-/// turn.
-pub fn showing<R: Read>(
-    alloc: Global,
-    capture: &mut Counted<R>,
-    bump: &Bump,
-) -> Result<String, Fault>
-    ensures text { IfOk result (λ text. IfSome (R.remaining (inner_of capture.old)) (λ file.
-        IsShowing file (string_bytes text))) }
-    ensures faults { TellsFileFaults InputFile.Capture (IsFaultOfCapture AnyMessage Plain)
-        (R.remaining (inner_of capture.old)) (failures_of capture.old) (failures_of capture.new) result }
-{
-    let frames = frames(alloc, capture, bump)?;
-    messages_of_frames(alloc, &frames, bump)
-}
-
-/// The lines of the message of each frame; the fault is that of the first that holds none. One message at a time is
-/// kept.
-fn messages_of_frames(alloc: Global, frames: &[&[u8]], bump: &Bump) -> Result<String, Fault>
-    ensures taken { IfOk result (λ text. (messages : List Contents)
-        × AllTaken AnyMessage Plain no_evidence 1 (octets_at_each frames.now) messages
-        × (string_bytes text ≡ texts_from message_text 1 messages)) }
-    ensures refused { IfErr result
-        (IsFaultOf (FirstRefused AnyMessage Plain no_evidence 1 (octets_at_each frames.now))) }
-{
-    let mut text = String::new(alloc);
-    for (index, frame) in frames.iter().enumerate() {
-        let message = message_of(alloc, &Opening::Plain, frame, index + 1, bump)?;
-        push_message(alloc, &mut text, index + 1, &message)?;
-    }
-    Ok(text)
-}
-
 /// Adds the lines of the message with this number: its header, its questions and its records, which are
 /// numbered from 1 through the three sections.
-fn push_message(
+pub fn push_message(
     alloc: Global,
     text: &mut String,
     number: usize,

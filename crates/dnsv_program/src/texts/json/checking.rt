@@ -1,17 +1,17 @@
 //! The JSON of `check` and of `explain`: a question's verdict, what carries it, and why it stands.
 ghost use Rattle.std.specs.Prelude.{◌≡◌, ◌++◌, ◌∷◌, [], Some, false, true, codes, is_some, map, IfOk, OnOk, string_bytes};
+ghost use Rattle.std.specs.Option.{option_map};
 ghost use Rattle.dnsv_lines.specs.Json.{array, parted, still_first};
 ghost use Rattle.dnsv_program.specs.Texts.Checking as specs;
 
 use crate::command_line::question::question_word;
-use crate::texts::checking::{Asked, status_of, verdict_word};
+use crate::texts::checking::{Heading, verdict_word};
 use crate::texts::format::Format;
 use crate::texts::json::explaining::push_why;
 use crate::texts::json::todo::push_entries;
 use crate::texts::reason::push_reason;
 use dnsv_canonical::{RecordNumber, Rrset, numbered};
-use dnsv_explain::Explanation;
-use dnsv_lines::{push_comma, push_name};
+use dnsv_lines::{Line, push_comma, push_name};
 use dnsv_names::Name;
 use dnsv_verdict::{Link, Report, Verdict};
 use dnsv_verifier::Entries;
@@ -20,17 +20,17 @@ use std::alloc::{AllocError, Global};
 /// The object of the question, its verdict, the aliases, what carries the verdict, and why it stands.
 pub fn verdict_json(
     alloc: Global,
-    asked: &Asked<'_>,
+    heading: &Heading<'_>,
     rrsets: &[Rrset<'_>],
     report: &Report<'_>,
-    why: &Option<Explanation>,
+    why: Option<&[Line]>,
 ) -> Result<String, AllocError>
     ensures { IfOk result (λ text. string_bytes text
-        ≡ specs.verdict_json asked.now.name.now asked.now.rtype.0 asked.now.moment rrsets.now report.now.links
-        report.now.verdict why.now) }
+        ≡ specs.verdict_json heading.now.name.now heading.now.rtype.0 heading.now.moment heading.now.status rrsets.now report.now.links
+        report.now.verdict (option_map (λ lines. lines.now) why.entry)) }
 {
     let mut text = String::new(alloc);
-    push_verdict(&mut text, why.is_some(), asked, &report.verdict)?;
+    push_verdict(&mut text, why.is_some(), heading, &report.verdict)?;
     text.push_str(",\"aliases\":")?;
     push_aliases(&mut text, report.links.as_slice())?;
     push_reason(&mut text, Format::Json, rrsets, &report.verdict)?;
@@ -43,22 +43,22 @@ pub fn verdict_json(
 fn push_verdict(
     text: &mut String,
     why: bool,
-    asked: &Asked<'_>,
+    heading: &Heading<'_>,
     verdict: &Verdict<'_>,
 ) -> Result<(), AllocError>
     ensures { OnOk result (string_bytes text.new ≡ string_bytes text.old
-        ++ (codes "{" ++ parted true (specs.verdict_members why asked.now.name.now asked.now.rtype.0 asked.now.moment
-        verdict.now))) }
+        ++ (codes "{" ++ parted true (specs.verdict_members why heading.now.name.now heading.now.rtype.0 heading.now.moment
+        heading.now.status verdict.now))) }
 {
     let command = question_word(why);
-    let rtype = asked.rtype.0;
-    let seconds = asked.moment.seconds();
+    let rtype = heading.rtype.0;
+    let moment = heading.moment;
     let word = verdict_word(verdict);
-    let code = status_of(verdict).code();
+    let status = heading.status;
     write!(text, "{{\"command\":\"{command}\",\"name\":")?;
-    push_name(text, asked.name)?;
-    write!(text, ",\"type\":{rtype},\"moment\":{seconds}")?;
-    write!(text, ",\"verdict\":\"{word}\",\"status\":{code}")?;
+    push_name(text, heading.name)?;
+    write!(text, ",\"type\":{rtype},\"moment\":{moment}")?;
+    write!(text, ",\"verdict\":\"{word}\",\"status\":{status}")?;
     Ok(())
 }
 

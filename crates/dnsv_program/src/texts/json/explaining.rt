@@ -2,19 +2,19 @@
 ghost use Rattle.std.specs.Prelude.{◌≡◌, ◌++◌, ◌∷◌, [], Some, false, map, OnOk, string_bytes};
 ghost use Rattle.dnsv_lines.specs.Json.{AddsMembers, array, parted};
 ghost use Rattle.dnsv_lines.specs.Rows.{line_json};
+ghost use Rattle.std.specs.Option.{option_map};
 ghost use Rattle.dnsv_program.specs.Texts.Why.{why_members};
 
-use dnsv_explain::Explanation;
 use dnsv_lines::{Line, push_comma, push_line};
 use std::alloc::AllocError;
 
 /// Adds a member with the lines that say why, where there are such.
 #[tactic(auto, using(crate::proofs::TextLemmas::Objects::nothing_written))]
-pub fn push_why(text: &mut String, why: &Option<Explanation>) -> Result<(), AllocError>
-    ensures { OnOk result (AddsMembers (why_members why.now) (string_bytes text.old) (string_bytes text.new)) }
+pub fn push_why(text: &mut String, why: Option<&[Line]>) -> Result<(), AllocError>
+    ensures { OnOk result (AddsMembers (why_members (option_map (λ lines. lines.now) why.entry)) (string_bytes text.old) (string_bytes text.new)) }
 {
     match why {
-        Some(explanation) => push_explanation(text, explanation.lines()),
+        Some(lines) => push_explanation(text, lines),
         None => Ok(()),
     }
 }

@@ -4,21 +4,19 @@ ghost use Rattle.dnsv_lines.specs.Json.{array, parted};
 ghost use Rattle.dnsv_program.specs.Texts.Todo as specs;
 ghost use Rattle.dnsv_program.specs.declared.texts.format.Format.TheVariants.{Json};
 
-use crate::command_line::moment::Moment;
 use crate::texts::json::push_octets;
 use dnsv_lines::push_comma;
 use dnsv_verifier::{Entries, Entry};
 use std::alloc::{AllocError, Global};
 
-/// The object with the entries.
-pub fn todo_json(alloc: Global, moment: Moment, entries: &Entries<'_>) -> Result<String, AllocError>
+/// The object with the moment, in seconds since 1970-01-01 00:00:00 UTC, and the entries.
+pub fn todo_json(alloc: Global, moment: u64, entries: &Entries<'_>) -> Result<String, AllocError>
     ensures { IfOk result (λ text. string_bytes text ≡ specs.todo_text Json moment entries.now) }
 {
     let mut text = String::new(alloc);
-    let seconds = moment.seconds();
     write!(
         text,
-        "{{\"command\":\"list\",\"moment\":{seconds},\"todo\":["
+        "{{\"command\":\"list\",\"moment\":{moment},\"todo\":["
     )?;
     push_objects(&mut text, entries)?;
     text.push_str("]}\n")?;

@@ -5,7 +5,7 @@ use Rattle.dnsv_program.specs.declared.status.InputFile.TheVariants.{Capture, St
 use Rattle.dnsv_program.specs.Run.{IsFirstFaultOfList, IsReachedByList}
 use Rattle.dnsv_program.proofs.FileLemmas.Faults.{captured, has_evidence, reads_untouched}
 use Rattle.dnsv_program.proofs.ReachedLemmas.{given_file, list_captured, list_reached, list_stated, reached_by, reached_given}
-use Rattle.dnsv_program.proofs.work.list.Goals as goal
+use Rattle.dnsv_program.proofs.work.listing.list.Goals as goal
 
 pub returns-in_err-held-clause-faults : goal.returns-in_err-held-clause-faults
 returns-in_err-held-clause-faults g c =

@@ -1,7 +1,7 @@
 use Rattle.std.proofs.lemmas.Result.{err_from_is_err_and}
 use Rattle.dnsv_program.proofs.FileLemmas.Capture.{IsFaultOf-weaker, MessagesSoFar-no_message, frame_at}
-use Rattle.dnsv_program.proofs.TextLemmas.Showing.{ShownSoFar-next}
-use Rattle.dnsv_program.proofs.texts.showing.messages_of_frames.Goals as goal
+use Rattle.dnsv_program.proofs.WorkLemmas.Showing.{ShownSoFar-next}
+use Rattle.dnsv_program.proofs.work.showing.messages_of_frames.Goals as goal
 
 pub loop-index-preserved : goal.loop-index-preserved
 loop-index-preserved c =
