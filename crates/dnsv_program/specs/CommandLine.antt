@@ -16,12 +16,13 @@ use Rattle.clap.specs.declared.error.kind.ErrorKind.{ErrorKind}
 use Rattle.clap.specs.declared.error.kind.ErrorKind.TheVariants as kind
 use Rattle.std.specs.declared.io.ErrorKind.{ErrorKind as IoErrorKind}
 use Rattle.std.specs.declared.io.ErrorKind.TheVariants as io
-use Rattle.dnsv_program.specs.CommandLine.Commands.{program_app, question_word}
+use Rattle.dnsv_texts.specs.Checking.{question_word}
+use Rattle.dnsv_program.specs.CommandLine.Commands.{program_app}
 use Rattle.dnsv_program.specs.CommandLine.Moment.{last_moment}
 use Rattle.dnsv_program.specs.declared.command_line.request.Request.{Request}
 use Rattle.dnsv_program.specs.declared.command_line.request.Request.TheVariants as request
-use Rattle.dnsv_program.specs.declared.texts.format.Format.{Format}
-use Rattle.dnsv_program.specs.declared.texts.format.Format.TheVariants.{Json, Lines}
+use Rattle.dnsv_texts.specs.declared.format.Format.{Format}
+use Rattle.dnsv_texts.specs.declared.format.Format.TheVariants.{Json, Lines}
 use Rattle.dnsv_program.specs.declared.command_line.CommandLineError.{CommandLineError}
 use Rattle.dnsv_program.specs.declared.command_line.CommandLineError.TheVariants as line
 

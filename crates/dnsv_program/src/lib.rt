@@ -1,4 +1,4 @@
-//! What the program `dnssec_check` does: its command line, its files, its texts and its exit status.
+//! What the program `dnssec_check` does: its command line, its files, what is asked of them and its exit status.
 #![tactic(auto)]
 
 pub use command_line::moment::Moment;
@@ -12,7 +12,6 @@ pub use laws::{
 pub use machine::{Host, Machine};
 pub use program::{exit_status, exit_status_on};
 pub use status::{Fault, InputFile, Place, Refusal, Status};
-pub use texts::format::Format;
 pub use work::{Inputs, run};
 
 mod command_line;
@@ -23,5 +22,4 @@ mod machine;
 mod opening;
 mod program;
 mod status;
-mod texts;
 mod work;

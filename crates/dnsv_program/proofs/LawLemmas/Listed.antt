@@ -17,9 +17,9 @@ use Rattle.dnsv_canonical.specs.SignedData.{IsSignedData, signed_label_count}
 use Rattle.dnsv_program.specs.declared.status.Refusal.{Refusal}
 use Rattle.dnsv_program.specs.declared.status.Refusal.TheVariants as refusal
 use Rattle.dnsv_program.specs.declared.opening.Opening.TheVariants.{Plain}
-use Rattle.dnsv_program.specs.declared.texts.format.Format.{Format}
+use Rattle.dnsv_texts.specs.declared.format.Format.{Format}
 use Rattle.dnsv_program.specs.Files.Capture.{AllTaken, Fails, Holds, Meets, NewEvidence}
-use Rattle.dnsv_program.specs.Texts.Listing.{ListsRrsets, ListsSignatures, SignedOctets, listing_text}
+use Rattle.dnsv_texts.specs.Listing.{ListsRrsets, ListsSignatures, SignedOctets, listing_text}
 use Rattle.dnsv_program.specs.Work.Listing.{IsListing}
 use Rattle.dnsv_program.specs.Status.{TellsCaptureError}
 

@@ -21,7 +21,7 @@ use Rattle.dnsv_program.specs.declared.status.Refusal.{Refusal}
 use Rattle.dnsv_program.specs.declared.status.Refusal.TheVariants as refusal
 use Rattle.dnsv_program.specs.declared.status.Status.{Status}
 use Rattle.dnsv_program.specs.Files.Anchors.{HasAnchors, IsFaultOfAnchors}
-use Rattle.dnsv_program.specs.declared.texts.format.Format.{Format}
+use Rattle.dnsv_texts.specs.declared.format.Format.{Format}
 use Rattle.dnsv_program.specs.Files.Capture.{AnyMessage, NewEvidence, Holds, IsFaultOfCapture}
 use Rattle.dnsv_program.specs.Work.Checking.{AreInOrder, IsCheck, IsStopped, basis_in, verdict_fault}
 use Rattle.dnsv_program.specs.Opening.Given.{IsOpeningOf, IsFaultOfOpening}

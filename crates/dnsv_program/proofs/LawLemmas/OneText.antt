@@ -25,20 +25,20 @@ use Rattle.dnsv_program.specs.declared.opening.Opening.TheVariants.{Plain, Signe
 use Rattle.dnsv_program.specs.declared.command_line.request.Request.{Request}
 use Rattle.dnsv_program.specs.declared.command_line.request.Request.TheVariants as request
 use Rattle.dnsv_program.specs.declared.status.Status.{Status}
-use Rattle.dnsv_program.specs.declared.texts.format.Format.{Format}
+use Rattle.dnsv_texts.specs.declared.format.Format.{Format}
 use Rattle.dnsv_program.specs.Files.Capture.{AnyMessage, NewEvidence, Holds}
-use Rattle.dnsv_program.specs.Texts.Checking.{check_text}
+use Rattle.dnsv_texts.specs.Checking.{check_text}
 use Rattle.dnsv_program.specs.Work.Checking.{AreInOrder, IsCheck, IsWhy, basis_in, verdict_status}
 use Rattle.dnsv_program.specs.Opening.Given.{IsOpeningOf}
 use Rattle.dnsv_program.specs.Files.{Files, octets_or_none}
 use Rattle.dnsv_program.specs.Opening.Keys.{MayHaveKeys}
 use Rattle.dnsv_program.specs.Layers.{LayerLaws}
-use Rattle.dnsv_program.specs.Texts.Listing.{ListsRrsets, ListsSignatures, SignedOctets, listing_text}
+use Rattle.dnsv_texts.specs.Listing.{ListsRrsets, ListsSignatures, SignedOctets, listing_text}
 use Rattle.dnsv_program.specs.CommandLine.Question.{Spells}
 use Rattle.dnsv_program.specs.Status.{status_code}
 use Rattle.dnsv_program.specs.Run.{IsAnswered, IsTextAskedFor}
-use Rattle.dnsv_program.specs.Texts.Showing.{message_text, texts_from}
-use Rattle.dnsv_program.specs.Texts.Todo.{todo_text}
+use Rattle.dnsv_texts.specs.Showing.{message_text, texts_from}
+use Rattle.dnsv_texts.specs.Todo.{todo_text}
 use Rattle.dnsv_program.specs.Work.Listing.{IsTodo}
 use Rattle.dnsv_program.proofs.OpeningLemmas.Keys.{same_keys}
 use Rattle.dnsv_program.proofs.OpeningLemmas.Macs.{same_macs}

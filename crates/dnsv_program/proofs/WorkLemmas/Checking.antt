@@ -15,12 +15,12 @@ use Rattle.dnsv_program.specs.Files.Anchors.{HasAnchors}
 use Rattle.dnsv_program.specs.declared.opening.Opening.{Opening}
 use Rattle.dnsv_program.specs.Files.Capture.{Holds, NewEvidence}
 use Rattle.dnsv_program.specs.Opening.Given.{IsOpeningOf}
-use Rattle.dnsv_program.specs.Texts.Checking.{check_text}
+use Rattle.dnsv_texts.specs.Checking.{check_text}
 use Rattle.dnsv_program.specs.Work.Checking.{AreInOrder, IsCheck, IsWhy, verdict_status}
 use Rattle.dnsv_program.specs.Files.{Files, octets_or_none}
 use Rattle.dnsv_program.specs.Files.Statements.{IsMeaningOf}
 use Rattle.dnsv_program.specs.declared.work.Outcome.{Outcome}
-use Rattle.dnsv_program.specs.declared.texts.format.Format.{Format}
+use Rattle.dnsv_texts.specs.declared.format.Format.{Format}
 use Rattle.dnsv_program.specs.declared.status.Fault.{Fault}
 use Rattle.dnsv_program.proofs.FileLemmas.Faults.{of_told}
 

@@ -7,8 +7,8 @@ use Rattle.dnsv_program.specs.Files.Capture.{AnyMessage, AllTaken}
 use Rattle.dnsv_program.specs.Opening.{IsInFrame}
 use Rattle.dnsv_program.specs.declared.opening.Opening.TheVariants.{Plain}
 use Rattle.dnsv_program.proofs.FileLemmas.Capture.{MessagesSoFar, MessagesSoFar-start, MessagesSoFar-next, MessagesSoFar-all}
-use Rattle.dnsv_program.specs.Texts.Showing.{message_text, texts_from}
-use Rattle.dnsv_program.proofs.TextLemmas.Showing.{texts_from-append}
+use Rattle.dnsv_texts.specs.Showing.{message_text, texts_from}
+use Rattle.dnsv_texts.proofs.ShowingLemmas.{texts_from-append}
 
 -- the messages before the place are taken, and their lines are written
 pub record ShownSoFar (frames : List (List ℕ)) (done : ℕ) (text : List ℕ) : Type 0 where

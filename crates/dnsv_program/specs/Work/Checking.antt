@@ -22,8 +22,8 @@ use Rattle.dnsv_program.specs.Opening.Given.{IsOpeningOf}
 use Rattle.dnsv_program.specs.Files.{Files, octets_or_none}
 use Rattle.dnsv_program.specs.Files.Statements.{IsMeaningOf}
 use Rattle.dnsv_program.specs.Status.{status_code}
-use Rattle.dnsv_program.specs.declared.texts.format.Format.{Format}
-use Rattle.dnsv_program.specs.Texts.Checking.{check_text}
+use Rattle.dnsv_texts.specs.declared.format.Format.{Format}
+use Rattle.dnsv_texts.specs.Checking.{check_text}
 use Rattle.dnsv_program.specs.Told.{nowhere}
 use Rattle.dnsv_program.specs.declared.status.Fault.{Fault}
 use Rattle.dnsv_program.specs.declared.status.Fault.TheVariants as fault

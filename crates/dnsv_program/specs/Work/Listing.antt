@@ -9,9 +9,9 @@ use Rattle.dnsv_program.specs.declared.opening.Opening.TheVariants.{Plain}
 use Rattle.dnsv_program.specs.Files.Capture.{Holds, NewEvidence}
 use Rattle.dnsv_program.specs.Files.{Files, octets_or_none}
 use Rattle.dnsv_program.specs.Files.Statements.{IsMeaningOf}
-use Rattle.dnsv_program.specs.declared.texts.format.Format.{Format}
-use Rattle.dnsv_program.specs.Texts.Listing.{ListsRrsets, SignedOctets, listing_text}
-use Rattle.dnsv_program.specs.Texts.Todo.{todo_text}
+use Rattle.dnsv_texts.specs.declared.format.Format.{Format}
+use Rattle.dnsv_texts.specs.Listing.{ListsRrsets, SignedOctets, listing_text}
+use Rattle.dnsv_texts.specs.Todo.{todo_text}
 
 -- the file holds messages, each of them evidence besides those before it, and the text lists their signatures
 abbrev pub IsListing : Format → ℕ → List ℕ → List ℕ → Type 0

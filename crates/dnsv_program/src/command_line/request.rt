@@ -4,8 +4,8 @@ ghost use Rattle.std.specs.Option.{option_map};
 ghost use Rattle.dnsv_program.specs.CommandLine.Paths.{anchors_of, capture_of, keys_of, macs_of, statements_of};
 
 use crate::command_line::moment::Moment;
-use crate::texts::format::Format;
 use dnsv_names::RecordType;
+use dnsv_texts::Format;
 
 /// What the program is asked to do.
 #[derive(Debug, Drop)]

@@ -33,7 +33,8 @@ pub fn check<R: Read>(
     bump: &Bump,
 ) -> Result<Outcome, Fault>
     ensures text { (files : Files) → AreTold R.remaining inputs.old files → IfOk result (λ outcome.
-        IsAnswered telling.format telling.why asked.now rtype.0 moment files outcome.status (string_bytes outcome.text)) }
+        IsAnswered telling.format telling.why asked.now rtype.0 moment files outcome.status
+        (string_bytes outcome.text)) }
     ensures faults { TellsFaults (IsFirstFaultOfCheck asked.now rtype.0 moment) R.remaining inputs.old inputs.new
         result }
     ensures question { (fault : Fault) → IsFaultOfQuestion asked.now rtype.0 fault → result ≡ Err fault }
@@ -60,9 +61,10 @@ fn check_question<R: Read>(
 ) -> Result<Outcome, Fault>
     requires { IsQuestion asked.now.name.now asked.now.rtype.0 }
     ensures text { (files : Files) → AreTold R.remaining inputs.old files → IfOk result (λ outcome.
-        IsCheck telling.format telling.why asked.now.name.now asked.now.rtype.0 asked.now.moment files outcome.status (string_bytes outcome.text)) }
-    ensures faults { TellsFaults (IsFirstFaultOfName asked.now.name.now asked.now.rtype.0 asked.now.moment) R.remaining inputs.old inputs.new
-        result }
+        IsCheck telling.format telling.why asked.now.name.now asked.now.rtype.0 asked.now.moment files outcome.status
+        (string_bytes outcome.text)) }
+    ensures faults { TellsFaults (IsFirstFaultOfName asked.now.name.now asked.now.rtype.0 asked.now.moment)
+        R.remaining inputs.old inputs.new result }
     ensures reached { (files : Files) → AreTold R.remaining inputs.old files
         → IfErr result (OfFailedRead (IsReachedOfFiles asked.now.moment files)) }
     ensures unwritten { IfErr result (λ fault. fault ≡ Fault.WriteFailed → ⊥) }

@@ -10,14 +10,12 @@ ghost use Rattle.dnsv_verdict.specs.Verdict.{basis_of};
 ghost use Rattle.dnsv_verdict.specs.VerdictError.{verdict_error_code};
 ghost use Rattle.dnsv_lines.specs.declared.line.Line.{Line};
 ghost use Rattle.dnsv_program.specs.Status.{fault_number, status_code};
-ghost use Rattle.dnsv_program.specs.Texts.Checking as texts;
+ghost use Rattle.dnsv_texts.specs.Checking as texts;
 ghost use Rattle.dnsv_program.specs.Work.Checking as specs;
 ghost use Rattle.dnsv_program.specs.Work.Checking.{IsWhy};
 
 use crate::command_line::moment::Moment;
 use crate::status::{Fault, Place, Refusal, Status};
-use crate::texts::checking::{Heading, check_text};
-use crate::texts::format::Format;
 use crate::work::Outcome;
 use bumpalo::Bump;
 use dnsv_canonical::{Capture, Rrset};
@@ -25,6 +23,7 @@ use dnsv_chain::Anchors;
 use dnsv_explain::{Explanation, explain};
 use dnsv_lines::Line;
 use dnsv_names::{Name, RecordType};
+use dnsv_texts::{Format, Heading, check_text};
 use dnsv_verdict::{Report, Verdict, VerdictError, validate};
 use dnsv_verifier::Verifier;
 use std::alloc::{AllocError, Global};
@@ -126,12 +125,13 @@ fn report_and_why<'a, V: Verifier>(
     anchors: &'a Anchors<'a>,
     verifier: &V,
 ) -> Result<(Report<'a>, Option<Explanation>), VerdictError>
-    ensures verdict { IfOk result (λ told. IsVerdictOf (basis_of held.now.rrsets anchors.now asked.now.moment (V.meaning
-        verifier.now)) asked.now.name.now asked.now.rtype.0 told.0.links told.0.last told.0.verdict) }
-    ensures why { IfOk result (λ told. IsWhy why (basis_of held.now.rrsets anchors.now asked.now.moment (V.meaning verifier.now))
-        asked.now.rtype.0 told.0 told.1) }
+    ensures verdict { IfOk result (λ told. IsVerdictOf (basis_of held.now.rrsets anchors.now asked.now.moment
+        (V.meaning verifier.now)) asked.now.name.now asked.now.rtype.0 told.0.links told.0.last told.0.verdict) }
+    ensures why { IfOk result (λ told. IsWhy why (basis_of held.now.rrsets anchors.now asked.now.moment
+        (V.meaning verifier.now)) asked.now.rtype.0 told.0 told.1) }
     ensures refused { IfErr result (λ error. (error ≡ OutOfMemory)
-        ⊎ IsRefusal (basis_of held.now.rrsets anchors.now asked.now.moment (V.meaning verifier.now)) asked.now.name.now asked.now.rtype.0 error) }
+        ⊎ IsRefusal (basis_of held.now.rrsets anchors.now asked.now.moment (V.meaning verifier.now))
+        asked.now.name.now asked.now.rtype.0 error) }
 {
     let seconds = asked.moment.seconds();
     let Asked { name, rtype, .. } = *asked;

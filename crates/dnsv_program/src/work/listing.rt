@@ -4,20 +4,18 @@ ghost use Rattle.dnsv_verifier.specs.Table.{IsTableOf, TableContents, unknown_en
 ghost use Rattle.dnsv_program.specs.Files.Faults.{OfFailedRead, TellsFaults};
 ghost use Rattle.dnsv_program.specs.Files.{AreTold, Files};
 ghost use Rattle.dnsv_program.specs.Run.{IsFirstFaultOfList, IsListed, IsReachedByList};
-ghost use Rattle.dnsv_program.specs.Texts.Todo as specs;
+ghost use Rattle.dnsv_texts.specs.Todo as specs;
 
 use crate::command_line::moment::Moment;
 use crate::files::capture::evidence_in;
 use crate::files::text::text_in;
 use crate::opening::Opening;
 use crate::status::{Fault, InputFile};
-use crate::texts::format::Format;
-use crate::texts::listing::listing;
-use crate::texts::todo::todo_text;
 use crate::work::Inputs;
 use bumpalo::Bump;
 use dnsv_canonical::Capture;
 use dnsv_names::Count;
+use dnsv_texts::{Format, listing_text, todo_text};
 use dnsv_verifier::{Statements, Verifier, ask_all};
 use std::alloc::{AllocError, Global};
 use std::io::Read;
@@ -40,7 +38,7 @@ pub fn list<R: Read>(
 {
     let held = evidence_in(alloc, &Opening::Plain, &mut inputs.capture, bump)?;
     if all {
-        return Ok(listing(alloc, format, moment.seconds(), &held)?);
+        return Ok(listing_text(alloc, format, moment.seconds(), &held)?);
     }
     let statements: Statements = text_in(alloc, InputFile::Statements, &mut inputs.statements)?;
     Ok(still_to_check(alloc, bump, format, &held, moment, &statements)?)

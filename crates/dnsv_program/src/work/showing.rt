@@ -8,7 +8,7 @@ ghost use Rattle.dnsv_program.specs.Files.Capture.{AnyMessage, AllTaken, FirstRe
 ghost use Rattle.dnsv_program.specs.Files.Faults.{OfFailedRead, TellsFaults, TellsFileFaults};
 ghost use Rattle.dnsv_program.specs.Files.{AreTold, Files};
 ghost use Rattle.dnsv_program.specs.Run.{IsCaptureReached};
-ghost use Rattle.dnsv_program.specs.Texts.Showing.{message_text, texts_from};
+ghost use Rattle.dnsv_texts.specs.Showing.{message_text, texts_from};
 ghost use Rattle.dnsv_program.specs.Told.{IsFaultOf};
 ghost use Rattle.dnsv_program.specs.Work.Showing.{IsShowing};
 ghost use Rattle.dnsv_program.specs.declared.opening.Opening.TheVariants.{Plain};
@@ -16,10 +16,10 @@ ghost use Rattle.dnsv_program.specs.declared.opening.Opening.TheVariants.{Plain}
 use crate::files::capture::{frames, message_of};
 use crate::opening::Opening;
 use crate::status::{Fault, InputFile};
-use crate::texts::showing::push_message;
 use crate::work::Inputs;
 use bumpalo::Bump;
 use dnsv_message::Counted;
+use dnsv_texts::push_message;
 use std::alloc::Global;
 use std::io::Read;
 
