@@ -19,13 +19,13 @@ use Rattle.dnsv_program.specs.declared.status.InputFile.{InputFile}
 use Rattle.dnsv_program.specs.declared.status.InputFile.TheVariants.{Anchors, Capture, Keys, Macs, Statements}
 use Rattle.dnsv_program.specs.Files.Anchors.{HasAnchors}
 use Rattle.dnsv_program.specs.Files.Capture.{Holds, NewEvidence}
-use Rattle.dnsv_program.specs.Texts.Checking.{IsStopped, verdict_fault}
+use Rattle.dnsv_program.specs.Work.Checking.{IsStopped, verdict_fault}
 use Rattle.dnsv_program.specs.Opening.Given.{IsOpeningOf}
 use Rattle.dnsv_program.specs.Files.Faults.{OfFailedRead, OfOctets, TellsFailedReads, TellsFaults}
 use Rattle.dnsv_program.specs.Files.{AreTold, Files, given_failures, octets_or_none}
 use Rattle.dnsv_program.specs.Run.{IsFirstFaultOfFiles, IsFirstFaultOfName}
 use Rattle.dnsv_program.specs.Files.Statements.{IsMeaningOf}
-use Rattle.dnsv_program.proofs.TextLemmas.Checking.{all_in_order}
+use Rattle.dnsv_program.proofs.WorkLemmas.Checking.{all_in_order}
 use Rattle.dnsv_program.proofs.FileLemmas.Faults.{CapturedBy, IsOther, all_taken, of_told, reads_then, TellsFaults-weaker}
 
 -- it tells no failed read

@@ -5,4 +5,4 @@ pub mod LawLemmas
 pub mod OpeningLemmas
 pub mod ProgramLemmas
 pub mod ReachedLemmas
-pub mod TextLemmas
+pub mod WorkLemmas

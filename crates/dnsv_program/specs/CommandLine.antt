@@ -16,10 +16,13 @@ use Rattle.clap.specs.declared.error.kind.ErrorKind.{ErrorKind}
 use Rattle.clap.specs.declared.error.kind.ErrorKind.TheVariants as kind
 use Rattle.std.specs.declared.io.ErrorKind.{ErrorKind as IoErrorKind}
 use Rattle.std.specs.declared.io.ErrorKind.TheVariants as io
-use Rattle.dnsv_program.specs.CommandLine.Commands.{program_app, question_word}
+use Rattle.dnsv_texts.specs.Checking.{question_word}
+use Rattle.dnsv_program.specs.CommandLine.Commands.{program_app}
 use Rattle.dnsv_program.specs.CommandLine.Moment.{last_moment}
 use Rattle.dnsv_program.specs.declared.command_line.request.Request.{Request}
 use Rattle.dnsv_program.specs.declared.command_line.request.Request.TheVariants as request
+use Rattle.dnsv_texts.specs.declared.format.Format.{Format}
+use Rattle.dnsv_texts.specs.declared.format.Format.TheVariants.{Json, Lines}
 use Rattle.dnsv_program.specs.declared.command_line.CommandLineError.{CommandLineError}
 use Rattle.dnsv_program.specs.declared.command_line.CommandLineError.TheVariants as line
 
@@ -36,17 +39,22 @@ abbrev pub flag_said : Option Text → Bool
 flag_said None = false
 flag_said (Some text) = bytes_eq text (codes "true")
 
+-- lines, or JSON, where the flag for it was given
+abbrev pub format_said : Bool → Format
+format_said false = Lines
+format_said true = Json
+
 -- a subcommand and the values of its options ask for the request
 abbrev pub Asks : Text → List Row → Request → Type 0
 Asks name rows (request.Show capture) = (name ≡ codes "show")
     × (first_of (codes "capture") rows ≡ Some (string_bytes capture))
-Asks name rows (request.List capture moment statements all json) = (name ≡ codes "list")
+Asks name rows (request.List capture moment statements all format) = (name ≡ codes "list")
     × (first_of (codes "capture") rows ≡ Some (string_bytes capture))
     × (option_and_then (number_said last_moment) (first_of (codes "moment") rows) ≡ Some moment)
     × (first_of (codes "statements") rows ≡ option_map string_bytes statements)
     × (flag_said (one_of (codes "all") rows) ≡ all)
-    × (flag_said (one_of (codes "json") rows) ≡ json)
-Asks name rows (request.Check capture anchors moment asked rtype statements keys macs json why) = (name ≡ question_word why)
+    × (format_said (flag_said (one_of (codes "json") rows)) ≡ format)
+Asks name rows (request.Check capture anchors moment asked rtype statements keys macs format why) = (name ≡ question_word why)
     × (first_of (codes "capture") rows ≡ Some (string_bytes capture))
     × (first_of (codes "anchors") rows ≡ Some (string_bytes anchors))
     × (option_and_then (number_said last_moment) (first_of (codes "moment") rows) ≡ Some moment)
@@ -55,7 +63,7 @@ Asks name rows (request.Check capture anchors moment asked rtype statements keys
     × (first_of (codes "statements") rows ≡ option_map string_bytes statements)
     × (first_of (codes "keys") rows ≡ option_map string_bytes keys)
     × (first_of (codes "macs") rows ≡ option_map string_bytes macs)
-    × (flag_said (one_of (codes "json") rows) ≡ json)
+    × (format_said (flag_said (one_of (codes "json") rows)) ≡ format)
 
 -- the program takes the words, and their subcommand and its values ask for the request
 abbrev pub IsAccepted : List Text → Request → Type 0

@@ -5,5 +5,5 @@ pub mod Opening
 pub mod Program
 pub mod Run
 pub mod Status
-pub mod Texts
 pub mod Told
+pub mod Work

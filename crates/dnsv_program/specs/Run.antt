@@ -14,36 +14,37 @@ use Rattle.dnsv_program.specs.declared.status.InputFile.{InputFile}
 use Rattle.dnsv_program.specs.declared.status.InputFile.TheVariants.{Anchors, Capture, Keys, Macs, Statements}
 use Rattle.dnsv_program.specs.declared.status.Status.{Status}
 use Rattle.dnsv_program.specs.declared.status.Status.TheVariants.{Done}
+use Rattle.dnsv_texts.specs.declared.format.Format.{Format}
 use Rattle.dnsv_program.specs.Files.Anchors.{HasAnchors, IsFaultOfAnchors}
 use Rattle.dnsv_program.specs.Files.Capture.{AnyMessage, NewEvidence, Holds, IsFaultOfCapture}
-use Rattle.dnsv_program.specs.Texts.Checking.{IsCheck, IsStopped}
+use Rattle.dnsv_program.specs.Work.Checking.{IsCheck, IsStopped}
 use Rattle.dnsv_program.specs.Opening.Given.{IsOpeningOf, IsOpeningReached, IsFaultOfOpening}
 use Rattle.dnsv_program.specs.Files.{Files, IsGiven, octets_or_none}
-use Rattle.dnsv_program.specs.Texts.Listing.{IsListing}
+use Rattle.dnsv_program.specs.Work.Listing.{IsListing}
 use Rattle.dnsv_program.specs.CommandLine.Question.{IsQuestionRefused, Spells}
-use Rattle.dnsv_program.specs.Texts.Showing.{IsShowing}
+use Rattle.dnsv_program.specs.Work.Showing.{IsShowing}
 use Rattle.dnsv_program.specs.Files.Statements.{IsFaultOfStatements}
-use Rattle.dnsv_program.specs.Texts.Todo.{IsTodo}
+use Rattle.dnsv_program.specs.Work.Listing.{IsTodo}
 
 -- ---- the text
 
 -- the question is one that can be asked, and the end and the text are those of its check
-abbrev pub IsAnswered : Bool → Bool → List ℕ → ℕ → ℕ → Files → Status → List ℕ → Type 0
-IsAnswered json why asked rtype moment files end text =
-    (name : Labels) × Spells asked name × IsQuestion name rtype × IsCheck json why name rtype moment files end text
+abbrev pub IsAnswered : Format → Bool → List ℕ → ℕ → ℕ → Files → Status → List ℕ → Type 0
+IsAnswered format why asked rtype moment files end text =
+    (name : Labels) × Spells asked name × IsQuestion name rtype × IsCheck format why name rtype moment files end text
 
 -- what each signature signs, or what a verifier still has to check
-abbrev pub IsListed : Bool → Bool → ℕ → Files → List ℕ → Type 0
-IsListed true json moment files text = IsListing json moment files.capture text
-IsListed false json moment files text = IsTodo json moment files text
+abbrev pub IsListed : Bool → Format → ℕ → Files → List ℕ → Type 0
+IsListed true format moment files text = IsListing format moment files.capture text
+IsListed false format moment files text = IsTodo format moment files text
 
 -- over these files the request ends so, with this text: in JSON, and with why the verdict stands, where it asks for that
 abbrev pub IsTextAskedFor : Request → Files → Status → List ℕ → Type 0
 IsTextAskedFor (request.Show capture) files end text = (end ≡ Done) × IsShowing files.capture text
-IsTextAskedFor (request.List capture moment statements all json) files end text =
-    (end ≡ Done) × IsListed all json moment files text
-IsTextAskedFor (request.Check capture anchors moment asked rtype statements keys macs json why) files end text =
-    IsAnswered json why (string_bytes asked) rtype.0 moment files end text
+IsTextAskedFor (request.List capture moment statements all format) files end text =
+    (end ≡ Done) × IsListed all format moment files text
+IsTextAskedFor (request.Check capture anchors moment asked rtype statements keys macs format why) files end text =
+    IsAnswered format why (string_bytes asked) rtype.0 moment files end text
 
 -- ---- the first fault
 
@@ -90,8 +91,8 @@ IsFaultOfQuestion asked rtype _ = ⊥
 -- the request asks a question, which is refused so
 abbrev pub AsksRefused : Request → Fault → Type 0
 AsksRefused (request.Show capture) fault = ⊥
-AsksRefused (request.List capture moment statements all json) fault = ⊥
-AsksRefused (request.Check capture anchors moment asked rtype statements keys macs json why) fault =
+AsksRefused (request.List capture moment statements all format) fault = ⊥
+AsksRefused (request.Check capture anchors moment asked rtype statements keys macs format why) fault =
     IsFaultOfQuestion (string_bytes asked) rtype.0 fault
 
 -- the first of the files that is at fault has this fault; or none is, and an alias can't be followed
@@ -108,8 +109,8 @@ IsFirstFaultOfCheck asked rtype moment files fault =
 -- the first fault, in the order of the work
 abbrev pub IsFirstFault : Request → Files → Fault → Type 0
 IsFirstFault (request.Show capture) files fault = IsFaultOfCapture AnyMessage Plain files.capture fault
-IsFirstFault (request.List capture moment statements all json) files fault = IsFirstFaultOfList all files fault
-IsFirstFault (request.Check capture anchors moment asked rtype statements keys macs json why) files fault =
+IsFirstFault (request.List capture moment statements all format) files fault = IsFirstFaultOfList all files fault
+IsFirstFault (request.Check capture anchors moment asked rtype statements keys macs format why) files fault =
     IsFirstFaultOfCheck (string_bytes asked) rtype.0 moment files fault
 
 -- ---- what a failed read comes behind
@@ -150,6 +151,6 @@ IsReachedByCheck asked rtype moment files file =
 -- The request reads the file, which is given, and what comes before it in the order of the work is in order.
 abbrev pub IsReached : Request → Files → InputFile → Type 0
 IsReached (request.Show capture) files file = IsCaptureReached file
-IsReached (request.List capture moment statements all json) files file = IsReachedByList all files file
-IsReached (request.Check capture anchors moment asked rtype statements keys macs json why) files file =
+IsReached (request.List capture moment statements all format) files file = IsReachedByList all files file
+IsReached (request.Check capture anchors moment asked rtype statements keys macs format why) files file =
     IsReachedByCheck (string_bytes asked) rtype.0 moment files file

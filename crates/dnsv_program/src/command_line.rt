@@ -3,9 +3,9 @@ ghost use Rattle.std.specs.Prelude.{◌≡◌, ◌≤◌, ⊤, IfErr, IfOk, code
 ghost use Rattle.std.specs.IoError.{error_kind as io_error_kind};
 ghost use Rattle.std.specs.Option.{option_map};
 ghost use Rattle.clap.specs.Words.{first_of, found_of, one_of, rows_of};
-ghost use Rattle.dnsv_program.specs.CommandLine.Commands.{question_word};
+ghost use Rattle.dnsv_texts.specs.Checking.{question_word};
 ghost use Rattle.dnsv_program.specs.CommandLine.{Asks, HasCapture, HasCheckValues, HasListValues, HasNumber, HasValue};
-ghost use Rattle.dnsv_program.specs.CommandLine.{IsAccepted, IsFlag, IsRefused, command_line_code, command_line_error, flag_said, number_said, words_error};
+ghost use Rattle.dnsv_program.specs.CommandLine.{IsAccepted, IsFlag, IsRefused, command_line_code, command_line_error, flag_said, format_said, number_said, words_error};
 ghost use Rattle.dnsv_program.specs.declared.command_line.CommandLineError.TheVariants.{OutOfMemory};
 
 pub mod commands;
@@ -19,6 +19,7 @@ use crate::command_line::request::Request;
 use clap::ArgMatches;
 use clap::error::ErrorKind;
 use dnsv_names::RecordType;
+use dnsv_texts::Format;
 use std::alloc::{AllocError, Global};
 use std::convert::AsStr;
 use std::io;
@@ -126,13 +127,13 @@ fn list_request(alloc: Global, list: &ArgMatches<'_>) -> Result<Request, AllocEr
     let moment = Moment::new(number(list, "moment", Moment::LAST)).unwrap();
     let statements = given_value(alloc, list, "statements")?;
     let all = flag(list, "all");
-    let json = flag(list, "json");
+    let format = format_asked(list);
     Ok(Request::List {
         capture,
         moment,
         statements,
         all,
-        json,
+        format,
     })
 }
 
@@ -149,7 +150,7 @@ fn check_request(alloc: Global, check: &ArgMatches<'_>, why: bool) -> Result<Req
     let statements = given_value(alloc, check, "statements")?;
     let keys = given_value(alloc, check, "keys")?;
     let macs = given_value(alloc, check, "macs")?;
-    let json = flag(check, "json");
+    let format = format_asked(check);
     Ok(Request::Check {
         capture,
         anchors,
@@ -159,7 +160,7 @@ fn check_request(alloc: Global, check: &ArgMatches<'_>, why: bool) -> Result<Req
         statements,
         keys,
         macs,
-        json,
+        format,
         why,
     })
 }
@@ -180,6 +181,18 @@ fn flag(matches: &ArgMatches<'_>, option: &str) -> bool
     ensures { flag_said (one_of option.now (rows_of (found_of matches.now))) ≡ result }
 {
     matches.get_flag(option)
+}
+
+/// How the text is to be written: as JSON, where the flag for it was given.
+fn format_asked(matches: &ArgMatches<'_>) -> Format
+    requires { IsFlag (one_of (codes "json") (rows_of (found_of matches.now))) }
+    ensures { format_said (flag_said (one_of (codes "json") (rows_of (found_of matches.now)))) ≡ result }
+{
+    if flag(matches, "json") {
+        Format::Json
+    } else {
+        Format::Lines
+    }
 }
 
 /// The value of an option that is there.

@@ -1,11 +1,12 @@
 //! What the definitions of a request's text and of its first fault say of each other, for files of octets.
-ghost use Rattle.std.specs.Prelude.{◌≡◌, ◌⊎◌, Bool, List, Option, ℕ};
+ghost use Rattle.std.specs.Prelude.{◌≡◌, ◌⊎◌, List, Option, ℕ};
 ghost use Rattle.dnsv_names.specs.Octets.{AreOctets};
 ghost use Rattle.dnsv_message.specs.Streams.Frames.{IsTooLong};
 ghost use Rattle.dnsv_program.specs.Files.Capture.{AnyMessage, IsRefusal, NewEvidence};
 ghost use Rattle.dnsv_program.specs.declared.opening.Opening.TheVariants.{Plain};
-ghost use Rattle.dnsv_program.specs.Texts.Listing.{IsListing};
-ghost use Rattle.dnsv_program.specs.Texts.Showing.{IsShowing};
+ghost use Rattle.dnsv_texts.specs.declared.format.Format.{Format};
+ghost use Rattle.dnsv_program.specs.Work.Listing.{IsListing};
+ghost use Rattle.dnsv_program.specs.Work.Showing.{IsShowing};
 ghost use Rattle.dnsv_program.specs.Files.{Files};
 ghost use Rattle.dnsv_program.specs.Layers.{LayerLaws};
 ghost use Rattle.dnsv_program.specs.Opening.Macs.{HasMacs, IsFaultOfMacs};
@@ -98,7 +99,8 @@ pub fn every_file_is_shown_or_refused()
 
 /// A file of octets is listed, or refused, or has an octet too many.
 pub fn every_file_is_listed_or_refused()
-    ensures { (json : Bool) (moment : ℕ) (file : List ℕ) → AreOctets file → ((text : List ℕ) × IsListing json moment file text)
+    ensures { (format : Format) (moment : ℕ) (file : List ℕ) → AreOctets file
+        → ((text : List ℕ) × IsListing format moment file text)
         ⊎ (((why : Refusal) × (place : Place) × IsRefusal NewEvidence Plain file why place) ⊎ IsTooLong file) }
 {
     one_answer();

@@ -1,4 +1,4 @@
-//! What the program `dnssec_check` does: its command line, its files, its texts and its exit status.
+//! What the program `dnssec_check` does: its command line, its files, what is asked of them and its exit status.
 #![tactic(auto)]
 
 pub use command_line::moment::Moment;
@@ -22,5 +22,4 @@ mod machine;
 mod opening;
 mod program;
 mod status;
-mod texts;
 mod work;

@@ -1,35 +1,24 @@
 //! The run of a request over its files.
 ghost use Rattle.std.specs.Prelude.{◌≡◌, ◌<◌, List, ℕ, IfErr, IfOk, string_bytes};
 ghost use Rattle.std.specs.Io.KnownBytes.{Appends};
-ghost use Rattle.dnsv_canonical.specs.Rrsets.{IsQuestion};
 ghost use Rattle.dnsv_message.specs.Streams.Counted.{inner_of, failures_of, AppendsBeginning};
-ghost use Rattle.dnsv_program.specs.Files.Capture.{AnyMessage, IsFaultOfCapture};
-ghost use Rattle.dnsv_program.specs.declared.opening.Opening.TheVariants.{Plain};
 ghost use Rattle.dnsv_program.specs.Files.Faults.{OfFailedRead, TellsFaults};
 ghost use Rattle.dnsv_program.specs.Files.{AreTold, Files};
-ghost use Rattle.dnsv_program.specs.Texts.Checking.{IsCheck};
-ghost use Rattle.dnsv_program.specs.Run.{AsksRefused, IsFaultOfQuestion};
-ghost use Rattle.dnsv_program.specs.Run.{IsAnswered, IsTextAskedFor, IsFirstFault, IsFirstFaultOfCheck};
-ghost use Rattle.dnsv_program.specs.Run.{IsFirstFaultOfName, IsFirstFaultOfList, IsListed};
-ghost use Rattle.dnsv_program.specs.Run.{IsCaptureReached, IsReached, IsReachedByCheck, IsReachedByList, IsReachedOfFiles};
-ghost use Rattle.dnsv_program.specs.Texts.Showing.{IsShowing};
+ghost use Rattle.dnsv_program.specs.Run.{AsksRefused, IsFirstFault, IsReached, IsTextAskedFor};
 
-use crate::command_line::moment::Moment;
-use crate::command_line::question::question_name;
+pub mod checking;
+pub mod judging;
+pub mod listing;
+pub mod showing;
+
 use crate::command_line::request::Request;
-use crate::files::anchors::anchors_in;
-use crate::files::capture::evidence_in;
-use crate::files::text::text_in;
-use crate::opening::{Opening, opening_in};
-use crate::status::{Fault, InputFile, Status};
-use crate::texts::checking::{Outcome, judge};
-use crate::texts::listing::listing;
-use crate::texts::showing::showing;
-use crate::texts::todo::still_to_check;
+use crate::status::{Fault, Status};
+use crate::work::checking::check;
+use crate::work::judging::Telling;
+use crate::work::listing::list;
+use crate::work::showing::show;
 use bumpalo::Bump;
 use dnsv_message::Counted;
-use dnsv_names::{Name, RecordType};
-use dnsv_verifier::Statements;
 use std::alloc::Global;
 use std::io::{Read, Write};
 
@@ -46,6 +35,13 @@ pub struct Inputs<R> {
     pub keys: Option<Counted<R>>,
     /// The MACs of the requests, where they are given. They are read where keys are.
     pub macs: Option<Counted<R>>,
+}
+
+/// How a run ends that makes its whole text.
+#[derive(Drop)]
+pub struct Outcome {
+    pub status: Status,
+    pub text: String,
 }
 
 /// Makes the whole text that the request asks for, and then writes it. The octets of the messages lie in an arena of its
@@ -116,26 +112,31 @@ fn outcome_of<R: Read>(
         Request::List {
             all,
             moment,
-            json,
+            format,
             ..
-        } => Ok(done(list(alloc, *all, *json, *moment, inputs, bump)?)),
+        } => Ok(done(list(alloc, *all, *format, *moment, inputs, bump)?)),
         Request::Check {
             name,
             rtype,
             moment,
-            json,
+            format,
             why,
             ..
-        } => check(
-            alloc,
-            *json,
-            *why,
-            name.as_bytes(),
-            *rtype,
-            *moment,
-            inputs,
-            bump,
-        ),
+        } => {
+            let telling = Telling {
+                format: *format,
+                why: *why,
+            };
+            check(
+                alloc,
+                telling,
+                name.as_bytes(),
+                *rtype,
+                *moment,
+                inputs,
+                bump,
+            )
+        }
     }
 }
 
@@ -147,103 +148,4 @@ fn done(text: String) -> Outcome
         status: Status::Done,
         text,
     }
-}
-
-/// The messages with their questions and records.
-fn show<R: Read>(alloc: Global, inputs: &mut Inputs<R>, bump: &Bump) -> Result<String, Fault>
-    ensures text { (files : Files) → AreTold R.remaining inputs.old files
-        → IfOk result (λ text. IsShowing files.capture (string_bytes text)) }
-    ensures faults { TellsFaults (λ files. IsFaultOfCapture AnyMessage Plain files.capture) R.remaining
-        inputs.old inputs.new result }
-    ensures reached { (files : Files) → AreTold R.remaining inputs.old files
-        → IfErr result (OfFailedRead (IsCaptureReached)) }
-    ensures unwritten { IfErr result (λ fault. fault ≡ Fault.WriteFailed → ⊥) }
-{
-    showing(alloc, &mut inputs.capture, bump)
-}
-
-/// What each signature signs, or what a verifier still has to check.
-fn list<R: Read>(
-    alloc: Global,
-    all: bool,
-    json: bool,
-    moment: Moment,
-    inputs: &mut Inputs<R>,
-    bump: &Bump,
-) -> Result<String, Fault>
-    ensures text { (files : Files) → AreTold R.remaining inputs.old files
-        → IfOk result (λ text. IsListed all json moment files (string_bytes text)) }
-    ensures faults { TellsFaults (IsFirstFaultOfList all) R.remaining inputs.old inputs.new result }
-    ensures reached { (files : Files) → AreTold R.remaining inputs.old files
-        → IfErr result (OfFailedRead (IsReachedByList all files)) }
-    ensures unwritten { IfErr result (λ fault. fault ≡ Fault.WriteFailed → ⊥) }
-{
-    let held = evidence_in(alloc, &Opening::Plain, &mut inputs.capture, bump)?;
-    if all {
-        return Ok(listing(alloc, json, moment, &held)?);
-    }
-    let statements: Statements = text_in(alloc, InputFile::Statements, &mut inputs.statements)?;
-    Ok(still_to_check(alloc, bump, json, &held, moment, &statements)?)
-}
-
-/// The verdict on the question, if it is one that can be asked, and why it stands, where that is asked for.
-fn check<R: Read>(
-    alloc: Global,
-    json: bool,
-    why: bool,
-    asked: &[u8],
-    rtype: RecordType,
-    moment: Moment,
-    inputs: &mut Inputs<R>,
-    bump: &Bump,
-) -> Result<Outcome, Fault>
-    ensures text { (files : Files) → AreTold R.remaining inputs.old files → IfOk result (λ outcome.
-        IsAnswered json why asked.now rtype.0 moment files outcome.status (string_bytes outcome.text)) }
-    ensures faults { TellsFaults (IsFirstFaultOfCheck asked.now rtype.0 moment) R.remaining inputs.old inputs.new
-        result }
-    ensures question { (fault : Fault) → IsFaultOfQuestion asked.now rtype.0 fault → result ≡ Err fault }
-    ensures reached { (files : Files) → AreTold R.remaining inputs.old files
-        → IfErr result (OfFailedRead (IsReachedByCheck asked.now rtype.0 moment files)) }
-    ensures unwritten { IfErr result (λ fault. fault ≡ Fault.WriteFailed → ⊥) }
-{
-    let name = question_name(asked, rtype)?;
-    check_question(alloc, json, why, &name, rtype, moment, inputs, bump)
-}
-
-/// The verdict on the question, and why it stands, where that is asked for.
-fn check_question<R: Read>(
-    alloc: Global,
-    json: bool,
-    why: bool,
-    name: &Name,
-    rtype: RecordType,
-    moment: Moment,
-    inputs: &mut Inputs<R>,
-    bump: &Bump,
-) -> Result<Outcome, Fault>
-    requires { IsQuestion name.now rtype.0 }
-    ensures text { (files : Files) → AreTold R.remaining inputs.old files → IfOk result (λ outcome.
-        IsCheck json why name.now rtype.0 moment files outcome.status (string_bytes outcome.text)) }
-    ensures faults { TellsFaults (IsFirstFaultOfName name.now rtype.0 moment) R.remaining inputs.old inputs.new
-        result }
-    ensures reached { (files : Files) → AreTold R.remaining inputs.old files
-        → IfErr result (OfFailedRead (IsReachedOfFiles moment files)) }
-    ensures unwritten { IfErr result (λ fault. fault ≡ Fault.WriteFailed → ⊥) }
-{
-    let opening = opening_in(alloc, moment, &mut inputs.keys, &mut inputs.macs)?;
-    let held = evidence_in(alloc, &opening, &mut inputs.capture, bump)?;
-    let anchors = anchors_in(alloc, bump, &mut inputs.anchors)?;
-    let statements: Statements = text_in(alloc, InputFile::Statements, &mut inputs.statements)?;
-    judge(
-        alloc,
-        bump,
-        json,
-        why,
-        &held,
-        &anchors,
-        moment,
-        &statements,
-        name,
-        rtype,
-    )
 }

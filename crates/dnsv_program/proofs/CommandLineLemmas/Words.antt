@@ -28,7 +28,8 @@ use Rattle.dnsv_program.proofs.CommandLineLemmas.Rows.{AreRowsIn}
 use Rattle.dnsv_program.proofs.CommandLineLemmas.Values.{check_values, list_values, program_shape, show_values, sub_shapes}
 use Rattle.dnsv_program.proofs.CommandLineLemmas.Walks.{AllLeaveValues, level_in}
 use Rattle.clap.proofs.ValueTestLemmas.{accepts-Accepts}
-use Rattle.dnsv_program.specs.CommandLine.Commands.{program_app, question_word}
+use Rattle.dnsv_texts.specs.Checking.{question_word}
+use Rattle.dnsv_program.specs.CommandLine.Commands.{program_app}
 use Rattle.dnsv_program.specs.CommandLine.{HasCapture, HasCheckValues, HasListValues, IsFlag, IsRefused, error_of_kind, flag_said, command_line_error, is_asked, number_said}
 use Rattle.std.specs.Option.{SomeIff}
 use Rattle.dnsv_program.specs.CommandLine.Moment.{IsMoment}

@@ -14,7 +14,8 @@ use Rattle.dnsv_program.specs.declared.status.Refusal.TheVariants as refusal
 use Rattle.dnsv_program.specs.declared.opening.Opening.TheVariants.{Plain}
 use Rattle.dnsv_program.specs.Files.Capture.{AnyMessage, Demand, Meets, Fails, AllTaken, FirstRefused, Holds, IsRefusal}
 use Rattle.dnsv_program.specs.Status.{TellsMessageError}
-use Rattle.dnsv_program.specs.Texts.Showing.{IsShowing, message_text, texts_from}
+use Rattle.dnsv_texts.specs.Showing.{message_text, texts_from}
+use Rattle.dnsv_program.specs.Work.Showing.{IsShowing}
 use Rattle.dnsv_program.specs.Told.{nowhere}
 
 -- each fault of octets is told as some refusal

@@ -1,5 +1,5 @@
 -- A file of messages that are evidence has the text of list.
-use Rattle.std.proofs.Common.{◌≡◌, ◌⊎◌, ◌↔◌, ◌<◌, ◌≤◌, ℕ, suc, Bool, List, [], ◌∷◌, ◌++◌, Option, Some, None, refl, inl, inr}
+use Rattle.std.proofs.Common.{◌≡◌, ◌⊎◌, ◌↔◌, ◌<◌, ◌≤◌, ℕ, suc, List, [], ◌∷◌, ◌++◌, Option, Some, None, refl, inl, inr}
 use Rattle.std.proofs.lemmas.Bool.{cases_lt}
 use Rattle.std.specs.List.{AllByRecursion, fold}
 use Rattle.dnsv_names.specs.Name.{Labels}
@@ -17,8 +17,10 @@ use Rattle.dnsv_canonical.specs.SignedData.{IsSignedData, signed_label_count}
 use Rattle.dnsv_program.specs.declared.status.Refusal.{Refusal}
 use Rattle.dnsv_program.specs.declared.status.Refusal.TheVariants as refusal
 use Rattle.dnsv_program.specs.declared.opening.Opening.TheVariants.{Plain}
+use Rattle.dnsv_texts.specs.declared.format.Format.{Format}
 use Rattle.dnsv_program.specs.Files.Capture.{AllTaken, Fails, Holds, Meets, NewEvidence}
-use Rattle.dnsv_program.specs.Texts.Listing.{IsListing, ListsRrsets, ListsSignatures, SignedOctets, listing_text}
+use Rattle.dnsv_texts.specs.Listing.{ListsRrsets, ListsSignatures, SignedOctets, listing_text}
+use Rattle.dnsv_program.specs.Work.Listing.{IsListing}
 use Rattle.dnsv_program.specs.Status.{TellsCaptureError}
 
 -- ---- a message is evidence, or is refused for a reason that is told
@@ -86,9 +88,9 @@ module _
       (formed (suc held.messages) message (octets, are.0, taken.0.0) taken.0.1.1))
 
   -- a file that holds evidence has the text of list
-  pub listed : (json : Bool) (moment : ℕ) (file : List ℕ) (Else : Type 0) → ((frames : List (List ℕ)) → IsCapture file frames → AllByRecursion AreOctets frames)
-      → ((messages : List Contents) × Holds NewEvidence Plain file messages) ⊎ Else → ((text : List ℕ) × IsListing json moment file text) ⊎ Else
-  listed json moment file Else are (inr otherwise) = inr otherwise
-  listed json moment file Else are (inl held) =
+  pub listed : (format : Format) (moment : ℕ) (file : List ℕ) (Else : Type 0) → ((frames : List (List ℕ)) → IsCapture file frames → AllByRecursion AreOctets frames)
+      → ((messages : List Contents) × Holds NewEvidence Plain file messages) ⊎ Else → ((text : List ℕ) × IsListing format moment file text) ⊎ Else
+  listed format moment file Else are (inr otherwise) = inr otherwise
+  listed format moment file Else are (inl held) =
       let lines = rrsets_listed 1 (evidence_of held.0).rrsets (all_formed no_evidence 1 held.1.frames held.0 (are held.1.frames held.1.framing) held.1.taken tt) in
-      inl (listing_text json moment lines.0, (held.0, held.1, lines.0, lines.1, refl))
+      inl (listing_text format moment lines.0, (held.0, held.1, lines.0, lines.1, refl))

@@ -21,15 +21,16 @@ use Rattle.dnsv_program.specs.declared.status.Refusal.{Refusal}
 use Rattle.dnsv_program.specs.declared.status.Refusal.TheVariants as refusal
 use Rattle.dnsv_program.specs.declared.status.Status.{Status}
 use Rattle.dnsv_program.specs.Files.Anchors.{HasAnchors, IsFaultOfAnchors}
+use Rattle.dnsv_texts.specs.declared.format.Format.{Format}
 use Rattle.dnsv_program.specs.Files.Capture.{AnyMessage, NewEvidence, Holds, IsFaultOfCapture}
-use Rattle.dnsv_program.specs.Texts.Checking.{AreInOrder, IsCheck, IsStopped, basis_in, verdict_fault}
+use Rattle.dnsv_program.specs.Work.Checking.{AreInOrder, IsCheck, IsStopped, basis_in, verdict_fault}
 use Rattle.dnsv_program.specs.Opening.Given.{IsOpeningOf, IsFaultOfOpening}
 use Rattle.dnsv_program.specs.Files.{Files, octets_or_none}
 use Rattle.dnsv_program.specs.Opening.Keys.{IsFaultOfKeys, MayHaveKeys}
 use Rattle.dnsv_program.specs.Layers.{LayerLaws}
 use Rattle.dnsv_program.specs.CommandLine.Question.{IsNameRefused, IsQuestionRefused, Spells}
 use Rattle.dnsv_program.specs.Run.{IsAnswered, IsFaultOfQuestion, IsFirstFault, IsFirstFaultBehind, IsFirstFaultOfCheck, IsFirstFaultOfEvidence, IsFirstFaultOfFiles, IsFirstFaultOfName, IsFirstFaultOfTodo, IsTextAskedFor}
-use Rattle.dnsv_program.specs.Texts.Todo.{IsTodo}
+use Rattle.dnsv_program.specs.Work.Listing.{IsTodo}
 use Rattle.dnsv_program.proofs.FileLemmas.Anchors.{no_anchors_fault, one_anchors_fault}
 use Rattle.dnsv_program.proofs.OpeningLemmas.Keys.{no_keys_fault, one_keys_fault}
 use Rattle.dnsv_program.proofs.OpeningLemmas.Macs.{no_fault_of_macs, one_macs_fault}
@@ -172,24 +173,24 @@ module _ (laws : LayerLaws) where
 
     -- ---- files with a text
 
-    todo_stands : (json : Bool) (moment : ℕ) (text : List ℕ) (told : Fault) → IsTodo json moment files text → IsFirstFaultOfTodo files told → ⊥
-    todo_stands json moment text told x (inl captured) = holding_stands Plain x.messages told x.holds captured
-    todo_stands json moment text told x (inr stated) = no_statements_fault (octets_or_none files.statements) x.meaning told x.said stated.1
+    todo_stands : (format : Format) (moment : ℕ) (text : List ℕ) (told : Fault) → IsTodo format moment files text → IsFirstFaultOfTodo files told → ⊥
+    todo_stands format moment text told x (inl captured) = holding_stands Plain x.messages told x.holds captured
+    todo_stands format moment text told x (inr stated) = no_statements_fault (octets_or_none files.statements) x.meaning told x.said stated.1
 
     -- a question with a verdict isn't refused
-    verdict_stands : (json why : Bool) (name : Labels) (rtype moment : ℕ) (end : Status) (text : List ℕ) → IsCheck json why name rtype moment files end text
+    verdict_stands : (format : Format) (why : Bool) (name : Labels) (rtype moment : ℕ) (end : Status) (text : List ℕ) → IsCheck format why name rtype moment files end text
         → (told : Fault) → IsStopped name rtype moment files told → ⊥
-    verdict_stands json why name rtype moment end text x told y =
+    verdict_stands format why name rtype moment end text x told y =
         let bases = one_basis laws rtype moment files are x.given y.given in
         laws.verdicts.verdict_apart (basis_in y.given) name rtype x.report.links x.report.last x.report.verdict y.error
         (subst (λ (each : Basis). IsVerdictOf each name rtype x.report.links x.report.last x.report.verdict) bases x.is_verdict) y.refused
 
-    answer_stands : (json why : Bool) (asked : List ℕ) (rtype moment : ℕ) (end : Status) (text : List ℕ) (told : Fault)
-        → IsAnswered json why asked rtype moment files end text → IsFirstFaultOfCheck asked rtype moment files told → ⊥
-    answer_stands json why asked rtype moment end text told x (inl bad) = question_stands asked rtype x.0 told x.1 x.2 bad
-    answer_stands json why asked rtype moment end text told x (inr bad) =
+    answer_stands : (format : Format) (why : Bool) (asked : List ℕ) (rtype moment : ℕ) (end : Status) (text : List ℕ) (told : Fault)
+        → IsAnswered format why asked rtype moment files end text → IsFirstFaultOfCheck asked rtype moment files told → ⊥
+    answer_stands format why asked rtype moment end text told x (inl bad) = question_stands asked rtype x.0 told x.1 x.2 bad
+    answer_stands format why asked rtype moment end text told x (inr bad) =
         ⊎_elim (λ (files_bad : IsFirstFaultOfFiles moment files told). order_stands moment x.3.given told files_bad)
-        (λ (stopped : IsStopped bad.0 rtype moment files told). verdict_stands json why x.0 rtype moment end text x.3 told
+        (λ (stopped : IsStopped bad.0 rtype moment files told). verdict_stands format why x.0 rtype moment end text x.3 told
         (subst (λ (name : Labels). IsStopped name rtype moment files told) (one_question laws asked bad.0 x.0 bad.1 x.1) stopped)) bad.3
 
   -- ---- all requests
@@ -198,15 +199,15 @@ module _ (laws : LayerLaws) where
   pub text_stands : (asked : Request) (files : Files) → AreOctets files.capture → (end : Status) (text : List ℕ) (told : Fault)
       → IsTextAskedFor asked files end text → IsFirstFault asked files told → ⊥
   text_stands (request.Show capture) files are end text told x bad = no_capture_fault laws AnyMessage Plain files.capture are x.1.0 told x.1.1 bad
-  text_stands (request.List capture moment statements true json) files are end text told x bad = no_capture_fault laws NewEvidence Plain files.capture are x.1.0 told x.1.1 bad
-  text_stands (request.List capture moment statements false json) files are end text told x bad = todo_stands files are json moment text told x.1 bad
-  text_stands (request.Check capture anchors moment asked rtype statements keys macs json why) files are end text told x bad =
-      answer_stands files are json why (string_bytes asked) rtype.0 moment end text told x bad
+  text_stands (request.List capture moment statements true format) files are end text told x bad = no_capture_fault laws NewEvidence Plain files.capture are x.1.0 told x.1.1 bad
+  text_stands (request.List capture moment statements false format) files are end text told x bad = todo_stands files are format moment text told x.1 bad
+  text_stands (request.Check capture anchors moment asked rtype statements keys macs format why) files are end text told x bad =
+      answer_stands files are format why (string_bytes asked) rtype.0 moment end text told x bad
 
   -- files have one first fault
   pub one_first_fault : (asked : Request) (files : Files) → AreOctets files.capture → (a b : Fault) → IsFirstFault asked files a → IsFirstFault asked files b → a ≡ b
   one_first_fault (request.Show capture) files are a b x y = one_capture_fault laws AnyMessage Plain files.capture are a b x y
-  one_first_fault (request.List capture moment statements true json) files are a b x y = one_capture_fault laws NewEvidence Plain files.capture are a b x y
-  one_first_fault (request.List capture moment statements false json) files are a b x y = one_todo_fault files are a b x y
-  one_first_fault (request.Check capture anchors moment asked rtype statements keys macs json why) files are a b x y =
+  one_first_fault (request.List capture moment statements true format) files are a b x y = one_capture_fault laws NewEvidence Plain files.capture are a b x y
+  one_first_fault (request.List capture moment statements false format) files are a b x y = one_todo_fault files are a b x y
+  one_first_fault (request.Check capture anchors moment asked rtype statements keys macs format why) files are a b x y =
       one_fault_of_check files are (string_bytes asked) rtype.0 moment a b x y

@@ -25,17 +25,21 @@ use Rattle.dnsv_program.specs.declared.opening.Opening.TheVariants.{Plain, Signe
 use Rattle.dnsv_program.specs.declared.command_line.request.Request.{Request}
 use Rattle.dnsv_program.specs.declared.command_line.request.Request.TheVariants as request
 use Rattle.dnsv_program.specs.declared.status.Status.{Status}
+use Rattle.dnsv_texts.specs.declared.format.Format.{Format}
 use Rattle.dnsv_program.specs.Files.Capture.{AnyMessage, NewEvidence, Holds}
-use Rattle.dnsv_program.specs.Texts.Checking.{AreInOrder, IsCheck, IsWhy, basis_in, check_text, verdict_status}
+use Rattle.dnsv_texts.specs.Checking.{check_text}
+use Rattle.dnsv_program.specs.Work.Checking.{AreInOrder, IsCheck, IsWhy, basis_in, verdict_status}
 use Rattle.dnsv_program.specs.Opening.Given.{IsOpeningOf}
 use Rattle.dnsv_program.specs.Files.{Files, octets_or_none}
 use Rattle.dnsv_program.specs.Opening.Keys.{MayHaveKeys}
 use Rattle.dnsv_program.specs.Layers.{LayerLaws}
-use Rattle.dnsv_program.specs.Texts.Listing.{ListsRrsets, ListsSignatures, SignedOctets, listing_text}
+use Rattle.dnsv_texts.specs.Listing.{ListsRrsets, ListsSignatures, SignedOctets, listing_text}
 use Rattle.dnsv_program.specs.CommandLine.Question.{Spells}
+use Rattle.dnsv_program.specs.Status.{status_code}
 use Rattle.dnsv_program.specs.Run.{IsAnswered, IsTextAskedFor}
-use Rattle.dnsv_program.specs.Texts.Showing.{message_text, texts_from}
-use Rattle.dnsv_program.specs.Texts.Todo.{IsTodo, todo_text}
+use Rattle.dnsv_texts.specs.Showing.{message_text, texts_from}
+use Rattle.dnsv_texts.specs.Todo.{todo_text}
+use Rattle.dnsv_program.specs.Work.Listing.{IsTodo}
 use Rattle.dnsv_program.proofs.OpeningLemmas.Keys.{same_keys}
 use Rattle.dnsv_program.proofs.OpeningLemmas.Macs.{same_macs}
 use Rattle.dnsv_program.proofs.LawLemmas.OneCapture.{one_holding}
@@ -63,13 +67,13 @@ module _ (laws : LayerLaws) where
 
   -- ---- list
 
-  one_todo : (json : Bool) (moment : ℕ) (files : Files) → AreOctets files.capture → (a b : List ℕ) → IsTodo json moment files a → IsTodo json moment files b → a ≡ b
-  one_todo json moment files are a b x y =
+  one_todo : (format : Format) (moment : ℕ) (files : Files) → AreOctets files.capture → (a b : List ℕ) → IsTodo format moment files a → IsTodo format moment files b → a ≡ b
+  one_todo format moment files are a b x y =
       let messages = one_holding laws NewEvidence Plain files.capture are x.messages y.messages x.holds y.holds in
       let meanings = one_meaning (octets_or_none files.statements) x.meaning y.meaning x.said y.said in
       let first = subst (λ (meaning : Entry → Answer). IsTableOf meaning moment (evidence_of x.messages).rrsets x.table) meanings x.is_table in
       let second = subst (λ messages. IsTableOf y.meaning moment (evidence_of messages).rrsets x.table) messages first in
-      x.lines ∙ ap (λ table. todo_text json moment (unknown_entries table)) (laws.verdicts.one_table y.meaning moment (evidence_of y.messages).rrsets x.table y.table second y.is_table) ∙ sym y.lines
+      x.lines ∙ ap (λ table. todo_text format moment (unknown_entries table)) (laws.verdicts.one_table y.meaning moment (evidence_of y.messages).rrsets x.table y.table second y.is_table) ∙ sym y.lines
 
   -- ---- check
 
@@ -136,23 +140,24 @@ module _ (laws : LayerLaws) where
     why_of true basis report other links last verdict None is = absurd is
     why_of true basis report other links last verdict (Some lines) is = explains basis report other links last verdict lines is
 
-    one_check : (json why : Bool) (name : Labels) (s t : Status) (a b : List ℕ) → IsCheck json why name rtype moment files s a → IsCheck json why name rtype moment files t b
+    one_check : (format : Format) (why : Bool) (name : Labels) (s t : Status) (a b : List ℕ) → IsCheck format why name rtype moment files s a → IsCheck format why name rtype moment files t b
         → (s ≡ t) × (a ≡ b)
-    one_check json why name s t a b x y =
+    one_check format why name s t a b x y =
         let bases : basis_in x.given ≡ basis_in y.given = one_basis x.given y.given in
         let ways = laws.verdicts.one_way (basis_in y.given) name rtype x.report.links y.report.links x.report.last y.report.last x.report.verdict y.report.verdict
         (subst (λ (each : Basis). IsVerdictOf each name rtype x.report.links x.report.last x.report.verdict) bases x.is_verdict) y.is_verdict in
         let tolds : x.told ≡ y.told = one_why why (basis_in y.given) name y.report x.told y.told y.is_verdict
-        (why_of why (basis_in y.given) x.report y.report ways.0 ways.1 ways.2 x.told (subst (λ (each : Basis). IsWhy why each rtype x.report x.told) bases x.is_told)) y.is_told in (
-          x.ends ∙ ap verdict_status ways.2 ∙ sym y.ends,
-          x.lines ∙ (λ i. check_text json name rtype moment (bases i).rrsets (ways.0 i) (ways.2 i) (tolds i)) ∙ sym y.lines,
+        (why_of why (basis_in y.given) x.report y.report ways.0 ways.1 ways.2 x.told (subst (λ (each : Basis). IsWhy why each rtype x.report x.told) bases x.is_told)) y.is_told in
+        let ends : s ≡ t = x.ends ∙ ap verdict_status ways.2 ∙ sym y.ends in (
+          ends,
+          x.lines ∙ (λ i. check_text format name rtype moment (status_code (ends i)) (bases i).rrsets (ways.0 i) (ways.2 i) (tolds i)) ∙ sym y.lines,
         )
 
-    one_answer : (json why : Bool) (asked : List ℕ) (s t : Status) (a b : List ℕ) → IsAnswered json why asked rtype moment files s a → IsAnswered json why asked rtype moment files t b
+    one_answer : (format : Format) (why : Bool) (asked : List ℕ) (s t : Status) (a b : List ℕ) → IsAnswered format why asked rtype moment files s a → IsAnswered format why asked rtype moment files t b
         → (s ≡ t) × (a ≡ b)
-    one_answer json why asked s t a b x y =
-        one_check json why y.0 s t a b
-        (subst (λ (name : Labels). IsCheck json why name rtype moment files s a) (one_question asked x.0 y.0 x.1 y.1) x.3) y.3
+    one_answer format why asked s t a b x y =
+        one_check format why y.0 s t a b
+        (subst (λ (name : Labels). IsCheck format why name rtype moment files s a) (one_question asked x.0 y.0 x.1 y.1) x.3) y.3
 
   -- ---- all requests
 
@@ -161,11 +166,11 @@ module _ (laws : LayerLaws) where
       → IsTextAskedFor asked files s a → IsTextAskedFor asked files t b → (s ≡ t) × (a ≡ b)
   one_text (request.Show capture) files are s t a b x y =
       (x.0 ∙ sym y.0, x.1.2 ∙ ap (texts_from message_text 1) (one_holding laws AnyMessage Plain files.capture are x.1.0 y.1.0 x.1.1 y.1.1) ∙ sym y.1.2)
-  one_text (request.List capture moment statements true json) files are s t a b x y = (
+  one_text (request.List capture moment statements true format) files are s t a b x y = (
     x.0 ∙ sym y.0,
-    x.1.4 ∙ ap (listing_text json moment) (one_list 1 (evidence_of x.1.0).rrsets x.1.2 y.1.2 x.1.3
+    x.1.4 ∙ ap (listing_text format moment) (one_list 1 (evidence_of x.1.0).rrsets x.1.2 y.1.2 x.1.3
         (subst (λ messages. ListsRrsets 1 (evidence_of messages).rrsets y.1.2) (one_holding laws NewEvidence Plain files.capture are y.1.0 x.1.0 y.1.1 x.1.1) y.1.3)) ∙ sym y.1.4,
   )
-  one_text (request.List capture moment statements false json) files are s t a b x y = (x.0 ∙ sym y.0, one_todo json moment files are a b x.1 y.1)
-  one_text (request.Check capture anchors moment asked rtype statements keys macs json why) files are s t a b x y =
-      one_answer rtype.0 moment files are json why (string_bytes asked) s t a b x y
+  one_text (request.List capture moment statements false format) files are s t a b x y = (x.0 ∙ sym y.0, one_todo format moment files are a b x.1 y.1)
+  one_text (request.Check capture anchors moment asked rtype statements keys macs format why) files are s t a b x y =
+      one_answer rtype.0 moment files are format why (string_bytes asked) s t a b x y

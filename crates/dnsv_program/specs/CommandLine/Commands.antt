@@ -3,6 +3,7 @@ use Rattle.std.specs.Prelude.{ℕ, Bool, true, false, List, codes, Some}
 use Rattle.clap.specs.Words.{App, Rule, new_app, new_rule, with_rule, with_subcommand}
 use Rattle.clap.specs.declared.builder.action.ArgAction.TheVariants.{SetTrue}
 use Rattle.clap.specs.declared.builder.value_parser.ValueParser.TheVariants as parser
+use Rattle.dnsv_texts.specs.Checking.{question_word}
 use Rattle.dnsv_program.specs.CommandLine.Moment.{last_moment}
 
 -- `--capture FILE`, which has to be there
@@ -90,11 +91,6 @@ show_app = with_rule (new_app (codes "show")) capture_rule
 abbrev pub list_app : App
 list_app = with_rule (with_rule (with_rule (with_rule (with_rule (new_app (codes "list")) capture_rule) moment_rule)
     statements_rule) all_rule) json_rule
-
--- the subcommands for a question: that for its verdict, and the one that says besides why it stands
-abbrev pub question_word : Bool → List ℕ
-question_word false = codes "check"
-question_word true = codes "explain"
 
 -- this word, and `--capture FILE --anchors FILE --moment N --name NAME --type N [--statements FILE] [--keys FILE]
 -- [--macs FILE] [--json]`

@@ -1,7 +1,6 @@
 //! Questions on the command line.
 ghost use Rattle.std.specs.Prelude.{◌≡◌, IfErr, IfOk};
 ghost use Rattle.dnsv_canonical.specs.Rrsets.{IsQuestion};
-ghost use Rattle.dnsv_program.specs.CommandLine.Commands as specs;
 ghost use Rattle.dnsv_program.specs.CommandLine.Question.{Spells};
 ghost use Rattle.dnsv_program.specs.Run.{IsFaultOfQuestion};
 
@@ -9,13 +8,6 @@ use crate::status::{Fault, Place, Refusal};
 use dnsv_canonical::is_question;
 use dnsv_names::{Name, RecordType};
 use dnsv_verdict::VerdictError;
-
-/// The subcommand for a question: that for its verdict, or the one that says besides why it stands.
-pub fn question_word(why: bool) -> &'static str
-    ensures { result.now ≡ specs.question_word why }
-{
-    if why { "explain" } else { "check" }
-}
 
 /// The name of a question, whose type can be asked for at it.
 ///

@@ -5,6 +5,7 @@ ghost use Rattle.dnsv_program.specs.CommandLine.Paths.{anchors_of, capture_of, k
 
 use crate::command_line::moment::Moment;
 use dnsv_names::RecordType;
+use dnsv_texts::Format;
 
 /// What the program is asked to do.
 #[derive(Debug, Drop)]
@@ -23,8 +24,8 @@ pub enum Request {
         statements: Option<String>,
         /// List the signed octets of each signature of each RRset. No statements are read then.
         all: bool,
-        /// Write JSON in place of lines.
-        json: bool,
+        /// How the text is written.
+        format: Format,
     },
     /// Say what the evidence proves of a question, and why that stands.
     Check {
@@ -43,8 +44,8 @@ pub enum Request {
         keys: Option<String>,
         /// The path of the file of the MACs of requests. It is read where keys are.
         macs: Option<String>,
-        /// Write JSON in place of lines.
-        json: bool,
+        /// How the text is written.
+        format: Format,
         /// Say besides why the verdict stands.
         why: bool,
     },

@@ -2,7 +2,7 @@ use Rattle.std.proofs.Common.{◌≡◌, ap, map, ◌∙◌, codes, true, rules,
 use Rattle.std.proofs.lemmas.Slice.Eq.{bytes_eq-Decides}
 use Rattle.std.specs.Str.{bytes_eq}
 use Rattle.clap.specs.Words.{app_of, found_of, rows_of}
-use Rattle.dnsv_program.specs.CommandLine.Commands.{question_word}
+use Rattle.dnsv_texts.specs.Checking.{question_word}
 use Rattle.dnsv_program.proofs.CommandLineLemmas.Words.{Sees, is_list, is_neither, is_show, passed_up, sees}
 use Rattle.dnsv_program.proofs.command_line.read_command_line.Goals as goal
 

@@ -4,8 +4,8 @@ use Rattle.dnsv_program.proofs.LawLemmas.Listed.{evidence_or_fails, listed}
 use Rattle.dnsv_program.proofs.laws.every_file_is_listed_or_refused.Goals as goal
 
 pub returns : goal.returns
-returns c = λ json moment file are.
-    listed c.one_signed_data.ensures.some c.rrsets_are_well_formed.ensures json moment file _
+returns c = λ format moment file are.
+    listed c.one_signed_data.ensures.some c.rrsets_are_well_formed.ensures format moment file _
     (λ frames is. c.one_answer.ensures.octets file frames are is)
     (file_answer NewEvidence c.message_or_fault.ensures c.no_fault_of_memory.ensures
     (λ held message is. evidence_or_fails held message (c.evidence_or_one_refusal.ensures.some held message is)) file

@@ -1,7 +1,0 @@
-use Rattle.std.specs.Prelude.{string_bytes}
-use Rattle.dnsv_program.specs.Texts.Checking.{alias_line}
-use Rattle.dnsv_lines.proofs.JsonLemmas.{Joined}
-use Rattle.dnsv_program.proofs.texts.checking.push_aliases.Given as goal
-
-abbrev pub invariant-loop-link : goal.invariant-loop-link
-invariant-loop-link l = Joined alias_line l.links l.link-index (string_bytes l.fn.text) (string_bytes l.text)

@@ -1,7 +1,0 @@
-use Rattle.std.specs.Prelude.{string_bytes}
-use Rattle.dnsv_program.specs.Texts.Checking.{proof_line}
-use Rattle.dnsv_lines.proofs.JsonLemmas.{Joined}
-use Rattle.dnsv_program.proofs.texts.checking.push_proof.Given as goal
-
-abbrev pub invariant-loop-number : goal.invariant-loop-number
-invariant-loop-number l = Joined (proof_line l.rrsets) l.records l.number-index (string_bytes l.fn.text) (string_bytes l.text)

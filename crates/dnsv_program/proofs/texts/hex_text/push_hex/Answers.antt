@@ -1,5 +1,0 @@
-use Rattle.dnsv_program.proofs.TextLemmas.Hex.{HexSoFar-next}
-use Rattle.dnsv_program.proofs.texts.hex_text.push_hex.Goals as goal
-
-pub loop-rest-preserved : goal.loop-rest-preserved
-loop-rest-preserved c = HexSoFar-next c.loop-rest.invariant 64 _ _ _ c.split_at.ensures.front c.split_at.ensures.back c.in_ok-push_piece.ensures

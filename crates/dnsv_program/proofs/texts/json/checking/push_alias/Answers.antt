@@ -1,9 +1,0 @@
-use Rattle.std.proofs.Common.{string_bytes}
-use Rattle.dnsv_program.specs.Texts.Checking.{alias_json}
-use Rattle.dnsv_lines.proofs.JsonLemmas.{one_written}
-use Rattle.dnsv_program.proofs.texts.json.checking.push_alias.Goals as goal
-
-pub returns-clause-text : goal.returns-clause-text
-returns-clause-text c =
-    one_written c.args.first.now (string_bytes c.args.text.now) (string_bytes c.push_comma.new.text) (string_bytes c.push_link.new.text)
-    (alias_json c.args.link.now) c.in_ok-push_comma.ensures.text c.in_ok-push_link.ensures

@@ -1,7 +1,0 @@
-use Rattle.std.specs.Prelude.{string_bytes}
-use Rattle.dnsv_program.proofs.TextLemmas.Listing.{Listed}
-use Rattle.dnsv_program.proofs.texts.listing.push_rrset.Given as goal
-
-abbrev pub invariant-loop-index : goal.invariant-loop-index
-invariant-loop-index l =
-    Listed l.json l.number l.rrset l.rrset.signatures l.index l.fn.first (string_bytes l.fn.text) l.first (string_bytes l.text)

@@ -1,8 +1,0 @@
--- The texts that requests ask for.
-pub mod Checking
-pub mod Hex
-pub mod Json
-pub mod Listing
-pub mod Showing
-pub mod Todo
-pub mod Why

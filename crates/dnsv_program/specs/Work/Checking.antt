@@ -1,0 +1,96 @@
+-- What a question's answer is over the files: its verdict, what it is judged by, and how a question without one is refused.
+use Rattle.std.specs.Prelude.{◌≡◌, ⊤, ℕ, Bool, true, false, List, Option, Some, None}
+use Rattle.dnsv_names.specs.Name.{Labels}
+use Rattle.dnsv_message.specs.Message.{Contents}
+use Rattle.dnsv_canonical.specs.Evidence.{evidence_of}
+use Rattle.dnsv_verifier.specs.declared.answer.Answer.{Answer}
+use Rattle.dnsv_verifier.specs.declared.entry.Entry.{Entry}
+use Rattle.dnsv_chain.specs.declared.anchor.Anchor.{Anchor}
+use Rattle.dnsv_verdict.specs.Way.{IsRefusedFor, IsVerdictOf}
+use Rattle.dnsv_verdict.specs.declared.error.VerdictError.{VerdictError}
+use Rattle.dnsv_verdict.specs.declared.error.VerdictError.TheVariants as error
+use Rattle.dnsv_verdict.specs.declared.verdict.Verdict.{Verdict}
+use Rattle.dnsv_verdict.specs.declared.verdict.Verdict.TheVariants as verdict
+use Rattle.dnsv_verdict.specs.Verdict.{Basis, basis_of}
+use Rattle.dnsv_verdict.specs.declared.report.Report.{Report}
+use Rattle.dnsv_explain.specs.Explanation.{IsExplanationOf}
+use Rattle.dnsv_lines.specs.declared.line.Line.{Line}
+use Rattle.dnsv_program.specs.Files.Anchors.{HasAnchors}
+use Rattle.dnsv_program.specs.declared.opening.Opening.{Opening}
+use Rattle.dnsv_program.specs.Files.Capture.{Holds, NewEvidence}
+use Rattle.dnsv_program.specs.Opening.Given.{IsOpeningOf}
+use Rattle.dnsv_program.specs.Files.{Files, octets_or_none}
+use Rattle.dnsv_program.specs.Files.Statements.{IsMeaningOf}
+use Rattle.dnsv_program.specs.Status.{status_code}
+use Rattle.dnsv_texts.specs.declared.format.Format.{Format}
+use Rattle.dnsv_texts.specs.Checking.{check_text}
+use Rattle.dnsv_program.specs.Told.{nowhere}
+use Rattle.dnsv_program.specs.declared.status.Fault.{Fault}
+use Rattle.dnsv_program.specs.declared.status.Fault.TheVariants as fault
+use Rattle.dnsv_program.specs.declared.status.Refusal.TheVariants as refusal
+use Rattle.dnsv_program.specs.declared.status.Status.{Status}
+use Rattle.dnsv_program.specs.declared.status.Status.TheVariants as status
+
+-- ---- the end
+
+-- the end of a run by the verdict
+abbrev pub verdict_status : Verdict → Status
+verdict_status (verdict.Insecure cut) = status.Insecure
+verdict_status (verdict.Pending entries) = status.Pending
+verdict_status verdict.Bogus = status.Bogus
+verdict_status verdict.Indeterminate = status.Indeterminate
+verdict_status _ = status.Done
+
+-- ---- refusals
+
+-- how a question is refused that has no verdict
+abbrev pub verdict_fault : VerdictError → Fault
+verdict_fault error.OutOfMemory = fault.OutOfMemory
+verdict_fault error.BadQuestion = fault.Refused (refusal.Question error.BadQuestion) nowhere
+verdict_fault error.AliasLoop = fault.Refused (refusal.Question error.AliasLoop) nowhere
+verdict_fault error.TooManyLinks = fault.Refused (refusal.Question error.TooManyLinks) nowhere
+verdict_fault error.AliasTargets = fault.Refused (refusal.Question error.AliasTargets) nowhere
+
+-- ---- the files
+
+-- The files are in order: the capture holds messages, in frames that the keys open at the moment where keys are given,
+-- each of them evidence besides those before it, and there are trust anchors and statements.
+pub record AreInOrder (moment : ℕ) (files : Files) : Type 0 where
+  pub opening : Opening
+  pub opens : IsOpeningOf files.keys files.macs moment opening
+  pub messages : List Contents
+  pub holds : Holds NewEvidence opening files.capture messages
+  pub anchors : List Anchor
+  pub trusted : HasAnchors (octets_or_none files.anchors) anchors
+  pub meaning : Entry → Answer
+  pub said : IsMeaningOf (octets_or_none files.statements) meaning
+
+-- what a question is judged by, at the moment
+abbrev pub basis_in : {moment : ℕ} {files : Files} → AreInOrder moment files → Basis
+basis_in {moment} given = basis_of (evidence_of given.messages).rrsets given.anchors moment given.meaning
+
+-- where it is asked why the verdict stands, the lines that explain it are told, and else none
+abbrev pub IsWhy : Bool → Basis → ℕ → Report → Option (List Line) → Type 0
+IsWhy false basis rtype report None = ⊤
+IsWhy false basis rtype report (Some lines) = ⊥
+IsWhy true basis rtype report None = ⊥
+IsWhy true basis rtype report (Some lines) = IsExplanationOf basis rtype report lines
+
+-- The files are in order, and the end and the text are those of the verdict that they prove of the question, and of why
+-- it stands, where that is asked for.
+pub record IsCheck (format : Format) (why : Bool) (name : Labels) (rtype moment : ℕ) (files : Files) (end : Status) (text : List ℕ) : Type 0 where
+  pub given : AreInOrder moment files
+  pub report : Report
+  pub is_verdict : IsVerdictOf (basis_in given) name rtype report.links report.last report.verdict
+  pub told : Option (List Line)
+  pub is_told : IsWhy why (basis_in given) rtype report told
+  pub ends : end ≡ verdict_status report.verdict
+  pub lines : text ≡ check_text format name rtype moment (status_code end) (basis_in given).rrsets report.links report.verdict told
+
+-- The files are in order, and the question is refused: a way over aliases from its name ends at one that can't be
+-- followed. The refusal has no place.
+pub record IsStopped (name : Labels) (rtype moment : ℕ) (files : Files) (told : Fault) : Type 0 where
+  pub given : AreInOrder moment files
+  pub error : VerdictError
+  pub refused : IsRefusedFor (basis_in given) name rtype error
+  pub is : told ≡ verdict_fault error

@@ -1,0 +1,77 @@
+//! The work of `check` and of `explain`: the question and the files are read, and then it is judged.
+ghost use Rattle.std.specs.Prelude.{◌≡◌, IfErr, IfOk, string_bytes};
+ghost use Rattle.dnsv_canonical.specs.Rrsets.{IsQuestion};
+ghost use Rattle.dnsv_program.specs.Files.Faults.{OfFailedRead, TellsFaults};
+ghost use Rattle.dnsv_program.specs.Files.{AreTold, Files};
+ghost use Rattle.dnsv_program.specs.Run.{IsAnswered, IsFaultOfQuestion, IsFirstFaultOfCheck, IsFirstFaultOfName};
+ghost use Rattle.dnsv_program.specs.Run.{IsReachedByCheck, IsReachedOfFiles};
+ghost use Rattle.dnsv_program.specs.Work.Checking.{IsCheck};
+
+use crate::command_line::moment::Moment;
+use crate::command_line::question::question_name;
+use crate::files::anchors::anchors_in;
+use crate::files::capture::evidence_in;
+use crate::files::text::text_in;
+use crate::opening::opening_in;
+use crate::status::{Fault, InputFile};
+use crate::work::judging::{Asked, Telling, judge};
+use crate::work::{Inputs, Outcome};
+use bumpalo::Bump;
+use dnsv_names::RecordType;
+use dnsv_verifier::Statements;
+use std::alloc::Global;
+use std::io::Read;
+
+/// The verdict on the question, if it is one that can be asked, and why it stands, where that is asked for.
+pub fn check<R: Read>(
+    alloc: Global,
+    telling: Telling,
+    asked: &[u8],
+    rtype: RecordType,
+    moment: Moment,
+    inputs: &mut Inputs<R>,
+    bump: &Bump,
+) -> Result<Outcome, Fault>
+    ensures text { (files : Files) → AreTold R.remaining inputs.old files → IfOk result (λ outcome.
+        IsAnswered telling.format telling.why asked.now rtype.0 moment files outcome.status
+        (string_bytes outcome.text)) }
+    ensures faults { TellsFaults (IsFirstFaultOfCheck asked.now rtype.0 moment) R.remaining inputs.old inputs.new
+        result }
+    ensures question { (fault : Fault) → IsFaultOfQuestion asked.now rtype.0 fault → result ≡ Err fault }
+    ensures reached { (files : Files) → AreTold R.remaining inputs.old files
+        → IfErr result (OfFailedRead (IsReachedByCheck asked.now rtype.0 moment files)) }
+    ensures unwritten { IfErr result (λ fault. fault ≡ Fault.WriteFailed → ⊥) }
+{
+    let name = question_name(asked, rtype)?;
+    let asked = Asked {
+        name: &name,
+        rtype,
+        moment,
+    };
+    check_question(alloc, telling, &asked, inputs, bump)
+}
+
+/// The verdict on the question, and why it stands, where that is asked for.
+fn check_question<R: Read>(
+    alloc: Global,
+    telling: Telling,
+    asked: &Asked<'_>,
+    inputs: &mut Inputs<R>,
+    bump: &Bump,
+) -> Result<Outcome, Fault>
+    requires { IsQuestion asked.now.name.now asked.now.rtype.0 }
+    ensures text { (files : Files) → AreTold R.remaining inputs.old files → IfOk result (λ outcome.
+        IsCheck telling.format telling.why asked.now.name.now asked.now.rtype.0 asked.now.moment files outcome.status
+        (string_bytes outcome.text)) }
+    ensures faults { TellsFaults (IsFirstFaultOfName asked.now.name.now asked.now.rtype.0 asked.now.moment)
+        R.remaining inputs.old inputs.new result }
+    ensures reached { (files : Files) → AreTold R.remaining inputs.old files
+        → IfErr result (OfFailedRead (IsReachedOfFiles asked.now.moment files)) }
+    ensures unwritten { IfErr result (λ fault. fault ≡ Fault.WriteFailed → ⊥) }
+{
+    let opening = opening_in(alloc, asked.moment, &mut inputs.keys, &mut inputs.macs)?;
+    let held = evidence_in(alloc, &opening, &mut inputs.capture, bump)?;
+    let anchors = anchors_in(alloc, bump, &mut inputs.anchors)?;
+    let statements: Statements = text_in(alloc, InputFile::Statements, &mut inputs.statements)?;
+    judge(alloc, bump, telling, asked, &held, &anchors, &statements)
+}

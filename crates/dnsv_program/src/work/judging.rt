@@ -1,0 +1,170 @@
+//! How a question is judged, and what the program says of it.
+ghost use Rattle.std.specs.Prelude.{◌≡◌, ◌⊎◌, IfErr, IfOk, List, Option, string_bytes};
+ghost use Rattle.std.specs.Option.{option_map};
+ghost use Rattle.dnsv_canonical.specs.Rrsets.{IsQuestion};
+ghost use Rattle.dnsv_verdict.specs.Way.{IsRefusal, IsRefusedFor, IsVerdictOf};
+ghost use Rattle.dnsv_verdict.specs.declared.error.VerdictError.{VerdictError};
+ghost use Rattle.dnsv_verdict.specs.declared.error.VerdictError.TheVariants.{OutOfMemory};
+ghost use Rattle.dnsv_verdict.specs.declared.report.Report.{Report};
+ghost use Rattle.dnsv_verdict.specs.Verdict.{basis_of};
+ghost use Rattle.dnsv_verdict.specs.VerdictError.{verdict_error_code};
+ghost use Rattle.dnsv_lines.specs.declared.line.Line.{Line};
+ghost use Rattle.dnsv_program.specs.Status.{fault_number, status_code};
+ghost use Rattle.dnsv_texts.specs.Checking as texts;
+ghost use Rattle.dnsv_program.specs.Work.Checking as specs;
+ghost use Rattle.dnsv_program.specs.Work.Checking.{IsWhy};
+
+use crate::command_line::moment::Moment;
+use crate::status::{Fault, Place, Refusal, Status};
+use crate::work::Outcome;
+use bumpalo::Bump;
+use dnsv_canonical::{Capture, Rrset};
+use dnsv_chain::Anchors;
+use dnsv_explain::{Explanation, explain};
+use dnsv_lines::Line;
+use dnsv_names::{Name, RecordType};
+use dnsv_texts::{Format, Heading, check_text};
+use dnsv_verdict::{Report, Verdict, VerdictError, validate};
+use dnsv_verifier::Verifier;
+use std::alloc::{AllocError, Global};
+
+/// How a verdict is told.
+#[derive(Clone, Copy)]
+pub struct Telling {
+    /// How the text is written.
+    pub format: Format,
+    /// Whether it says besides why the verdict stands.
+    pub why: bool,
+}
+
+/// What is asked, and the moment that the verdict speaks of.
+#[derive(Clone, Copy)]
+pub struct Asked<'a> {
+    pub name: &'a Name,
+    pub rtype: RecordType,
+    pub moment: Moment,
+}
+
+/// The verdict on the question, the aliases that lead to the name where it stands, what carries it, and where that is
+/// asked for, why it stands: in lines, or in JSON.
+///
+/// An alias that can't be followed is refused, without a place.
+pub fn judge<V: Verifier>(
+    alloc: Global,
+    bump: &Bump,
+    telling: Telling,
+    asked: &Asked<'_>,
+    held: &Capture<'_>,
+    anchors: &Anchors<'_>,
+    verifier: &V,
+) -> Result<Outcome, Fault>
+    requires { IsQuestion asked.now.name.now asked.now.rtype.0 }
+    ensures verdict { IfOk result (λ outcome. (report : Report) × (told : Option (List Line))
+        × IsVerdictOf (basis_of held.now.rrsets anchors.now asked.now.moment (V.meaning verifier.now))
+        asked.now.name.now asked.now.rtype.0 report.links report.last report.verdict
+        × IsWhy telling.why (basis_of held.now.rrsets anchors.now asked.now.moment (V.meaning verifier.now))
+        asked.now.rtype.0 report told
+        × (outcome.status ≡ specs.verdict_status report.verdict)
+        × (string_bytes outcome.text ≡ texts.check_text telling.format asked.now.name.now asked.now.rtype.0
+        asked.now.moment (status_code outcome.status) held.now.rrsets report.links report.verdict told)) }
+    ensures only { IfErr result (λ told. (told ≡ Fault.OutOfMemory) ⊎ ((error : VerdictError)
+        × IsRefusedFor (basis_of held.now.rrsets anchors.now asked.now.moment (V.meaning verifier.now))
+        asked.now.name.now asked.now.rtype.0 error × (told ≡ specs.verdict_fault error))) }
+{
+    match report_and_why(alloc, bump, telling.why, asked, held, anchors, verifier) {
+        Ok((report, told)) => {
+            let format = telling.format;
+            Ok(outcome_by(alloc, format, asked, held.rrsets(), &report, &told)?)
+        }
+        Err(error) => Err(verdict_fault(error)),
+    }
+}
+
+/// The end of a run by a report, and its text.
+fn outcome_by(
+    alloc: Global,
+    format: Format,
+    asked: &Asked<'_>,
+    rrsets: &[Rrset<'_>],
+    report: &Report<'_>,
+    why: &Option<Explanation>,
+) -> Result<Outcome, AllocError>
+    ensures status { IfOk result (λ outcome. outcome.status ≡ specs.verdict_status report.now.verdict) }
+    ensures text { IfOk result (λ outcome. string_bytes outcome.text ≡ texts.check_text format asked.now.name.now
+        asked.now.rtype.0 asked.now.moment (status_code outcome.status) rrsets.now report.now.links
+        report.now.verdict why.now) }
+{
+    let status = status_of(&report.verdict);
+    let heading = Heading {
+        name: asked.name,
+        rtype: asked.rtype,
+        moment: asked.moment.seconds(),
+        status: status.code(),
+    };
+    let text = check_text(alloc, format, &heading, rrsets, report, lines_of(why))?;
+    Ok(Outcome { status, text })
+}
+
+/// The lines that say why, where they are asked for.
+fn lines_of(why: &Option<Explanation>) -> Option<&[Line]>
+    ensures { option_map (λ lines. lines.now) result ≡ why.now }
+{
+    match why {
+        Some(explanation) => Some(explanation.lines()),
+        None => None,
+    }
+}
+
+/// The report on the question, and where that is asked for, why its verdict stands.
+fn report_and_why<'a, V: Verifier>(
+    alloc: Global,
+    bump: &'a Bump,
+    why: bool,
+    asked: &Asked<'_>,
+    held: &'a Capture<'a>,
+    anchors: &'a Anchors<'a>,
+    verifier: &V,
+) -> Result<(Report<'a>, Option<Explanation>), VerdictError>
+    ensures verdict { IfOk result (λ told. IsVerdictOf (basis_of held.now.rrsets anchors.now asked.now.moment
+        (V.meaning verifier.now)) asked.now.name.now asked.now.rtype.0 told.0.links told.0.last told.0.verdict) }
+    ensures why { IfOk result (λ told. IsWhy why (basis_of held.now.rrsets anchors.now asked.now.moment
+        (V.meaning verifier.now)) asked.now.rtype.0 told.0 told.1) }
+    ensures refused { IfErr result (λ error. (error ≡ OutOfMemory)
+        ⊎ IsRefusal (basis_of held.now.rrsets anchors.now asked.now.moment (V.meaning verifier.now))
+        asked.now.name.now asked.now.rtype.0 error) }
+{
+    let seconds = asked.moment.seconds();
+    let Asked { name, rtype, .. } = *asked;
+    if why {
+        let (report, explanation) = explain(
+            alloc, bump, held, anchors, seconds, verifier, name, rtype,
+        )?;
+        return Ok((report, Some(explanation)));
+    }
+    let report = validate(alloc, bump, held, anchors, seconds, verifier, name, rtype)?;
+    Ok((report, None))
+}
+
+/// The fault by which it is told that a question has no verdict. It has no place.
+fn verdict_fault(error: VerdictError) -> Fault
+    ensures told { result ≡ specs.verdict_fault error }
+    ensures number { fault_number result ≡ verdict_error_code error }
+{
+    match error {
+        VerdictError::OutOfMemory => Fault::OutOfMemory,
+        _ => Fault::Refused(Refusal::Question(error), Place::NOWHERE),
+    }
+}
+
+/// The end of a run by the verdict.
+fn status_of(verdict: &Verdict<'_>) -> Status
+    ensures { result ≡ specs.verdict_status verdict.now }
+{
+    match verdict {
+        Verdict::Insecure(_) => Status::Insecure,
+        Verdict::Pending(_) => Status::Pending,
+        Verdict::Bogus => Status::Bogus,
+        Verdict::Indeterminate => Status::Indeterminate,
+        _ => Status::Done,
+    }
+}

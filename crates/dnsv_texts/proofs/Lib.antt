@@ -1,0 +1,5 @@
+mod CheckingLemmas
+mod HexLemmas
+mod ListingLemmas
+mod ObjectLemmas
+pub mod ShowingLemmas

@@ -1,0 +1,88 @@
+-- The steps in which the objects of JSON are written.
+use Rattle.std.proofs.Common.{◌≡◌, true, false, List, [], ◌∷◌, ◌++◌, ℕ, refl, sym, ap, ◌∙◌, append_assoc, codes}
+use Rattle.std.proofs.lemmas.List.{append-nil}
+use Rattle.dnsv_lines.specs.Json.{AddsMembers, member, object, parted, quoted}
+use Rattle.dnsv_texts.specs.Json.{object_line}
+use Rattle.dnsv_lines.proofs.JsonLemmas.{parted-append}
+use Rattle.dnsv_lines.proofs.MemberLemmas.{no_members}
+
+-- nothing is written
+pub nothing_written : (s : List ℕ) → AddsMembers [] s s
+nothing_written s = no_members s
+
+-- a member more, behind others, of its key with a comma and a colon and of its value
+pub member_written : (s s1 s2 l v : List ℕ) → s1 ≡ s ++ l → s2 ≡ s1 ++ v → s2 ≡ s ++ (l ++ (v ++ []))
+member_written s s1 s2 l v is1 is2 =
+    is2 ∙ ap (λ t. t ++ v) is1 ∙ append_assoc s l v ∙ ap (λ t. s ++ (l ++ t)) (sym (append-nil v))
+
+-- an array behind its key, as the last that is written
+pub array_written : (s s1 s2 l p : List ℕ) → s1 ≡ (s ++ l) ++ p → s2 ≡ s1 ++ codes "]" → s2 ≡ s ++ (l ++ ((p ++ codes "]") ++ []))
+array_written s s1 s2 l p is1 is2 =
+    is2 ∙ ap (λ t. t ++ codes "]") is1 ∙ append_assoc (s ++ l) p (codes "]") ∙ append_assoc s l (p ++ codes "]")
+    ∙ ap (λ t. s ++ (l ++ t)) (sym (append-nil (p ++ codes "]")))
+
+-- ---- an entry that is to be checked
+
+four_members : (s p0 a p1 k p2 d p3 g e : List ℕ)
+    → ((((((s ++ (p0 ++ (a ++ p1))) ++ k) ++ p2) ++ d) ++ p3) ++ g) ++ e ≡ s ++ ((p0 ++ (a ++ (p1 ++ (k ++ (p2 ++ (d ++ (p3 ++ (g ++ [])))))))) ++ e)
+four_members s p0 a p1 k p2 d p3 g e = simp append_assoc refl
+
+pub entry_written : (s s1 s2 s3 s4 s5 s6 s7 a k d g : List ℕ) → s1 ≡ s ++ (codes "{\"algorithm\":" ++ (a ++ codes ",\"key\":"))
+    → s2 ≡ s1 ++ k → s3 ≡ s2 ++ codes ",\"data\":" → s4 ≡ s3 ++ d → s5 ≡ s4 ++ codes ",\"signature\":" → s6 ≡ s5 ++ g → s7 ≡ s6 ++ codes "}"
+    → s7 ≡ s ++ object (member (codes "algorithm") a ∷ member (codes "key") k ∷ member (codes "data") d ∷ member (codes "signature") g ∷ [])
+entry_written s s1 s2 s3 s4 s5 s6 s7 a k d g is1 is2 is3 is4 is5 is6 is7 =
+    is7 ∙ ap (λ t. t ++ codes "}") (is6 ∙ ap (λ t. t ++ g) (is5 ∙ ap (λ t. t ++ codes ",\"signature\":") (is4 ∙ ap (λ t. t ++ d) (is3
+    ∙ ap (λ t. t ++ codes ",\"data\":") (is2 ∙ ap (λ t. t ++ k) is1)))))
+    ∙ four_members s (codes "{\"algorithm\":") a (codes ",\"key\":") k (codes ",\"data\":") d (codes ",\"signature\":") g (codes "}")
+
+-- ---- an alias, and a record of a proof
+
+alias_members : (s p n x e : List ℕ) → (((s ++ p) ++ n) ++ x) ++ e ≡ s ++ ((p ++ (n ++ x)) ++ e)
+alias_members s p n x e = simp append_assoc refl
+
+pub alias_written : (s s1 s2 s3 s4 n : List ℕ) (others : List (List ℕ)) → s1 ≡ s ++ codes "{\"name\":" → s2 ≡ s1 ++ n
+    → s3 ≡ s2 ++ parted false others → s4 ≡ s3 ++ codes "}" → s4 ≡ s ++ object (member (codes "name") n ∷ others)
+alias_written s s1 s2 s3 s4 n others is1 is2 is3 is4 =
+    is4 ∙ ap (λ t. t ++ codes "}") (is3 ∙ ap (λ t. t ++ parted false others) (is2 ∙ ap (λ t. t ++ n) is1))
+    ∙ alias_members s (codes "{\"name\":") n (parted false others) (codes "}")
+
+record_members : (s p n q t e : List ℕ) → ((s ++ p) ++ n) ++ (q ++ (t ++ e)) ≡ s ++ ((p ++ (n ++ (q ++ (t ++ [])))) ++ e)
+record_members s p n q t e = simp append_assoc refl
+
+pub record_written : (s s1 s2 s3 n t : List ℕ) → s1 ≡ s ++ codes "{\"owner\":" → s2 ≡ s1 ++ n
+    → s3 ≡ s2 ++ (codes ",\"type\":" ++ (t ++ codes "}")) → s3 ≡ s ++ object (member (codes "owner") n ∷ member (codes "type") t ∷ [])
+record_written s s1 s2 s3 n t is1 is2 is3 =
+    is3 ∙ ap (λ x. x ++ (codes ",\"type\":" ++ (t ++ codes "}"))) (is2 ∙ ap (λ x. x ++ n) is1)
+    ∙ record_members s (codes "{\"owner\":") n (codes ",\"type\":") t (codes "}")
+
+-- ---- a question and its verdict
+
+six_members : (s p0 d q p n p1 t p2 m p3 w p4 c : List ℕ)
+    → (((s ++ (p0 ++ (d ++ (q ++ p)))) ++ n) ++ (p1 ++ (t ++ (p2 ++ m)))) ++ (p3 ++ (w ++ ((q ++ p4) ++ c)))
+    ≡ s ++ (p0 ++ ((d ++ q) ++ (p ++ (n ++ (p1 ++ (t ++ (p2 ++ (m ++ (p3 ++ ((w ++ q) ++ (p4 ++ (c ++ []))))))))))))
+six_members s p0 d q p n p1 t p2 m p3 w p4 c =
+    simp append_assoc (ap (λ end. s ++ (p0 ++ (d ++ (q ++ (p ++ (n ++ (p1 ++ (t ++ (p2 ++ (m ++ (p3 ++ (w ++ (q ++ (p4 ++ end)))))))))))))) (sym (append-nil c)))
+
+pub verdict_begun : (s s1 s2 s3 s4 d n t m w c : List ℕ) → s1 ≡ s ++ (codes "{\"command\":\"" ++ (d ++ codes "\",\"name\":")) → s2 ≡ s1 ++ n
+    → s3 ≡ s2 ++ (codes ",\"type\":" ++ (t ++ (codes ",\"moment\":" ++ m)))
+    → s4 ≡ s3 ++ (codes ",\"verdict\":\"" ++ (w ++ (codes "\",\"status\":" ++ c)))
+    → s4 ≡ s ++ (codes "{" ++ parted true (member (codes "command") (quoted d) ∷ member (codes "name") n ∷ member (codes "type") t
+    ∷ member (codes "moment") m ∷ member (codes "verdict") (quoted w) ∷ member (codes "status") c ∷ []))
+verdict_begun s s1 s2 s3 s4 d n t m w c is1 is2 is3 is4 =
+    is4 ∙ ap (λ x. x ++ (codes ",\"verdict\":\"" ++ (w ++ (codes "\",\"status\":" ++ c))))
+    (is3 ∙ ap (λ x. x ++ (codes ",\"type\":" ++ (t ++ (codes ",\"moment\":" ++ m)))) (is2 ∙ ap (λ x. x ++ n) is1))
+    ∙ six_members s (codes "{\"command\":\"") d (codes "\"") (codes ",\"name\":") n (codes ",\"type\":") t (codes ",\"moment\":") m
+    (codes ",\"verdict\":\"") w (codes ",\"status\":") c
+
+whole : (o p l a r e n : List ℕ) → ((((o ++ p) ++ l) ++ a) ++ r) ++ (e ++ n) ≡ (o ++ ((p ++ (l ++ (a ++ r))) ++ e)) ++ n
+whole o p l a r e n = simp append_assoc refl
+
+-- the first members, the aliases, and what carries the verdict and explains it
+pub verdict_written : (s1 s2 s3 s4 s5 a first : List ℕ) (front others : List (List ℕ)) → s1 ≡ codes "{" ++ parted true (first ∷ front)
+    → s2 ≡ s1 ++ codes ",\"aliases\":" → s3 ≡ s2 ++ a → s4 ≡ s3 ++ parted false others → s5 ≡ s4 ++ codes "}\n"
+    → s5 ≡ object_line ((first ∷ front) ++ member (codes "aliases") a ∷ others)
+verdict_written s1 s2 s3 s4 s5 a first front others is1 is2 is3 is4 is5 =
+    is5 ∙ ap (λ t. t ++ codes "}\n") (is4 ∙ ap (λ t. t ++ parted false others) (is3 ∙ ap (λ t. t ++ a) (is2 ∙ ap (λ t. t ++ codes ",\"aliases\":") is1)))
+    ∙ whole (codes "{") (parted true (first ∷ front)) (codes ",\"aliases\":") a (parted false others) (codes "}") (codes "\n")
+    ∙ ap (λ members. (codes "{" ++ (members ++ codes "}")) ++ codes "\n")
+    (sym (parted-append true (first ∷ front) (member (codes "aliases") a ∷ others)))

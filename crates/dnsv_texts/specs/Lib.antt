@@ -1,0 +1,7 @@
+pub mod Checking
+pub mod Hex
+pub mod Json
+pub mod Listing
+pub mod Showing
+pub mod Todo
+pub mod Why

@@ -1,0 +1,20 @@
+//! JSON as the program writes it: one object on one line (RFC 8259).
+ghost use Rattle.std.specs.Prelude.{◌≡◌, ◌++◌, OnOk, string_bytes};
+ghost use Rattle.dnsv_texts.specs.Json.{octets_json};
+
+pub mod checking;
+pub mod explaining;
+pub mod todo;
+
+use crate::hex_text::push_hex;
+use std::alloc::AllocError;
+
+/// Adds octets as a string of hex.
+pub fn push_octets(text: &mut String, octets: &[u8]) -> Result<(), AllocError>
+    ensures { OnOk result (string_bytes text.new ≡ string_bytes text.old ++ octets_json octets.now) }
+{
+    text.push_str("\"")?;
+    push_hex(text, octets)?;
+    text.push_str("\"")?;
+    Ok(())
+}

@@ -1,0 +1,21 @@
+//! The texts of the program: what is told of messages, of signatures, of what is to be checked, and of a verdict, in
+//! lines or in JSON.
+//!
+//! Nothing is decided here: each text is that of the values that are given.
+#![tactic(auto)]
+
+pub use checking::{Heading, check_text, question_word};
+pub use format::Format;
+pub use listing::listing_text;
+pub use showing::push_message;
+pub use todo::todo_text;
+
+mod checking;
+mod explaining;
+mod format;
+mod hex_text;
+mod json;
+mod listing;
+mod reason;
+mod showing;
+mod todo;
