@@ -92,10 +92,10 @@ pub fn explain<'a, V: Verifier>(
 }
 
 /// Why the verdict stands.
-fn explanation_of(
+fn explanation_of<'a>(
     alloc: Global,
-    case: &Case<'_>,
-    judged: &Judged<'_>,
+    case: &'a Case<'a>,
+    judged: &'a Judged<'a>,
     rtype: RecordType,
 ) -> Result<Explanation, AllocError>
     requires trust { HasTrust case.now }
@@ -125,10 +125,10 @@ fn explanation_of(
 }
 
 /// Why nothing is proved: what fails, and then what holds.
-fn failed(
+fn failed<'a>(
     alloc: Global,
-    case: &Case<'_>,
-    judged: &Judged<'_>,
+    case: &'a Case<'a>,
+    judged: &'a Judged<'a>,
     rtype: RecordType,
 ) -> Result<Explanation, AllocError>
     requires trust { HasTrust case.now }
