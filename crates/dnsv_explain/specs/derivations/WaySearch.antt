@@ -1,5 +1,5 @@
 -- How the first way is looked for. No public clause cites this module.
-use Rattle.std.specs.Prelude.{◌≡◌, ◌≢◌, ◌<◌, ◌≤◌, ℕ, List, Contains, MatchOption, Option, get_or, length, map}
+use Rattle.std.specs.Prelude.{◌≡◌, ◌≢◌, ◌<◌, ◌≤◌, ◌+◌, ℕ, List, Contains, MatchOption, Option, get_or, length, map}
 use Rattle.std.specs.List.{AllByRecursion}
 use Rattle.std.specs.declared.cmp.Ordering.TheVariants.{Less}
 use Rattle.dnsv_names.specs.Name.{Labels, SameName}
@@ -134,3 +134,7 @@ AreFirstWays setting ways = (k : ℕ) (way : Option FoundWay) → IsNumbered way
 -- no way goes before this rank
 abbrev pub IsNoWayBefore : Setting → ℕ → ℕ × ℕ × ℕ → Type 0
 IsNoWayBefore setting k rank = (way : Way) → IsWayInto setting k way → ¬ IsLess (voucher_rank way.voucher) rank
+
+-- the number at a place, counted from 0, or one that no RRset has
+abbrev pub number_or_end : List ReceivedRrset → List ℕ → ℕ → ℕ
+number_or_end rrsets numbers place = get_or numbers place (length rrsets + 1)

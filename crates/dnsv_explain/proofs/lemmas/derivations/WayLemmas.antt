@@ -1,4 +1,5 @@
 -- What has a way in is trusted.
+pub mod DelegationLemmas
 pub mod FirstLemmas
 pub mod KeptLemmas
 pub mod KeysLemmas

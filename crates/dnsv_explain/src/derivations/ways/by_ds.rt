@@ -9,7 +9,7 @@ use crate::derivations::ways::FoundWay;
 use crate::derivations::ways::keys::KeySet;
 use crate::derivations::ways::matcher::{Matcher, way_with};
 use crate::evidence::Evidence;
-use dnsv_canonical::{RecordNumber, Rrset, in_canonical_order};
+use dnsv_canonical::{RecordNumber, Rrset, in_canonical_order, numbered};
 use dnsv_chain::is_usable;
 use dnsv_lines::Voucher;
 use dnsv_names::{Name, RecordType};
@@ -27,8 +27,13 @@ pub fn way_by_ds(
     ensures { IfOk result (λ way. MatchOption way (IsNoWay (setting_in evidence.now) set.now.number)
         (IsFoundWay (setting_in evidence.now) set.now.number)) }
 {
-    for (place, ds) in evidence.rrsets().iter().enumerate() {
-        if let Some(way) = way_in(alloc, evidence, set, place + 1, ds)? {
+    let rrsets = evidence.rrsets();
+    let capture = evidence.capture();
+    for number in capture.at(set.rrset.owner(), RecordType::DS) {
+        let Some(ds) = numbered(rrsets, *number) else {
+            continue;
+        };
+        if let Some(way) = way_in(alloc, evidence, set, *number, ds)? {
             return Ok(Some(way));
         }
     }

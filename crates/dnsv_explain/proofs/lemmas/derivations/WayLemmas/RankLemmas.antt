@@ -210,28 +210,31 @@ module _ (setting : Setting) (k : ℕ) where
       (by_rank way way.voucher is.matched)
 
   -- the DS RRset of a way stands at the owner of the DNSKEY RRset, and is signed
-  pub record_skipped : (set ds : ReceivedRrset) (number : ℕ) → IsNumbered setting.rrsets k set → IsNumbered setting.rrsets number ds
-      → ¬ MayDelegate setting number ds set.owner → IsNoWayBefore setting k (1, number, 0) → IsNoWayBefore setting k (1, number + 1, 0)
-  record_skipped set ds number is_set is_ds never none = records_then number 0 (number + 1) 0 none (λ way rrset place is by before less.
-      ⊎_elim (λ (below : rrset < number + 1). ⊎_elim
-      (λ (earlier : rrset < number). before (inr (refl, inl earlier)))
-      (λ (later : number ≤ rrset).
-      let last : rrset ≡ number = omega (arith, below, later) in
-      let Numbered : ℕ → Type 0 = λ n. IsNumbered setting.rrsets n by.ds.rrset in
-      let same : by.ds.rrset ≡ ds =
-      same_number setting.rrsets number by.ds.rrset ds (subst Numbered (by.rrset_is ∙ last) by.ds.at.is_rrset) is_ds in
+  may_delegate : (set : ReceivedRrset) → IsNumbered setting.rrsets k set → (way : Way) (rrset place : ℕ) → IsWayInto setting k way
+      → (by : ByDs way rrset place) → MayDelegate setting rrset by.ds.rrset set.owner
+  may_delegate set is_set way rrset place is by =
       let set_is : is.set ≡ set = same_number setting.rrsets k is.set set is.good.is_rrset is_set in
       let owner : way.key.owner ≡ set.owner = is.stands.owner ∙ ap (λ (each : ReceivedRrset). each.owner) set_is in
-      let AtKey : ReceivedRrset → Type 0 = λ each. SameName each.owner way.key.owner in
-      let AtOwner : Labels → Type 0 = λ each. SameName ds.owner each in
-      let Has : ℕ → Type 0 = λ n. HasSecured setting n in
-      never (record {
-        rtype = sym (ap (λ (each : ReceivedRrset). each.rtype) same) ∙ by.ds.rtype;
-        owner = subst AtOwner owner (subst AtKey same by.ds.matching.same_owner);
-        secured = subst Has (by.rrset_is ∙ last) by.secured;
-      }))
-      (cases_lt rrset number))
-      (λ (at : (rrset ≡ number + 1) × (place < 0)). let no = at.1 in absurd (omega (arith, no))) (record_less rrset place (number + 1) 0 less))
+      let AtOwner : Labels → Type 0 = λ each. SameName by.ds.rrset.owner each in
+      let Has : ℕ → Type 0 = λ n. HasSecured setting n in record {
+        rtype = by.ds.rtype;
+        owner = subst AtOwner owner by.ds.matching.same_owner;
+        secured = subst Has by.rrset_is by.secured;
+      }
+
+  -- so those RRsets are passed of which none is such a one
+  pub records_skipped : (set : ReceivedRrset) → IsNumbered setting.rrsets k set → (from to : ℕ)
+      → ((number : ℕ) (ds : ReceivedRrset) → IsNumbered setting.rrsets number ds → MayDelegate setting number ds set.owner → from ≤ number → to ≤ number)
+      → IsNoWayBefore setting k (1, from, 0) → IsNoWayBefore setting k (1, to, 0)
+  records_skipped set is_set from to behind none = records_then from 0 to 0 none (λ way rrset place is by before less.
+      ⊎_elim (λ (below : rrset < to). ⊎_elim
+      (λ (earlier : rrset < from). before (inr (refl, inl earlier)))
+      (λ (later : from ≤ rrset).
+      let Numbered : ℕ → Type 0 = λ n. IsNumbered setting.rrsets n by.ds.rrset in
+      let past = behind rrset by.ds.rrset (subst Numbered by.rrset_is by.ds.at.is_rrset) (may_delegate set is_set way rrset place is by) later in
+      absurd (omega (arith, below, past)))
+      (cases_lt rrset from))
+      (λ (at : (rrset ≡ to) × (place < 0)). let no = at.1 in absurd (omega (arith, no))) (record_less rrset place to 0 less))
 
 -- DS RDATA is its own canonical form
 pub ds_forms : (received : List (List ℕ)) → map (canonical_form 43) received ≡ received

@@ -3,14 +3,15 @@ use Rattle.std.proofs.lemmas.Option.{MatchOption-at_none, MatchOption-at_some}
 use Rattle.dnsv_names.specs.Name.{Labels}
 use Rattle.dnsv_explain.specs.Explained.{setting_in}
 use Rattle.dnsv_explain.specs.derivations.WaySearch.{MayDelegate}
-use Rattle.dnsv_explain.proofs.lemmas.derivations.WayLemmas.RankLemmas.{places_begin, record_skipped}
+use Rattle.dnsv_explain.proofs.lemmas.derivations.WayLemmas.DelegationLemmas.{record_skipped}
+use Rattle.dnsv_explain.proofs.lemmas.derivations.WayLemmas.RankLemmas.{places_begin}
 use Rattle.dnsv_explain.proofs.lemmas.derivations.WayLemmas.ReadLemmas.{all_passed, found_by, unmatched_passed, unusable_passed}
 use Rattle.dnsv_explain.proofs.derivations.ways.by_ds.way_in.Goals as goal
 
 pub returns-then-not-may_delegate : goal.returns-then-not-may_delegate
 returns-then-not-may_delegate c =
-    record_skipped (setting_in c.args.evidence.now) c.args.set.now.number c.args.set.now.rrset.now c.args.ds.now c.args.from
-    c.requires.set.numbered c.requires.ds
+    record_skipped (setting_in c.args.evidence.now) c.args.set.now.number c.args.set.now.rrset.now c.requires.set.numbered
+    c.args.ds.now c.args.from c.requires.ds
     (λ may.
     let May : Labels → Type 0 = λ name. MayDelegate (setting_in c.args.evidence.now) c.args.from c.args.ds.now name in
     let holds = c.may_delegate.ensures.1 (subst May (sym c.owner.ensures) may) in
