@@ -11,6 +11,6 @@ returns c = (
   c.in_ok-capture.ensures,
   c.number.ensures.said ∙ same_moment c.new.result c.number.result c.unwrap-moment.result c.new.ensures c.number.ensures.bound c.unwrap-moment.ensures,
   c.in_ok-statements.ensures,
-  c.flag.ensures,
-  c.format_asked.ensures,
+  c.flag-all.ensures,
+  c.format_asked-format.ensures,
 )
