@@ -5,6 +5,7 @@ pub mod HeldTo
 pub mod KeptWays
 pub mod OwnDerivations
 pub mod OwnSearch
+pub mod Repeats
 pub mod SignerSearch
 pub mod WaySearch
 pub mod Ways

@@ -5,10 +5,12 @@ ghost use Rattle.dnsv_verifier.specs.Admissible.{IsGood};
 ghost use Rattle.dnsv_verifier.specs.Table.{table_answer};
 ghost use Rattle.dnsv_chain.specs.Trust.{AreSecured, IsTrustOf};
 ghost use Rattle.dnsv_explain.specs.Explained.{IsTodo, setting_in};
+ghost use Rattle.dnsv_explain.specs.derivations.Repeats.{IsRepeatAt};
 ghost use Rattle.dnsv_explain.specs.derivations.WaySearch.{AreFirstWays, IsWayOf};
 ghost use Rattle.dnsv_explain.specs.faults.Keys.{IsTrustedZone};
 
 use crate::derivations::ways::FoundWay;
+use crate::derivations::ways::kept::KeptWay;
 use crate::todo::number_among;
 use dnsv_canonical::{Capture, Rrset, numbered};
 use dnsv_chain::{Anchor, Anchors, Trust, is_good};
@@ -29,7 +31,7 @@ pub struct Evidence<'a> {
     trust: &'a Trust<'a>,
     todo: Option<&'a Entries<'a>>,
     /// The first way into each RRset by its number, once they are worked out: each is asked for by many lines.
-    ways: &'a [Option<FoundWay>],
+    ways: &'a [KeptWay],
 }
 
 impl<'a> Model for Evidence<'a> {
@@ -84,7 +86,7 @@ impl<'a> Evidence<'a> {
     }
 
     /// The same evidence, with the first ways into its RRsets.
-    pub(crate) fn with_ways(&self, ways: &'a [Option<FoundWay>]) -> Evidence<'a>
+    pub(crate) fn with_ways(&self, ways: &'a [KeptWay]) -> Evidence<'a>
         requires { AreFirstWays (setting_in self.now) ways.now }
         ensures { result ≡ self.now }
     {
@@ -102,10 +104,21 @@ impl<'a> Evidence<'a> {
     pub(crate) fn kept_way(&self, number: usize) -> Option<Option<FoundWay>>
         ensures { MatchOption result (Unit {0}) (IsWayOf (setting_in self.now) number) }
     {
-        let Some(way) = numbered(self.ways, number) else {
+        let Some(kept) = numbered(self.ways, number) else {
             return None;
         };
-        Some(*way)
+        Some(kept.way)
+    }
+
+    /// Whether it is known of the RRset with the number that an RRset before it is trusted too, has the same owner, and
+    /// has all of its keys.
+    pub(crate) fn is_repeat(&self, number: usize) -> bool
+        ensures { (is : IsTrue result) → IsRepeatAt (setting_in self.now) number }
+    {
+        let Some(known) = numbered(self.ways, number) else {
+            return false;
+        };
+        known.is_repeat
     }
 
     pub(crate) fn capture(&self) -> &'a Capture<'a>

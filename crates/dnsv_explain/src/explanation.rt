@@ -18,7 +18,7 @@ ghost use Rattle.dnsv_explain.specs.Explained.{explained_by, setting_in};
 ghost use Rattle.dnsv_explain.specs.Explanation.{IsExplanation, IsExplanationOf, IsLinkTold, IsUnproved};
 ghost use Rattle.dnsv_explain.specs.Saying.{Adds, AreEach};
 
-use crate::derivations::ways::first_ways;
+use crate::derivations::ways::kept::first_ways;
 use crate::evidence::Evidence;
 use crate::explanation::at::{At, evidence_of};
 use crate::explanation::end::{add_end, add_places_named};

@@ -4,4 +4,5 @@ pub mod DerivationLemmas
 pub mod HeldLemmas
 pub mod OwnLemmas
 pub mod SignerLemmas
+pub mod SignersAtLemmas
 pub mod WayLemmas

@@ -1,5 +1,5 @@
 -- How the first key of a signature is looked for. No public clause cites this module.
-use Rattle.std.specs.Prelude.{◌≡◌, ◌≢◌, ◌≤◌, ℕ, List, Option, Some, None}
+use Rattle.std.specs.Prelude.{◌≡◌, ◌≢◌, ◌<◌, ◌≤◌, ◌⊎◌, ℕ, List, Option, Some, None}
 use Rattle.std.specs.declared.cmp.Ordering.TheVariants.{Less}
 use Rattle.dnsv_records.specs.Rrsig.{IsRrsig}
 use Rattle.dnsv_records.specs.declared.rrsig.Rrsig.{Rrsig}
@@ -36,17 +36,26 @@ pub record IsLowestGoodKey
   pub lowest : (other : DnskeyRecord) → IsKeyOf set other → IsGood setting.meaning setting.moment rrset rrsig other
       → rdata_cmp other.rdata key.rdata ≢ Less
 
--- it is the lowest of those that stand in DNSKEY RRset k
+-- it is good under a key of the same RDATA in an earlier trusted RRset
+pub record IsKnownSigner (setting : Setting) (number : SignatureNumber) (k : ℕ) (key : DnskeyRecord) : Type 0 where
+  pub set : ℕ
+  pub other : DnskeyRecord
+  pub earlier : set < k
+  pub is : IsSigner setting number set other
+  pub rdata : other.rdata ≡ key.rdata
+
+-- it is the lowest of those that stand in DNSKEY RRset k, but for those that are known
 pub record IsLowestIn (setting : Setting) (number : SignatureNumber) (k : ℕ) (signer : Signer) : Type 0 where
   pub key : DnskeyRecord
   pub of : IsOfKey k key signer
   pub is : IsSigner setting number k key
   pub todo : IsTodo setting.todo is.good.good.entry signer.todo.0
-  pub lowest : (other : DnskeyRecord) → IsSigner setting number k other → rdata_cmp other.rdata key.rdata ≢ Less
+  pub lowest : (other : DnskeyRecord) → IsSigner setting number k other
+      → (rdata_cmp other.rdata key.rdata ≢ Less) ⊎ IsKnownSigner setting number k other
 
 -- or there is none in it
 abbrev pub IsLowestOf : Setting → SignatureNumber → ℕ → Option Signer → Type 0
-IsLowestOf setting number k None = (other : DnskeyRecord) → ¬ IsSigner setting number k other
+IsLowestOf setting number k None = (other : DnskeyRecord) → IsSigner setting number k other → IsKnownSigner setting number k other
 IsLowestOf setting number k (Some signer) = IsLowestIn setting number k signer
 
 -- it is the first of those of the RRsets up to the number

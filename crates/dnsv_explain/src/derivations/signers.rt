@@ -11,7 +11,6 @@ ghost use Rattle.dnsv_explain.specs.derivations.Ways.{IsSignedLine};
 use crate::derivations::ways::first_way;
 use crate::derivations::ways::keys::key_name;
 use crate::evidence::Evidence;
-use crate::faults::keys::is_signer;
 use dnsv_canonical::{Rrset, SignatureNumber, in_canonical_order, numbered};
 use dnsv_lines::{KeyName, SignedRrset, Todo};
 use dnsv_names::RecordType;
@@ -83,9 +82,14 @@ fn first_signer<'a>(
     requires rrsig { IsSignatureAt rrset.now number.signature rrsig.now }
     ensures { IfOk result (IsFirstTo (setting_in evidence.now) number (length rrsets.now)) }
 {
+    let signer = rrsig.signer.to_name();
+    let capture = evidence.capture();
     let mut first = None;
-    for (place, set) in rrsets.iter().enumerate() {
-        let found = lowest_in(alloc, evidence, number, rrset, rrsig, place + 1, set)?;
+    for k in capture.at(&signer, RecordType::DNSKEY) {
+        let Some(set) = numbered(rrsets, *k) else {
+            continue;
+        };
+        let found = lowest_in(alloc, evidence, number, rrset, rrsig, *k, set)?;
         first = earlier(first, found);
     }
     Ok(first)
@@ -109,7 +113,8 @@ fn earlier<'a>(first: Option<Signer<'a>>, found: Option<Signer<'a>>) -> Option<S
     }
 }
 
-/// The lowest key of the signature in the RRset, which has the number `k`.
+/// The lowest key of the signature in the DNSKEY RRset of its signer, which has the number `k`. Of one that repeats the
+/// keys of an earlier one there is none to be told.
 fn lowest_in<'a>(
     alloc: Global,
     evidence: &Evidence<'_>,
@@ -120,14 +125,12 @@ fn lowest_in<'a>(
     set: &'a Rrset<'a>,
 ) -> Result<Option<Signer<'a>>, AllocError>
     requires set { IsNumbered evidence.now.rrsets k set.now }
+    requires rtype { set.now.rtype ≡ 48 }
     requires rrset { IsNumbered evidence.now.rrsets number.rrset rrset.now }
     requires rrsig { IsSignatureAt rrset.now number.signature rrsig.now }
     ensures { IfOk result (IsLowestOf (setting_in evidence.now) number k) }
 {
-    if set.rtype() != RecordType::DNSKEY {
-        return Ok(None);
-    }
-    if !is_signer(set.owner(), rrsig) {
+    if evidence.is_repeat(k) {
         return Ok(None);
     }
     if !is_trusted(alloc, evidence, k, set)? {

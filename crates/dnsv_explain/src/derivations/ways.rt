@@ -2,6 +2,7 @@
 
 pub mod by_anchor;
 pub mod by_ds;
+pub mod kept;
 pub mod keys;
 pub mod matcher;
 
@@ -9,7 +10,7 @@ ghost use Rattle.std.specs.Prelude.{◌≡◌, IfOk, MatchOption};
 ghost use Rattle.dnsv_canonical.specs.Rrsets.{IsNumbered};
 ghost use Rattle.dnsv_explain.specs.Explained.{setting_in};
 ghost use Rattle.dnsv_explain.specs.derivations.Ways.{IsTrustedLine, IsTrustedSet};
-ghost use Rattle.dnsv_explain.specs.derivations.WaySearch.{AreFirstWays, IsWayOf};
+ghost use Rattle.dnsv_explain.specs.derivations.WaySearch.{IsWayOf};
 
 use crate::derivations::ways::by_anchor::way_by_anchor;
 use crate::derivations::ways::by_ds::way_by_ds;
@@ -59,21 +60,7 @@ pub fn trusted_line(
     }))
 }
 
-/// The first way into each RRset, by its number: none into one that isn't trusted, or is no DNSKEY RRset.
-pub fn first_ways(
-    alloc: Global,
-    evidence: &Evidence<'_>,
-) -> Result<Vec<Option<FoundWay>>, AllocError>
-    ensures { IfOk result (λ ways. AreFirstWays (setting_in evidence.now) ways.items) }
-{
-    let mut ways = Vec::new(alloc);
-    for (place, rrset) in evidence.rrsets().iter().enumerate() {
-        ways.push(way_into(alloc, evidence, place + 1, rrset)?)?;
-    }
-    Ok(ways)
-}
-
-/// The first way into the RRset, which has the number.
+/// The first way into the RRset, which has the number: none into one that isn't trusted, or is no DNSKEY RRset.
 fn way_into(
     alloc: Global,
     evidence: &Evidence<'_>,

@@ -8,7 +8,7 @@ ghost use Rattle.dnsv_explain.specs.Explained.{explained_by};
 ghost use Rattle.dnsv_explain.specs.Explanation.{IsHopeTold, IsVerdictTold, told_kind};
 ghost use Rattle.dnsv_explain.specs.Saying.{Adds};
 
-use crate::derivations::ways::first_ways;
+use crate::derivations::ways::kept::first_ways;
 use crate::evidence::Evidence;
 use crate::explanation::at::{At, evidence_of};
 use crate::explanation::held::add_held;

@@ -1,5 +1,5 @@
 -- The first trusted key under which a signature is good.
-use Rattle.std.proofs.Common.{◌≡◌, ◌≢◌, ◌<◌, ◌≤◌, ◌+◌, ◌-◌, ℕ, List, Option, Some, None, length, refl, sym, ap, ◌∙◌, subst, ⊎_elim, arith}
+use Rattle.std.proofs.Common.{◌≡◌, ◌≢◌, ◌<◌, ◌≤◌, ◌+◌, ◌-◌, ◌⊎◌, inl, ℕ, List, Option, Some, None, length, refl, sym, ap, ◌∙◌, subst, ⊎_elim, arith}
 use Rattle.std.proofs.lemmas.Bool.{cases_lt}
 use Rattle.std.proofs.lemmas.Cmp.{nat_list_cmp_total, tied_itself}
 use Rattle.std.proofs.lemmas.Option.{slice_get_within}
@@ -15,13 +15,16 @@ use Rattle.dnsv_verifier.specs.Admissible.{DnskeyRecord, IsGood}
 use Rattle.dnsv_chain.specs.Trusted.{IsKeyOf, IsSecured, IsTrusted}
 use Rattle.dnsv_explain.specs.Explained.{Setting}
 use Rattle.dnsv_explain.specs.Following.{IsGoodUnder}
-use Rattle.dnsv_explain.specs.derivations.SignerSearch.{IsFirstAmong, IsFirstTo, IsLowestGoodKey, IsLowestIn, IsLowestOf, IsSignatureAt}
+use Rattle.dnsv_explain.specs.derivations.SignerSearch.{IsFirstAmong, IsFirstTo, IsKnownSigner, IsLowestGoodKey, IsLowestIn, IsLowestOf, IsSignatureAt}
 use Rattle.dnsv_explain.specs.derivations.Ways.{IsFirstSigner, IsSignedLine, IsSigner}
 use Rattle.dnsv_canonical.specs.declared.number.SignatureNumber.{SignatureNumber}
 use Rattle.dnsv_explain.specs.declared.derivations.signers.Signer.{Signer}
 use Rattle.std.specs.List.{AllZip}
 use Rattle.dnsv_names.specs.Name.{Labels, SameName}
 use Rattle.dnsv_names.specs.declared.number.RecordType.{RecordType}
+use Rattle.dnsv_chain.proofs.WalkLemmas.{same_rdata_good}
+use Rattle.dnsv_verdict.proofs.SearchLemmas.NumberLemmas.{IsOneAt}
+use Rattle.dnsv_explain.specs.derivations.Repeats.{IsRepeat}
 use Rattle.dnsv_explain.proofs.lemmas.NumberedLemmas.{same_number}
 use Rattle.dnsv_explain.proofs.lemmas.intervals.ShownLemmas.{rdata_at, read_at}
 use Rattle.dnsv_explain.proofs.lemmas.derivations.WayLemmas.TrustedLemmas.{number_of, trusted_among}
@@ -42,6 +45,9 @@ itself_not_less a b same less =
     let turned : rdata_cmp a a ≡ Less = subst To (sym same) less in
     let tied : rdata_cmp a a ≡ Equal = tied_itself nat_list_cmp_total a in cc
 
+as_known : (a b c : List ℕ) → a ≡ b → rdata_cmp a c ≢ Less → rdata_cmp b c ≢ Less
+as_known a b c same never = let Above : List ℕ → Type 0 = λ each. rdata_cmp each c ≢ Less in subst Above same never
+
 module _ (setting : Setting) (number : SignatureNumber) (n : ℕ) where
   -- of the first n + 1 RRsets one is among the first n, or is the last
   one_more : (P : ℕ → Type 0) (k : ℕ) → k ≤ n + 1 → ((k ≤ n) → P k) → P (n + 1) → P k
@@ -51,9 +57,11 @@ module _ (setting : Setting) (number : SignatureNumber) (n : ℕ) where
       (cases_lt n k)
 
   pub none_found : (first : Option Signer) → IsFirstTo setting number n first
-      → ((other : DnskeyRecord) → ¬ IsSigner setting number (n + 1) other) → IsFirstTo setting number (n + 1) first
+      → ((other : DnskeyRecord) → IsSigner setting number (n + 1) other → IsKnownSigner setting number (n + 1) other)
+      → IsFirstTo setting number (n + 1) first
   none_found None none last = λ k other below.
-      one_more (λ m. ¬ IsSigner setting number m other) k below (λ within. none k other within) (last other)
+      one_more (λ m. ¬ IsSigner setting number m other) k below (λ within. none k other within)
+      (λ is. let known = last other is in let before = known.earlier in none known.set known.other (omega (arith, before)) known.is)
   none_found (Some signer) first last =
       let within = first.within in record {
         key = first.key;
@@ -63,10 +71,19 @@ module _ (setting : Setting) (number : SignatureNumber) (n : ℕ) where
         within = omega (arith, within);
         lowest = λ k other below.
             one_more (λ m. IsSigner setting number m other → rdata_cmp other.rdata first.key.rdata ≢ Less) k below
-            (λ inside. first.lowest k other inside) (λ is less. last other is);
+            (λ inside. first.lowest k other inside)
+            (λ is.
+            let known = last other is in
+            let before = known.earlier in
+            as_known known.other.rdata other.rdata first.key.rdata known.rdata (first.lowest known.set known.other (omega (arith, before)) known.is));
         earliest = λ k other below.
             one_more (λ m. IsSigner setting number m other → other.rdata ≡ first.key.rdata → signer.set ≤ m) k below
-            (λ inside. first.earliest k other inside) (λ is same. absurd (last other is));
+            (λ inside. first.earliest k other inside)
+            (λ is same.
+            let known = last other is in
+            let before = known.earlier in
+            let at = first.earliest known.set known.other (omega (arith, before)) known.is (known.rdata ∙ same) in
+            omega (arith, at, before));
       }
 
   -- a key of the last is the first, where none before it has an RDATA that isn't above
@@ -91,7 +108,12 @@ module _ (setting : Setting) (number : SignatureNumber) (n : ℕ) where
         within = omega (arith, set);
         lowest = λ k other below.
             one_more (λ m. IsSigner setting number m other → rdata_cmp other.rdata lowest.key.rdata ≢ Less) k below
-            (λ inside is. (above k other inside is).0) (λ is. lowest.lowest other is);
+            (λ inside is. (above k other inside is).0)
+            (λ is. ⊎_elim (λ (never : rdata_cmp other.rdata lowest.key.rdata ≢ Less). never)
+            (λ (known : IsKnownSigner setting number (n + 1) other).
+            let before = known.earlier in
+            as_known known.other.rdata other.rdata lowest.key.rdata known.rdata (above known.set known.other (omega (arith, before)) known.is).0)
+            (lowest.lowest other is));
         earliest = λ k other below.
             one_more (λ m. IsSigner setting number m other → other.rdata ≡ lowest.key.rdata → found.set ≤ m) k below
             (λ inside is same. absurd ((above k other inside is).1 same)) (λ is same. omega (arith, set));
@@ -125,7 +147,13 @@ module _ (setting : Setting) (number : SignatureNumber) (n : ℕ) where
         lowest = λ k other below.
             one_more (λ m. IsSigner setting number m other → rdata_cmp other.rdata before.key.rdata ≢ Less) k below
             (λ inside. before.lowest k other inside)
-            (λ is. not_less_chain other.rdata lowest.key.rdata before.key.rdata (lowest.lowest other is) at_least);
+            (λ is. ⊎_elim
+            (λ (above : rdata_cmp other.rdata lowest.key.rdata ≢ Less).
+            not_less_chain other.rdata lowest.key.rdata before.key.rdata above at_least)
+            (λ (known : IsKnownSigner setting number (n + 1) other).
+            let earlier = known.earlier in
+            as_known known.other.rdata other.rdata before.key.rdata known.rdata (before.lowest known.set known.other (omega (arith, earlier)) known.is))
+            (lowest.lowest other is));
         earliest = λ k other below.
             one_more (λ m. IsSigner setting number m other → other.rdata ≡ before.key.rdata → first.set ≤ m) k below
             (λ inside. before.earliest k other inside) (λ is same. omega (arith, within));
@@ -167,16 +195,8 @@ module _ (setting : Setting) (number : SignatureNumber) (rrset : ReceivedRrset) 
   its_key : (key : DnskeyRecord) → IsSigner setting number k key → IsKeyOf set key
   its_key key is = let Stands : ReceivedRrset → Type 0 = λ each. IsKeyOf each key in subst Stands (its_set key is) is.stands
 
-  pub not_dnskey : set.rtype ≢ 48 → (key : DnskeyRecord) → ¬ IsSigner setting number k key
-  not_dnskey never key is = never (its_key key is).rtype
-
   pub none_good : ((key : DnskeyRecord) → IsKeyOf set key → ¬ Good key) → (key : DnskeyRecord) → ¬ IsSigner setting number k key
   none_good none key is = none key (its_key key is) (under_good is.rrset key is.good)
-
-  pub not_signer : ¬ SameName rrsig.signer set.owner → (key : DnskeyRecord) → ¬ IsSigner setting number k key
-  not_signer never key is =
-      let Of : Labels → Type 0 = λ owner. SameName owner rrsig.signer in
-      never (sym (subst Of (its_key key is).owner (under_good is.rrset key is.good).admissible.zone_key.owner))
 
   pub not_trusted : ¬ IsTrusted setting.meaning setting.moment setting.rrsets setting.anchors set → (key : DnskeyRecord)
       → ¬ IsSigner setting number k key
@@ -198,14 +218,57 @@ module _ (setting : Setting) (number : SignatureNumber) (rrset : ReceivedRrset) 
       trusted = trusted;
     };
     todo = lowest.todo;
-    lowest = λ other is. lowest.lowest other (its_key other is) (under_good is.rrset other is.good);
+    lowest = λ other is. inl (lowest.lowest other (its_key other is) (under_good is.rrset other is.good));
   }
 
   pub lowest_or_none : (found : Option Signer)
       → MatchOption found ((key : DnskeyRecord) → IsKeyOf set key → ¬ Good key) (IsLowestGoodKey setting rrset rrsig k set)
       → IsTrusted setting.meaning setting.moment setting.rrsets setting.anchors set → IsLowestOf setting number k found
-  lowest_or_none None none trusted = none_good none
+  lowest_or_none None none trusted = λ key is. absurd (none_good none key is)
   lowest_or_none (Some signer) lowest trusted = lowest_trusted signer lowest trusted
+
+  -- its RRset is one of the signer's
+  pub signer_at : (key : DnskeyRecord) → IsSigner setting number k key → IsOneAt setting.rrsets rrsig.signer 48 k
+  signer_at key is =
+      let stands = its_key key is in
+      let Of : Labels → Type 0 = λ owner. SameName owner rrsig.signer in record {
+        rrset = set;
+        is_rrset = is_set;
+        owner = subst Of stands.owner (under_good is.rrset key is.good).admissible.zone_key.owner;
+        same_type = stands.rtype;
+      }
+
+  -- a key of an RRset that repeats an earlier one is known
+  pub repeated : IsRepeat setting (k - 1) set → (key : DnskeyRecord) → IsSigner setting number k key → IsKnownSigner setting number k key
+  repeated repeat key is =
+      let stands = its_key key is in
+      let good = under_good is.rrset key is.good in
+      let above = repeat.above in
+      let within = above.is.within in
+      let from_one = is_set.0 in
+      let Of : Labels → Type 0 = λ owner. SameName owner rrsig.signer in
+      let other : DnskeyRecord = record { owner = above.is.set.owner; rdata = key.rdata; dnskey = key.dnskey } in
+      record {
+        set = repeat.number;
+        other = other;
+        earlier = omega (arith, within, from_one);
+        is = record {
+          rrset = rrset;
+          good = good_under other
+              (same_rdata_good setting.meaning setting.moment rrset rrsig key other stands.is stands.is refl
+              (above.same_owner ∙ subst Of stands.owner good.admissible.zone_key.owner) good);
+          set = above.is.set;
+          is_set = above.is.is_set;
+          stands = record {
+            rtype = above.is.rtype;
+            owner = refl;
+            among = repeat.has key.rdata stands.among;
+            is = stands.is;
+          };
+          trusted = above.is.trusted;
+        };
+        rdata = refl;
+      }
 
 -- ---- all RRsets
 

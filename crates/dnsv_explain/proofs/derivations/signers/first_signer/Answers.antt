@@ -1,16 +1,68 @@
-use Rattle.std.proofs.Common.{◌≡◌, ℕ, length, subst, arith}
+use Rattle.std.proofs.Common.{◌-◌, List, get_or, length, subst, sym}
+use Rattle.dnsv_canonical.specs.Rrsets.{ReceivedRrset}
 use Rattle.dnsv_explain.specs.Explained.{setting_in}
 use Rattle.dnsv_explain.specs.derivations.SignerSearch.{IsFirstTo}
+use Rattle.dnsv_explain.proofs.lemmas.IndexLemmas.{same_numbers}
+use Rattle.dnsv_explain.proofs.lemmas.NumberedLemmas.{in_list}
+use Rattle.dnsv_explain.proofs.lemmas.derivations.SignersAtLemmas.{key_set_there, lowest_next, set_there, signers_begin, signers_end, signers_more, signers_next}
 use Rattle.dnsv_explain.proofs.derivations.signers.first_signer.Goals as goal
 
-pub loop-place-preserved : goal.loop-place-preserved
-loop-place-preserved c =
-    c.earlier-first.ensures (setting_in c.args.evidence.now) c.args.number c.loop-place.place c.loop-place.invariant c.in_ok-found.ensures
+pub loop-k-init : goal.loop-k-init
+loop-k-init c =
+    signers_begin (setting_in c.args.evidence.now) c.args.number c.args.rrset.now c.args.rrsig.now c.requires.rrset c.requires.rrsig
+    c.at-k-items.result.now
+    (same_numbers c.capture-capture.result.now.rrsets c.args.evidence.now.rrsets c.to_name-signer.result c.args.rrsig.now.signer 48
+    c.at-k-items.result.now c.at-k-items.ensures c.capture-capture.ensures c.to_name-signer.ensures)
+
+pub lowest_in-requires-clause-set : goal.lowest_in-requires-clause-set
+lowest_in-requires-clause-set c =
+    in_list c.args.evidence.now.rrsets c.args.rrsets.now (get_or c.at-k-items.result.now c.loop-k.k-index 0) c.in-Some.set.now c.requires.all c.in-Some.ensures
+
+pub lowest_in-requires-clause-rtype : goal.lowest_in-requires-clause-rtype
+lowest_in-requires-clause-rtype c =
+    key_set_there (setting_in c.args.evidence.now) c.args.number c.args.rrset.now c.args.rrsig.now c.requires.rrset c.requires.rrsig
+    c.at-k-items.result.now
+    (same_numbers c.capture-capture.result.now.rrsets c.args.evidence.now.rrsets c.to_name-signer.result c.args.rrsig.now.signer 48
+    c.at-k-items.result.now c.at-k-items.ensures c.capture-capture.ensures c.to_name-signer.ensures)
+    c.loop-k.k-index c.loop-k-test.true c.in-Some.set.now
+    (in_list c.args.evidence.now.rrsets c.args.rrsets.now (get_or c.at-k-items.result.now c.loop-k.k-index 0) c.in-Some.set.now c.requires.all c.in-Some.ensures)
+
+pub loop-k-preserved : goal.loop-k-preserved
+loop-k-preserved c =
+    signers_more (setting_in c.args.evidence.now) c.args.number c.args.rrset.now c.args.rrsig.now c.requires.rrset c.requires.rrsig
+    c.at-k-items.result.now
+    (same_numbers c.capture-capture.result.now.rrsets c.args.evidence.now.rrsets c.to_name-signer.result c.args.rrsig.now.signer 48
+    c.at-k-items.result.now c.at-k-items.ensures c.capture-capture.ensures c.to_name-signer.ensures)
+    c.loop-k.k-index c.earlier-first.result c.loop-k-test.true
+    (c.earlier-first.ensures (setting_in c.args.evidence.now) c.args.number ((get_or c.at-k-items.result.now c.loop-k.k-index 0) - 1)
+    (signers_next (setting_in c.args.evidence.now) c.args.number c.args.rrset.now c.args.rrsig.now c.requires.rrset c.requires.rrsig
+    c.at-k-items.result.now
+    (same_numbers c.capture-capture.result.now.rrsets c.args.evidence.now.rrsets c.to_name-signer.result c.args.rrsig.now.signer 48
+    c.at-k-items.result.now c.at-k-items.ensures c.capture-capture.ensures c.to_name-signer.ensures)
+    c.loop-k.k-index c.loop-k.first c.loop-k-test.true c.loop-k.invariant)
+    (lowest_next (setting_in c.args.evidence.now) c.args.number c.args.rrset.now c.args.rrsig.now c.requires.rrset c.requires.rrsig
+    c.at-k-items.result.now
+    (same_numbers c.capture-capture.result.now.rrsets c.args.evidence.now.rrsets c.to_name-signer.result c.args.rrsig.now.signer 48
+    c.at-k-items.result.now c.at-k-items.ensures c.capture-capture.ensures c.to_name-signer.ensures)
+    c.loop-k.k-index c.in_ok-found.found c.loop-k-test.true c.in_ok-found.ensures))
+
+pub loop-k-preserved-in_default : goal.loop-k-preserved-in_default
+loop-k-preserved-in_default c =
+    absurd (set_there (setting_in c.args.evidence.now) c.args.number c.args.rrset.now c.args.rrsig.now c.requires.rrset c.requires.rrsig
+    c.at-k-items.result.now
+    (same_numbers c.capture-capture.result.now.rrsets c.args.evidence.now.rrsets c.to_name-signer.result c.args.rrsig.now.signer 48
+    c.at-k-items.result.now c.at-k-items.ensures c.capture-capture.ensures c.to_name-signer.ensures)
+    c.loop-k.k-index c.loop-k-test.true
+    (λ each numbered. c.in_default.ensures each
+    (in_list c.args.rrsets.now c.args.evidence.now.rrsets (get_or c.at-k-items.result.now c.loop-k.k-index 0) each (sym c.requires.all) numbered)))
 
 pub returns : goal.returns
 returns c =
-    let past = c.loop-place-test.false in
-    let within = c.loop-place.auto.place-end in
-    let all : c.loop-place.place ≡ length c.args.rrsets.now = omega (arith, past, within) in
-    let To : ℕ → Type 0 = λ n. IsFirstTo (setting_in c.args.evidence.now) c.args.number n c.loop-place.first in
-    subst To all c.loop-place.invariant
+    let To : List ReceivedRrset → Type 0 =
+    λ rrsets. IsFirstTo (setting_in c.args.evidence.now) c.args.number (length rrsets) c.loop-k.first in
+    subst To (sym c.requires.all)
+    (signers_end (setting_in c.args.evidence.now) c.args.number c.args.rrset.now c.args.rrsig.now c.requires.rrset c.requires.rrsig
+    c.at-k-items.result.now
+    (same_numbers c.capture-capture.result.now.rrsets c.args.evidence.now.rrsets c.to_name-signer.result c.args.rrsig.now.signer 48
+    c.at-k-items.result.now c.at-k-items.ensures c.capture-capture.ensures c.to_name-signer.ensures)
+    c.loop-k.k-index c.loop-k.first c.loop-k-test.false c.loop-k.invariant)

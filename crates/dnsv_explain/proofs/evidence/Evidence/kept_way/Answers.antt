@@ -5,5 +5,5 @@ use Rattle.dnsv_explain.proofs.evidence.Evidence.kept_way.Goals as goal
 
 pub returns : goal.returns
 returns c =
-    let Of : Explained → Type 0 = λ all. IsWayOf (setting_in all) c.args.number c.in-Some.way.now in
-    subst Of c.self.view_is (c.self.invariant.ways c.args.number c.in-Some.way.now c.in-Some.ensures)
+    let Of : Explained → Type 0 = λ all. IsWayOf (setting_in all) c.args.number c.in-Some.kept.now.way in
+    subst Of c.self.view_is (c.self.invariant.ways c.args.number c.in-Some.kept.now c.in-Some.ensures).way

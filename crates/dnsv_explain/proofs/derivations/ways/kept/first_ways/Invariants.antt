@@ -1,7 +1,7 @@
 use Rattle.std.proofs.Common.{◌≡◌, length}
 use Rattle.dnsv_explain.specs.Explained.{setting_in}
 use Rattle.dnsv_explain.specs.derivations.WaySearch.{AreFirstWays}
-use Rattle.dnsv_explain.proofs.derivations.ways.first_ways.Given as goal
+use Rattle.dnsv_explain.proofs.derivations.ways.kept.first_ways.Given as goal
 
 -- the ways into the RRsets so far
 abbrev pub invariant-loop-place : goal.invariant-loop-place
