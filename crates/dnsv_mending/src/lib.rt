@@ -1,0 +1,15 @@
+//! The least that has to be mended, so that a zone is trusted and an RRset signed.
+//!
+//! What has to be mended on a way costs as many faults of each class as there are, and is told from the root down. Of some
+//! ways the cheapest is kept. Nothing finds ways in the evidence yet, and the program doesn't use this crate.
+#![tactic(auto)]
+
+pub use laws::{a_sum_is_nothing_where_both_are, the_cheapest_is_the_first_of_the_least};
+pub use mend::{Mend, offer, offer_after};
+pub use price::{Class, Price};
+pub use told::Told;
+
+mod laws;
+mod mend;
+mod price;
+mod told;
