@@ -94,8 +94,8 @@ pub fn explain<'a, V: Verifier>(
 /// Why the verdict stands.
 fn explanation_of<'a>(
     alloc: Global,
-    case: &'a Case<'a>,
-    judged: &'a Judged<'a>,
+    case: &Case<'a>,
+    judged: &Judged<'a>,
     rtype: RecordType,
 ) -> Result<Explanation, AllocError>
     requires trust { HasTrust case.now }
@@ -127,8 +127,8 @@ fn explanation_of<'a>(
 /// Why nothing is proved: what fails, and then what holds.
 fn failed<'a>(
     alloc: Global,
-    case: &'a Case<'a>,
-    judged: &'a Judged<'a>,
+    case: &Case<'a>,
+    judged: &Judged<'a>,
     rtype: RecordType,
 ) -> Result<Explanation, AllocError>
     requires trust { HasTrust case.now }
@@ -161,8 +161,8 @@ fn failed<'a>(
 fn add_links<'a>(
     alloc: Global,
     evidence: &Evidence<'_>,
-    case: &'a Case<'a>,
-    judged: &'a Judged<'a>,
+    case: &Case<'a>,
+    judged: &Judged<'a>,
     lines: &mut Vec<Line>,
     rtype: RecordType,
 ) -> Result<(), AllocError>

@@ -10,8 +10,8 @@ pub add_set-requires-clause-at : goal.add_set-requires-clause-at
 add_set-requires-clause-at c =
     let judged = c.args.judged.now in record {
       trust = c.requires.trust;
-      evidence = todo_same case c.args.evidence.now [] c.requires.evidence;
-      hashes = link_hashed case.rrsets judged.report.links c.as_slice-link-items.result.now judged.report.last
+      evidence = todo_same c.args.case.now c.args.evidence.now [] c.requires.evidence;
+      hashes = link_hashed c.args.case.now.rrsets judged.report.links c.as_slice-link-items.result.now judged.report.last
           c.loop-place.place judged.hashes.items c.index-hashes.result.now c.link-item.result c.as_slice-link-items.ensures.value
           c.loop-place-test.true c.link-item.is c.requires.kept.each_name c.index-hashes.ensures;
     }
@@ -19,7 +19,7 @@ add_set-requires-clause-at c =
 pub add_set-requires-clause-secure : goal.add_set-requires-clause-secure
 add_set-requires-clause-secure c =
     let judged = c.args.judged.now in
-    item_secure case c.args.evidence.now [] c.requires.evidence c.args.rtype.0 c.requires.verdict.0 judged.report.links
+    item_secure c.args.case.now c.args.evidence.now [] c.requires.evidence c.args.rtype.0 c.requires.verdict.0 judged.report.links
     c.as_slice-link-items.result.now judged.report.last c.loop-place.place c.link-item.result c.as_slice-link-items.ensures.value
     c.loop-place-test.true c.link-item.is c.requires.verdict.1.way.leads
 

@@ -2,6 +2,9 @@ use Rattle.std.proofs.Common.{◌∙◌}
 use Rattle.dnsv_explain.proofs.lemmas.telling.WholeLemmas.{open_ended, settled_ended, settled_way_follows, way_added}
 use Rattle.dnsv_explain.proofs.explanation.explanation_of.Goals as goal
 
+pub with_ways-evidence-requires : goal.with_ways-evidence-requires
+with_ways-evidence-requires c = c.in_ok-ways.ensures
+
 pub add_end-requires : goal.add_end-requires
 add_end-requires c =
     let report = c.args.judged.now.report in

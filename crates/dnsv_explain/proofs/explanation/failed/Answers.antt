@@ -21,12 +21,15 @@ last_hashed rrsets links xs last hashes found same are is =
     ∙ ap (λ (each : List Link). get_or (hashed_on rrsets links last) (length each) found) same
     ∙ hashed_at_last rrsets links last found
 
+pub with_ways-evidence-requires : goal.with_ways-evidence-requires
+with_ways-evidence-requires c = c.in_ok-ways.ensures
+
 pub add_failure-requires : goal.add_failure-requires
 add_failure-requires c =
     let judged = c.args.judged.now in record {
       trust = c.requires.trust;
-      evidence = todo_same case c.with_ways-evidence.result [] (c.with_ways-evidence.ensures ∙ c.evidence_of-bare.ensures);
-      hashes = last_hashed case.rrsets judged.report.links c.as_slice.result.now judged.report.last
+      evidence = todo_same c.args.case.now c.with_ways-evidence.result [] (c.with_ways-evidence.ensures ∙ c.evidence_of-bare.ensures);
+      hashes = last_hashed c.args.case.now.rrsets judged.report.links c.as_slice.result.now judged.report.last
           judged.hashes.items c.index-last.result.now c.as_slice.ensures.value c.requires.kept.each_name c.index-last.ensures;
     }
 

@@ -26,7 +26,7 @@ returns c =
       rrsets = rrsets;
       anchors = anchors;
       table = table;
-      todo = option_map_or (λ entries. entries.now) c.args.todo.now [];
+      todo = option_map_or (λ entries. entries.now) c.args.todo [];
     } in
     c.new.ensures
     ∙ ap (λ all. Its all c.anchors.result.now c.table.result.now) c.capture.ensures

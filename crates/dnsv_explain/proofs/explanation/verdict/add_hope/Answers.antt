@@ -7,6 +7,9 @@ use Rattle.dnsv_explain.proofs.lemmas.telling.SecureLemmas.{has_kind}
 use Rattle.dnsv_explain.proofs.lemmas.telling.TellLemmas.{todo_same}
 use Rattle.dnsv_explain.proofs.explanation.verdict.add_hope.Goals as goal
 
+pub with_ways-hoped-requires : goal.with_ways-hoped-requires
+with_ways-hoped-requires c = c.in_ok-ways.ensures
+
 pub returns-in_default : goal.returns-in_default
 returns-in_default c =
     absurd (has_kind c.args.evidence.now c.args.name.now c.args.rtype.0 (basis_by c.args.hope.now.case) c.args.hope.now.verdict

@@ -13,5 +13,5 @@ add_settled-requires-clause-at c = record {
 pub add_settled-requires-clause-verdict : goal.add_settled-requires-clause-verdict
 add_settled-requires-clause-verdict c =
     let judged = c.args.judged.now in
-    settled_by case c.args.evidence.now [] c.requires.evidence judged.report.last c.args.rtype.0 judged.report.verdict
+    settled_by c.args.case.now c.args.evidence.now [] c.requires.evidence judged.report.last c.args.rtype.0 judged.report.verdict
     (c.is_settled.ensures.0 c.if-is_settled.true) c.requires.verdict
