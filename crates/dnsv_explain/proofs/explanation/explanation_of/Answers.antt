@@ -1,9 +1,12 @@
-use Rattle.std.proofs.Common.{◌∙◌}
+use Rattle.std.proofs.Common.{◌∙◌, subst, sym}
+use Rattle.dnsv_explain.specs.Explained.{setting_in}
+use Rattle.dnsv_explain.specs.derivations.WaySearch.{AreFirstWays}
 use Rattle.dnsv_explain.proofs.lemmas.telling.WholeLemmas.{open_ended, settled_ended, settled_way_follows, way_added}
 use Rattle.dnsv_explain.proofs.explanation.explanation_of.Goals as goal
 
 pub with_ways-evidence-requires : goal.with_ways-evidence-requires
-with_ways-evidence-requires c = c.in_ok-ways.ensures
+with_ways-evidence-requires c =
+    subst (AreFirstWays (setting_in c.evidence_of-bare.result)) (sym c.deref.ensures.value) c.in_ok-ways.ensures
 
 pub add_end-requires : goal.add_end-requires
 add_end-requires c =

@@ -1,9 +1,11 @@
-use Rattle.std.proofs.Common.{◌≡◌, ◌∙◌, List, [], ◌∷◌, length, get_or, refl, ap}
+use Rattle.std.proofs.Common.{◌≡◌, ◌∙◌, [], ◌∷◌, List, ap, get_or, length, refl, subst, sym}
 use Rattle.dnsv_names.specs.Name.{Labels}
 use Rattle.dnsv_canonical.specs.Rrsets.{ReceivedRrset}
 use Rattle.dnsv_denial.specs.QuestionHashes.{HashedQuestion}
 use Rattle.dnsv_verdict.specs.Report.{hashed_in}
 use Rattle.dnsv_verdict.specs.declared.link.Link.{Link}
+use Rattle.dnsv_explain.specs.Explained.{setting_in}
+use Rattle.dnsv_explain.specs.derivations.WaySearch.{AreFirstWays}
 use Rattle.dnsv_explain.proofs.lemmas.telling.TellLemmas.{hashed_on, todo_same}
 use Rattle.dnsv_explain.proofs.lemmas.telling.WholeLemmas.{failed_ended, way_added}
 use Rattle.dnsv_explain.proofs.explanation.failed.Goals as goal
@@ -22,7 +24,8 @@ last_hashed rrsets links xs last hashes found same are is =
     ∙ hashed_at_last rrsets links last found
 
 pub with_ways-evidence-requires : goal.with_ways-evidence-requires
-with_ways-evidence-requires c = c.in_ok-ways.ensures
+with_ways-evidence-requires c =
+    subst (AreFirstWays (setting_in c.evidence_of-bare.result)) (sym c.deref.ensures.value) c.in_ok-ways.ensures
 
 pub add_failure-requires : goal.add_failure-requires
 add_failure-requires c =

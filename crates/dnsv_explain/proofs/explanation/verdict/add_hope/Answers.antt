@@ -1,14 +1,17 @@
-use Rattle.std.proofs.Common.{◌∙◌, List, ap, sym}
+use Rattle.std.proofs.Common.{◌∙◌, List, ap, subst, sym}
 use Rattle.dnsv_canonical.specs.Rrsets.{ReceivedRrset}
 use Rattle.dnsv_verdict.specs.Case.{basis_by}
 use Rattle.dnsv_verdict.specs.Report.{hashed_in}
+use Rattle.dnsv_explain.specs.Explained.{setting_in}
+use Rattle.dnsv_explain.specs.derivations.WaySearch.{AreFirstWays}
 use Rattle.dnsv_explain.proofs.lemmas.marks.HopeLemmas.{hope_settled, hope_told}
 use Rattle.dnsv_explain.proofs.lemmas.telling.SecureLemmas.{has_kind}
 use Rattle.dnsv_explain.proofs.lemmas.telling.TellLemmas.{todo_same}
 use Rattle.dnsv_explain.proofs.explanation.verdict.add_hope.Goals as goal
 
 pub with_ways-hoped-requires : goal.with_ways-hoped-requires
-with_ways-hoped-requires c = c.in_ok-ways.ensures
+with_ways-hoped-requires c =
+    subst (AreFirstWays (setting_in c.evidence_of-bare.result)) (sym c.deref.ensures.value) c.in_ok-ways.ensures
 
 pub returns-in_default : goal.returns-in_default
 returns-in_default c =
