@@ -19,7 +19,8 @@ Dropped, each with a line on the standard error that says which and why, are que
 (NOTIFY, UPDATE), truncated answers (the flag TC), repeats (only the identifier differs from an earlier message), what
 is too short or too long for a message, and what a packet capture doesn't have whole. Packets of other ports than those
 of --port, and of what isn't UDP or TCP straight over IP, are passed over, and a line counts and names them. Notes tell
-what the answers lack: signatures, or the DNSKEY records of a signer.
+what the answers lack: signatures, or the DNSKEY records of a signer; and which are SERVFAIL, as a resolver that
+validates answers where a name is Bogus: with the flag CD (`delv +cd`) it hands out what it has.
 
 With --macs, what `dnssec_check check --macs` reads is written too: for each message of the capture file a line with the
 MAC of the request that it answers (TSIG, RFC 8945), in hex, or `-` where the request wasn't signed. The request is the

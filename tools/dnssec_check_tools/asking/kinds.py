@@ -1,7 +1,7 @@
 """The types of records by mnemonic and by number, from the table of dnspython."""
 import functools
 from typing import Any, Optional
-from .faults import lacking
+from .faults import Failure, lacking
 
 TYPE_MOST = 65535
 # What dnspython takes for a type, and isn't one of a record.
@@ -35,3 +35,11 @@ def type_of(text: str) -> Optional[int]:
 @functools.lru_cache(None)  # of no more numbers than there are types
 def mnemonic_of(number: int) -> str:
     return table().to_text(number).replace("_", "-")
+
+
+def word_of(number: int) -> str:
+    """The mnemonic; where the table isn't there, the type by its number (RFC 3597 5)."""
+    try:
+        return mnemonic_of(number)
+    except Failure:
+        return f"TYPE{number}"

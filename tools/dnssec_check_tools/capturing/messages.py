@@ -6,7 +6,7 @@ from .octets import Incomplete, Octets, number_at
 HEADER_SIZE = 12
 MESSAGE_SIZE_MOST = 65535  # what two octets tell (RFC 1035 4.2.2)
 NAME_PARTS_MOST = 255  # of 127 labels, each behind a pointer, and the root
-QR, AA, TC, DO = 0x8000, 0x0400, 0x0200, 0x8000
+QR, AA, TC, RA, CD, DO = 0x8000, 0x0400, 0x0200, 0x0080, 0x0010, 0x8000
 TYPE_NS, TYPE_CNAME, TYPE_OPT, TYPE_DS, TYPE_RRSIG, TYPE_NSEC, TYPE_DNSKEY, TYPE_NSEC3 = 2, 5, 41, 43, 46, 47, 48, 50
 TYPE_TSIG = 250
 ANSWER, AUTHORITY, ADDITIONAL = range(3)

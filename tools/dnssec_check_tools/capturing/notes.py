@@ -1,19 +1,25 @@
 """What the answers lack that whoever asks for a verdict will stumble over."""
-from typing import List, Sequence, Set
+from typing import List, Optional, Sequence, Set
+from ..asking.kinds import word_of
 from .messages import (
+    CD,
+    RA,
     TYPE_DNSKEY,
     TYPE_DS,
     TYPE_RRSIG,
     Labels,
+    flags_of,
     lower,
     name_at,
     name_text,
     names_above,
     question_of,
+    rcode_of,
     records_of,
 )
 from .octets import Incomplete
 
+SERVFAIL = 2  # the RCODE (RFC 1035 4.1.1)
 SIGNER = 18  # where the signer's name stands in the RDATA of an RRSIG record (RFC 4034 3.1)
 
 
@@ -45,15 +51,27 @@ class Zones:
         return [zone for zone in dict.fromkeys(self.signers + on_the_way) if zone not in self.with_keys]
 
 
+def failure_of(octets: bytes) -> Optional[str]:
+    """What is to be said of an answer that tells of the server's failure. A validating resolver answers so where a name
+    is Bogus, and hands out what it has to who asks with CD (RFC 4035 3.2.2)."""
+    question = question_of(octets)
+    if question is None or rcode_of(octets) != SERVFAIL:
+        return None
+    said = f"the answer for {name_text(question.name)} {word_of(question.kind)} is SERVFAIL"
+    is_held_back = flags_of(octets) & RA and not flags_of(octets) & CD
+    return f"{said}: ask with CD (delv +cd)" if is_held_back else said
+
+
 def notes_of(messages: Sequence[bytes]) -> List[str]:
-    zones = Zones()
+    zones, failures = Zones(), []
     for octets in messages:
         try:
             zones.take(octets)
+            failures.append(failure_of(octets))
         except Incomplete:
             pass
     missing = [name_text(zone) for zone in zones.without_keys()]
     notes = [f"no answer has the DNSKEY records of {zone}, a zone on the way" for zone in missing]
-    if not zones.signers:
+    if not zones.signers and not (failures and all(failures)):
         notes.append("no answer has a signature (RRSIG): were they asked without the flag DO?")
-    return notes
+    return notes + list(dict.fromkeys(failure for failure in failures if failure))

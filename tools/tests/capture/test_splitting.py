@@ -3,7 +3,10 @@ import pathlib
 import tempfile
 import time
 import unittest
+from unittest import mock
 
+from dnssec_check_tools.asking import kinds
+from dnssec_check_tools.asking.faults import Failure
 from dnssec_check_tools.capturing.notes import notes_of
 from dnssec_check_tools.capturing.splitting import Parts
 from tool import PROGRAM, DATA, run, run_program
@@ -11,7 +14,7 @@ from tool import PROGRAM, DATA, run, run_program
 from .build import framed, message, name_octets, record
 from .cases import QUERY
 
-TYPES = {"A": 1, "NS": 2, "CNAME": 5, "SOA": 6, "TXT": 16, "DS": 43, "RRSIG": 46, "NSEC": 47, "DNSKEY": 48,
+TYPES = {"A": 1, "AAAA": 28, "NS": 2, "CNAME": 5, "SOA": 6, "TXT": 16, "DS": 43, "RRSIG": 46, "NSEC": 47, "DNSKEY": 48,
          "NSEC3": 50}
 
 
@@ -213,6 +216,26 @@ class Notes(unittest.TestCase):
         self.assertEqual(self.told(signed, key("Z.test.")), [])
         self.assertEqual(self.told(ds("z.test."), plain("www.z.test."), key("test.")), [lacks.format("z.test.")])
         self.assertEqual(self.told(ds("z.test."), plain("www.test."), key("test.")), [])
+
+    def test_a_resolver_that_holds_back_what_is_bogus(self):
+        said = "the answer for www.stale.test. A is SERVFAIL"
+        failed = answer("www.stale.test.", "A", flags=0x8182)
+        self.assertEqual(self.told(failed), [f"{said}: ask with CD (delv +cd)"])
+        self.assertEqual(self.told(failed, answer("www.stale.test.", "A", flags=0x8183)),
+                         ["no answer has a signature (RRSIG): were they asked without the flag DO?",
+                          f"{said}: ask with CD (delv +cd)"])
+        self.assertEqual(self.told(failed, answer("www.Stale.test.", "A", flags=0x8582)), [f"{said}: ask with CD (delv +cd)"])
+
+    def test_a_failure_that_CD_does_not_mend(self):
+        for flags in (0x8192, 0x8402, 0x8412):
+            self.assertEqual(self.told(answer("www.stale.test.", "AAAA", flags=flags)),
+                             ["the answer for www.stale.test. AAAA is SERVFAIL"])
+
+    def test_a_failure_is_told_without_dnspython(self):
+        with mock.patch("dnssec_check_tools.asking.kinds.table", side_effect=Failure("no dnspython")):
+            kinds.mnemonic_of.cache_clear()
+            self.assertEqual(self.told(answer("www.stale.test.", "AAAA", flags=0x8402)),
+                             ["the answer for www.stale.test. TYPE28 is SERVFAIL"])
 
     def test_many_delegations_take_no_time(self):
         messages = [ds(f"z{number}.test.") for number in range(8000)]
