@@ -79,7 +79,8 @@ def command_line() -> argparse.ArgumentParser:
         "--at",
         action="append",
         metavar="MOMENT",
-        help="`now`, seconds since 1970, or 2026-11-22T12:00:00Z; once for each moment; now by default",
+        help="`now`, seconds since 1970, 2026-11-22T12:00:00Z, or a day, 2026-11-22, for 0:00 in UTC; once for each "
+        "moment; now by default",
     )
     parser.add_argument(
         "--anchors",

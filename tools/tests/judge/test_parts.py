@@ -26,12 +26,15 @@ class Moments(unittest.TestCase):
         for text in ("2026-11-22T12:00:00Z", "2026-11-22T13:00:00+01:00", "2026-11-22T06:30:00-0530", "1795348800", "2026-11-22 12:00Z",
                      "2026-11-22T12:00:00.900Z"):
             self.assertEqual(moments.seconds_of(text), 1795348800, text)
+        self.assertEqual(moments.seconds_of("2026-11-22"), 1795348800 - 12 * 3600)
+        self.assertEqual(moments.seconds_of("2028-02-29"), moments.seconds_of("2028-02-29T00:00:00Z"))
         with mock.patch("time.time", lambda: 17.9):
             self.assertEqual(moments.seconds_of("now"), 17)
         self.assertEqual(moments.seconds_of("281474976710655"), 281474976710655)
 
     def test_others_are_refused(self):
-        for text in ("", "2026-11-22", "2026-11-22T12:00:00", "2026-11-22Z", "2026-13-22T12:00:00Z", "-5", "281474976710656", "1969-12-31T23:59:59Z",
+        for text in ("", "2026-11-22T12:00:00", "2026-11-22Z", "2026-11-31", "2027-02-29", "2026-11-22 ", "2026-11-22\n", "20261122T", "2026-W47-7",
+                     "1969-12-31", "0000-01-01", "2026-13-22T12:00:00Z", "-5", "281474976710656", "1969-12-31T23:59:59Z",
                      "١", "yesterday", "9" * 30, "2026-11-22T12:00:00Z\n", "2026-11-22T12:00:00+01:00\n", "2026-11-22T12:00:00\nZ"):
             with self.subTest(text), self.assertRaises(faults.WrongLine):
                 moments.seconds_of(text)
