@@ -19,6 +19,7 @@ use Rattle.dnsv_texts.specs.Checking.{check_text}
 use Rattle.dnsv_program.specs.Work.Checking.{AreInOrder, IsCheck, IsWhy, verdict_status}
 use Rattle.dnsv_program.specs.Files.{Files, octets_or_none}
 use Rattle.dnsv_program.specs.Files.Statements.{IsMeaningOf}
+use Rattle.dnsv_program.specs.Status.{status_code}
 use Rattle.dnsv_program.specs.declared.work.Outcome.{Outcome}
 use Rattle.dnsv_texts.specs.declared.format.Format.{Format}
 use Rattle.dnsv_program.specs.declared.status.Fault.{Fault}
