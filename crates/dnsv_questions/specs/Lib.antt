@@ -1,0 +1,2 @@
+pub mod QuestionFile
+pub mod QuestionsError
