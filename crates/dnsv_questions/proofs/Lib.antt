@@ -1,0 +1,3 @@
+pub mod LineLemmas
+pub mod QuestionFileLaws
+pub mod QuestionLemmas
