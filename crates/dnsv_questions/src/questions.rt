@@ -91,9 +91,9 @@ fn test_line(line: &Line, before: usize) -> Result<(), QuestionsError>
     ensures fault { IfErr result (λ error. (questions : List Asked) → length questions ≡ before
         → IsFaultOfLine error line.now questions) }
 {
-    if asked_of(line).is_none() {
+    let Some(_asked) = asked_of(line) else {
         return Err(QuestionsError::Syntax(line.number()));
-    }
+    };
     if before >= QUESTION_LIMIT {
         return Err(QuestionsError::TooMany(line.number()));
     }
