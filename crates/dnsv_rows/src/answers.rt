@@ -2,7 +2,8 @@
 
 use crate::row::{Row, RowError};
 use crate::{
-    again, canonical, chain, denial, digest, message, names, records, tsig, verdict, verifier,
+    again, canonical, chain, denial, digest, message, names, questions, records, tsig, verdict,
+    verifier,
 };
 use std::alloc::AllocError;
 
@@ -62,6 +63,9 @@ fn answer_above(row: &Row) -> Result<Option<String>, RowError> {
         return Ok(Some(text));
     }
     if let Some(text) = canonical::answer(row)? {
+        return Ok(Some(text));
+    }
+    if let Some(text) = questions::answer(row)? {
         return Ok(Some(text));
     }
     if let Some(text) = verifier::answer(row)? {

@@ -10,6 +10,7 @@ mod digest;
 mod evidence;
 mod message;
 mod names;
+mod questions;
 mod records;
 mod row;
 mod tsig;
