@@ -5,8 +5,8 @@ ghost use Rattle.dnsv_questions.specs.QuestionsError.{questions_error_code};
 use std::alloc::{AllocError, AllocFailed};
 use thiserror::Error;
 
-/// What keeps a text from being a file of questions. Each has a number that stays, and tells the line, the file's first
-/// being 1.
+/// What keeps a text from being a file of questions. Each has a number that stays, and a fault tells its line, the file's
+/// first being 1.
 #[derive(Clone, Copy, Debug, PartialEq, Eq, Error)]
 pub enum QuestionsError {
     /// 90: memory was refused.
