@@ -57,22 +57,52 @@ record_written s s1 s2 s3 n t is1 is2 is3 =
 
 -- ---- a question and its verdict
 
-six_members : (s p0 d q p n p1 t p2 m p3 w p4 c : List ℕ)
-    → (((s ++ (p0 ++ (d ++ (q ++ p)))) ++ n) ++ (p1 ++ (t ++ (p2 ++ m)))) ++ (p3 ++ (w ++ ((q ++ p4) ++ c)))
-    ≡ s ++ (p0 ++ ((d ++ q) ++ (p ++ (n ++ (p1 ++ (t ++ (p2 ++ (m ++ (p3 ++ ((w ++ q) ++ (p4 ++ (c ++ []))))))))))))
-six_members s p0 d q p n p1 t p2 m p3 w p4 c =
-    simp append_assoc (ap (λ end. s ++ (p0 ++ (d ++ (q ++ (p ++ (n ++ (p1 ++ (t ++ (p2 ++ (m ++ (p3 ++ (w ++ (q ++ (p4 ++ end)))))))))))))) (sym (append-nil c)))
+question_members : (s p0 d q p n p1 t p2 m : List ℕ)
+    → ((s ++ (p0 ++ (d ++ (q ++ p)))) ++ n) ++ (p1 ++ (t ++ (p2 ++ m)))
+    ≡ s ++ (p0 ++ ((d ++ q) ++ (p ++ (n ++ (p1 ++ (t ++ (p2 ++ (m ++ []))))))))
+question_members s p0 d q p n p1 t p2 m =
+    simp append_assoc (ap (λ end. s ++ (p0 ++ (d ++ (q ++ (p ++ (n ++ (p1 ++ (t ++ (p2 ++ end))))))))) (sym (append-nil m)))
 
-pub verdict_begun : (s s1 s2 s3 s4 d n t m w c : List ℕ) → s1 ≡ s ++ (codes "{\"command\":\"" ++ (d ++ codes "\",\"name\":")) → s2 ≡ s1 ++ n
+pub question_begun : (s s1 s2 s3 d n t m : List ℕ) → s1 ≡ s ++ (codes "{\"command\":\"" ++ (d ++ codes "\",\"name\":")) → s2 ≡ s1 ++ n
     → s3 ≡ s2 ++ (codes ",\"type\":" ++ (t ++ (codes ",\"moment\":" ++ m)))
-    → s4 ≡ s3 ++ (codes ",\"verdict\":\"" ++ (w ++ (codes "\",\"status\":" ++ c)))
-    → s4 ≡ s ++ (codes "{" ++ parted true (member (codes "command") (quoted d) ∷ member (codes "name") n ∷ member (codes "type") t
-    ∷ member (codes "moment") m ∷ member (codes "verdict") (quoted w) ∷ member (codes "status") c ∷ []))
-verdict_begun s s1 s2 s3 s4 d n t m w c is1 is2 is3 is4 =
-    is4 ∙ ap (λ x. x ++ (codes ",\"verdict\":\"" ++ (w ++ (codes "\",\"status\":" ++ c))))
-    (is3 ∙ ap (λ x. x ++ (codes ",\"type\":" ++ (t ++ (codes ",\"moment\":" ++ m)))) (is2 ∙ ap (λ x. x ++ n) is1))
-    ∙ six_members s (codes "{\"command\":\"") d (codes "\"") (codes ",\"name\":") n (codes ",\"type\":") t (codes ",\"moment\":") m
-    (codes ",\"verdict\":\"") w (codes ",\"status\":") c
+    → s3 ≡ s ++ (codes "{" ++ parted true (member (codes "command") (quoted d) ∷ member (codes "name") n ∷ member (codes "type") t
+    ∷ member (codes "moment") m ∷ []))
+question_begun s s1 s2 s3 d n t m is1 is2 is3 =
+    is3 ∙ ap (λ x. x ++ (codes ",\"type\":" ++ (t ++ (codes ",\"moment\":" ++ m)))) (is2 ∙ ap (λ x. x ++ n) is1)
+    ∙ question_members s (codes "{\"command\":\"") d (codes "\"") (codes ",\"name\":") n (codes ",\"type\":") t (codes ",\"moment\":") m
+
+-- members behind others of an object that is begun
+behind : (s o : List ℕ) (first : List ℕ) (front others : List (List ℕ))
+    → (s ++ (o ++ parted true (first ∷ front))) ++ parted false others ≡ s ++ (o ++ parted true ((first ∷ front) ++ others))
+behind s o first front others =
+    append_assoc s (o ++ parted true (first ∷ front)) (parted false others)
+    ∙ ap (λ x. s ++ x) (append_assoc o (parted true (first ∷ front)) (parted false others))
+    ∙ ap (λ x. s ++ (o ++ x)) (sym (parted-append true (first ∷ front) others))
+
+verdict_members : (p3 w q p4 c : List ℕ) → p3 ++ (w ++ ((q ++ p4) ++ c)) ≡ p3 ++ ((w ++ q) ++ (p4 ++ (c ++ [])))
+verdict_members p3 w q p4 c = simp append_assoc (ap (λ end. p3 ++ (w ++ (q ++ (p4 ++ end)))) (sym (append-nil c)))
+
+pub verdict_begun : (s s1 s2 w c : List ℕ) (first : List ℕ) (front : List (List ℕ)) → s1 ≡ s ++ (codes "{" ++ parted true (first ∷ front))
+    → s2 ≡ s1 ++ (codes ",\"verdict\":\"" ++ (w ++ (codes "\",\"status\":" ++ c)))
+    → s2 ≡ s ++ (codes "{" ++ parted true ((first ∷ front) ++ member (codes "verdict") (quoted w) ∷ member (codes "status") c ∷ []))
+verdict_begun s s1 s2 w c first front is1 is2 =
+    is2 ∙ ap (λ x. x ++ (codes ",\"verdict\":\"" ++ (w ++ (codes "\",\"status\":" ++ c)))) is1
+    ∙ ap (λ x. (s ++ (codes "{" ++ parted true (first ∷ front))) ++ x) (verdict_members (codes ",\"verdict\":\"") w (codes "\"") (codes ",\"status\":") c)
+    ∙ behind s (codes "{") first front (member (codes "verdict") (quoted w) ∷ member (codes "status") c ∷ [])
+
+closed : (o f p n p4 c e l : List ℕ)
+    → ((o ++ f) ++ (p ++ (n ++ (p4 ++ c)))) ++ (e ++ l) ≡ (o ++ ((f ++ (p ++ (n ++ (p4 ++ (c ++ []))))) ++ e)) ++ l
+closed o f p n p4 c e l = simp append_assoc refl
+
+-- the question, and the number of its refusal
+pub refused_written : (s1 s2 s3 n c first : List ℕ) (front : List (List ℕ)) → s1 ≡ codes "{" ++ parted true (first ∷ front)
+    → s2 ≡ s1 ++ (codes ",\"refused\":" ++ (n ++ (codes ",\"status\":" ++ c))) → s3 ≡ s2 ++ codes "}\n"
+    → s3 ≡ object_line ((first ∷ front) ++ member (codes "refused") n ∷ member (codes "status") c ∷ [])
+refused_written s1 s2 s3 n c first front is1 is2 is3 =
+    is3 ∙ ap (λ x. x ++ codes "}\n") (is2 ∙ ap (λ x. x ++ (codes ",\"refused\":" ++ (n ++ (codes ",\"status\":" ++ c)))) is1)
+    ∙ closed (codes "{") (parted true (first ∷ front)) (codes ",\"refused\":") n (codes ",\"status\":") c (codes "}") (codes "\n")
+    ∙ ap (λ members. (codes "{" ++ (members ++ codes "}")) ++ codes "\n")
+    (sym (parted-append true (first ∷ front) (member (codes "refused") n ∷ member (codes "status") c ∷ [])))
 
 whole : (o p l a r e n : List ℕ) → ((((o ++ p) ++ l) ++ a) ++ r) ++ (e ++ n) ≡ (o ++ ((p ++ (l ++ (a ++ r))) ++ e)) ++ n
 whole o p l a r e n = simp append_assoc refl

@@ -131,13 +131,17 @@ abbrev pub reason_members : List ReceivedRrset → Verdict → List (List ℕ)
 reason_members rrsets verdict = reason_by signature_members (λ numbers. proof_member rrsets numbers ∷ [])
     (λ cut. cut_member cut ∷ []) (λ entries. todo_member entries ∷ []) verdict
 
--- the members for the question, and for the verdict with the exit status
+-- the members for the question, and for the moment that the verdict speaks of
+abbrev pub question_members : Bool → Labels → ℕ → ℕ → List (List ℕ)
+question_members why name rtype moment =
+    member (codes "command") (quoted (question_word why)) ∷ member (codes "name") (name_json name)
+    ∷ member (codes "type") (decimal rtype) ∷ member (codes "moment") (decimal moment) ∷ []
+
+-- and for the verdict with the exit status
 abbrev pub verdict_members : Bool → Labels → ℕ → ℕ → ℕ → Verdict → List (List ℕ)
 verdict_members why name rtype moment status verdict =
-    member (codes "command") (quoted (question_word why)) ∷ member (codes "name") (name_json name)
-    ∷ member (codes "type") (decimal rtype) ∷ member (codes "moment") (decimal moment)
-    ∷ member (codes "verdict") (quoted (verdict_word verdict))
-    ∷ member (codes "status") (decimal status) ∷ []
+    question_members why name rtype moment
+    ++ member (codes "verdict") (quoted (verdict_word verdict)) ∷ member (codes "status") (decimal status) ∷ []
 
 -- the same as the text of lines, in JSON, and why the verdict stands, where that is told
 abbrev pub verdict_json : Labels → ℕ → ℕ → ℕ → List ReceivedRrset → List Link → Verdict → Option (List Line) → List ℕ

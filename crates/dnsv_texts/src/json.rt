@@ -4,6 +4,7 @@ ghost use Rattle.dnsv_texts.specs.Json.{octets_json};
 
 pub mod checking;
 pub mod explaining;
+pub mod refused;
 pub mod todo;
 
 use crate::hex_text::push_hex;

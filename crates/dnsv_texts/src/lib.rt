@@ -7,6 +7,7 @@
 pub use checking::{Heading, check_text, question_word};
 pub use format::Format;
 pub use listing::listing_text;
+pub use refused::refused_text;
 pub use showing::push_message;
 pub use todo::todo_text;
 
@@ -17,5 +18,6 @@ mod hex_text;
 mod json;
 mod listing;
 mod reason;
+mod refused;
 mod showing;
 mod todo;

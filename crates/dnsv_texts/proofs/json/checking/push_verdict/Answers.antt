@@ -1,23 +1,19 @@
-use Rattle.std.proofs.Common.{rules, ◌≡◌, ◌++◌, ◌∙◌, ℕ, List, ap, codes, string_bytes}
+use Rattle.std.proofs.Common.{◌≡◌, [], ◌∷◌, ◌++◌, ◌∙◌, ℕ, List, ap, codes, string_bytes}
 use Rattle.std.specs.Fmt.{decimal}
-use Rattle.dnsv_texts.specs.Checking.{question_word}
-use Rattle.dnsv_texts.specs.Checking.{verdict_word}
-use Rattle.dnsv_lines.specs.Json.{name_json}
+use Rattle.dnsv_texts.specs.Checking.{question_word, verdict_word}
+use Rattle.dnsv_lines.specs.Json.{member, name_json, quoted}
 use Rattle.dnsv_texts.proofs.ObjectLemmas.{verdict_begun}
 use Rattle.dnsv_texts.proofs.json.checking.push_verdict.Goals as goal
 
 pub returns : goal.returns
 returns c =
     let verdict = c.args.verdict.now in
-    let s1 : string_bytes c.write.new.self ≡ string_bytes c.args.text.now ++ (codes "{\"command\":\"" ++ (question_word c.args.why ++ codes "\",\"name\":")) =
-    c.in_ok-write.ensures.bytes ∙ ap (λ (w : List ℕ). string_bytes c.args.text.now ++ (codes "{\"command\":\"" ++ (w ++ codes "\",\"name\":"))) c.question_word-command.ensures in
-    let s2 : string_bytes c.push_name.new.text ≡ string_bytes c.write.new.self ++ name_json c.args.heading.now.name.now = search rules in
-    let s3 : string_bytes c.write-2.new.self ≡ string_bytes c.push_name.new.text
-    ++ (codes ",\"type\":" ++ (decimal c.args.heading.now.rtype.0 ++ (codes ",\"moment\":" ++ decimal c.args.heading.now.moment))) = search rules in
-    let s4 : string_bytes c.write-3.new.self ≡ string_bytes c.write-2.new.self
-    ++ (codes ",\"verdict\":\"" ++ (verdict_word verdict ++ (codes "\",\"status\":" ++ decimal c.args.heading.now.status))) =
-    c.in_ok-write-3.ensures.bytes ∙ ap (λ (w : List ℕ). string_bytes c.write-2.new.self ++ (codes ",\"verdict\":\"" ++ (w ++ (codes "\",\"status\":" ++ decimal c.args.heading.now.status))))
+    let heading = c.args.heading.now in
+    let s2 : string_bytes c.write.new.self ≡ string_bytes c.push_question.new.text
+    ++ (codes ",\"verdict\":\"" ++ (verdict_word verdict ++ (codes "\",\"status\":" ++ decimal heading.status))) =
+    c.in_ok-write.ensures.bytes ∙ ap (λ (w : List ℕ). string_bytes c.push_question.new.text ++ (codes ",\"verdict\":\"" ++ (w ++ (codes "\",\"status\":" ++ decimal heading.status))))
     c.verdict_word-word.ensures in
-    verdict_begun (string_bytes c.args.text.now) (string_bytes c.write.new.self) (string_bytes c.push_name.new.text) (string_bytes c.write-2.new.self)
-    (string_bytes c.write-3.new.self) (question_word c.args.why) (name_json c.args.heading.now.name.now) (decimal c.args.heading.now.rtype.0) (decimal c.args.heading.now.moment)
-    (verdict_word verdict) (decimal c.args.heading.now.status) s1 s2 s3 s4
+    verdict_begun (string_bytes c.args.text.now) (string_bytes c.push_question.new.text) (string_bytes c.write.new.self) (verdict_word verdict) (decimal heading.status)
+    (member (codes "command") (quoted (question_word c.args.why)))
+    (member (codes "name") (name_json heading.name.now) ∷ member (codes "type") (decimal heading.rtype.0) ∷ member (codes "moment") (decimal heading.moment) ∷ [])
+    c.in_ok-push_question.ensures s2
