@@ -2,6 +2,7 @@
 
 pub mod at;
 mod end;
+pub mod explainer;
 mod failure;
 mod held;
 mod told;
@@ -18,10 +19,10 @@ ghost use Rattle.dnsv_explain.specs.Explained.{explained_by, setting_in};
 ghost use Rattle.dnsv_explain.specs.Explanation.{IsExplanation, IsExplanationOf, IsLinkTold, IsUnproved};
 ghost use Rattle.dnsv_explain.specs.Saying.{Adds, AreEach};
 
-use crate::derivations::ways::kept::first_ways;
 use crate::evidence::Evidence;
-use crate::explanation::at::{At, evidence_of};
+use crate::explanation::at::At;
 use crate::explanation::end::{add_end, add_places_named};
+use crate::explanation::explainer::Explainer;
 use crate::explanation::failure::{add_failure, is_unproved};
 use crate::explanation::told::add_set;
 use crate::explanation::verdict::{add_verdict, is_settled};
@@ -83,22 +84,20 @@ pub fn explain<'a, V: Verifier>(
     if !is_question(name, rtype) {
         return Err(VerdictError::BadQuestion);
     }
-    let case = Case::new(alloc, bump, capture, anchors, moment, verifier)?;
-    // What is true of every case.
-    let _trust = case.trust();
-    let judged = case.judge(alloc, name, rtype, true)?;
-    let explanation = explanation_of(alloc, &case, &judged, rtype)?;
-    Ok((judged.report, explanation))
+    let explainer = Explainer::new(alloc, bump, capture, anchors, moment, verifier)?;
+    explainer.explain(alloc, name, rtype)
 }
 
 /// Why the verdict stands.
 fn explanation_of<'a>(
     alloc: Global,
+    evidence: &Evidence<'_>,
     case: &Case<'a>,
     judged: &Judged<'a>,
     rtype: RecordType,
 ) -> Result<Explanation, AllocError>
     requires trust { HasTrust case.now }
+    requires evidence { evidence.now ≡ explained_by case.now [] }
     requires kept { IsKept case.now rtype.0 judged.now.report.links judged.now.report.last
         judged.now.report.verdict judged.now.hashes.items judged.now.hope }
     requires verdict { (name : Labels) × IsVerdictOf (basis_by case.now) name rtype.0 judged.now.report.links
@@ -107,31 +106,30 @@ fn explanation_of<'a>(
         judged.now.report.last judged.now.report.verdict) }
 {
     if is_unproved(&judged.report.verdict) {
-        return Ok(failed(alloc, case, judged, rtype)?);
+        return Ok(failed(alloc, evidence, case, judged, rtype)?);
     }
-    let bare = evidence_of(case, None);
-    let ways = first_ways(alloc, &bare)?;
-    let evidence = bare.with_ways(&ways);
     let mut lines = Vec::new(alloc);
-    add_links(alloc, &evidence, case, judged, &mut lines, rtype)?;
+    add_links(alloc, evidence, case, judged, &mut lines, rtype)?;
     let hashes = &judged.hashes[judged.report.links.as_slice().len()];
-    add_verdict(alloc, &evidence, case, judged, hashes, &mut lines, rtype)?;
+    add_verdict(alloc, evidence, case, judged, hashes, &mut lines, rtype)?;
     if !is_settled(&judged.report.verdict) {
-        add_places_named(alloc, &evidence, &mut lines)?;
+        add_places_named(alloc, evidence, &mut lines)?;
         return Ok(Explanation { lines });
     }
-    add_end(alloc, &evidence, &mut lines)?;
+    add_end(alloc, evidence, &mut lines)?;
     Ok(Explanation { lines })
 }
 
 /// Why nothing is proved: what fails, and then what holds.
 fn failed<'a>(
     alloc: Global,
+    evidence: &Evidence<'_>,
     case: &Case<'a>,
     judged: &Judged<'a>,
     rtype: RecordType,
 ) -> Result<Explanation, AllocError>
     requires trust { HasTrust case.now }
+    requires evidence { evidence.now ≡ explained_by case.now [] }
     requires kept { IsKept case.now rtype.0 judged.now.report.links judged.now.report.last
         judged.now.report.verdict judged.now.hashes.items judged.now.hope }
     requires verdict { (name : Labels) × IsVerdictOf (basis_by case.now) name rtype.0 judged.now.report.links
@@ -140,9 +138,6 @@ fn failed<'a>(
     ensures { IfOk result (IsExplanation (explained_by case.now []) rtype.0 judged.now.report.links
         judged.now.report.last judged.now.report.verdict) }
 {
-    let bare = evidence_of(case, None);
-    let ways = first_ways(alloc, &bare)?;
-    let evidence = bare.with_ways(&ways);
     let mut lines = Vec::new(alloc);
     let last = &judged.hashes[judged.report.links.as_slice().len()];
     let at = At {
@@ -150,10 +145,10 @@ fn failed<'a>(
         hashes: last,
         name: &judged.report.last,
     };
-    add_failure(alloc, &evidence, &at, &mut lines, rtype)?;
-    add_links(alloc, &evidence, case, judged, &mut lines, rtype)?;
-    add_verdict(alloc, &evidence, case, judged, last, &mut lines, rtype)?;
-    add_places_named(alloc, &evidence, &mut lines)?;
+    add_failure(alloc, evidence, &at, &mut lines, rtype)?;
+    add_links(alloc, evidence, case, judged, &mut lines, rtype)?;
+    add_verdict(alloc, evidence, case, judged, last, &mut lines, rtype)?;
+    add_places_named(alloc, evidence, &mut lines)?;
     Ok(Explanation { lines })
 }
 

@@ -7,6 +7,7 @@ pub use derivations::derivation;
 pub use derivations::signers::signed_line;
 pub use derivations::ways::trusted_line;
 pub use evidence::Evidence;
+pub use explanation::explainer::Explainer;
 pub use explanation::{Explanation, explain};
 pub use interval::{Times, holding};
 pub use laws::{

@@ -1,8 +1,10 @@
 -- What is kept beside the evidence. No public clause cites this module.
-use Rattle.std.specs.Prelude.{List}
+use Rattle.std.specs.Prelude.{List, []}
 use Rattle.dnsv_chain.specs.Trust.{IsTrustOf, KeptTrust}
 use Rattle.dnsv_verifier.specs.Table.{table_answer}
-use Rattle.dnsv_explain.specs.Explained.{Explained, setting_in}
+use Rattle.dnsv_verdict.specs.Case.{CaseContents, IsCaseOf}
+use Rattle.dnsv_verdict.specs.Verdict.{Basis}
+use Rattle.dnsv_explain.specs.Explained.{Explained, explained_by, setting_in}
 use Rattle.dnsv_explain.specs.derivations.WaySearch.{AreFirstWays}
 use Rattle.dnsv_explain.specs.declared.derivations.ways.kept.KeptWay.{KeptWay}
 
@@ -10,3 +12,9 @@ use Rattle.dnsv_explain.specs.declared.derivations.ways.kept.KeptWay.{KeptWay}
 pub record AreOfEvidence (explained : Explained) (kept : KeptTrust) (found : List KeptWay) : Type 0 where
   pub trust : IsTrustOf (table_answer explained.table) explained.table.moment explained.rrsets explained.anchors kept
   pub ways : AreFirstWays (setting_in explained) found
+
+-- the case is of what some verifier says, and the ways are the first into its RRsets
+pub record AreOfCase (case : CaseContents) (found : List KeptWay) : Type 0 where
+  pub basis : Basis
+  pub of : IsCaseOf basis case
+  pub ways : AreFirstWays (setting_in (explained_by case [])) found

@@ -1,11 +1,9 @@
-use Rattle.std.proofs.Common.{◌≡◌, ◌∙◌, [], ◌∷◌, List, ap, get_or, length, refl, subst, sym}
+use Rattle.std.proofs.Common.{◌≡◌, ◌∙◌, [], ◌∷◌, List, ap, get_or, length, refl}
 use Rattle.dnsv_names.specs.Name.{Labels}
 use Rattle.dnsv_canonical.specs.Rrsets.{ReceivedRrset}
 use Rattle.dnsv_denial.specs.QuestionHashes.{HashedQuestion}
 use Rattle.dnsv_verdict.specs.Report.{hashed_in}
 use Rattle.dnsv_verdict.specs.declared.link.Link.{Link}
-use Rattle.dnsv_explain.specs.Explained.{setting_in}
-use Rattle.dnsv_explain.specs.derivations.WaySearch.{AreFirstWays}
 use Rattle.dnsv_explain.proofs.lemmas.telling.TellLemmas.{hashed_on, todo_same}
 use Rattle.dnsv_explain.proofs.lemmas.telling.WholeLemmas.{failed_ended, way_added}
 use Rattle.dnsv_explain.proofs.explanation.failed.Goals as goal
@@ -23,15 +21,11 @@ last_hashed rrsets links xs last hashes found same are is =
     ∙ ap (λ (each : List Link). get_or (hashed_on rrsets links last) (length each) found) same
     ∙ hashed_at_last rrsets links last found
 
-pub with_ways-evidence-requires : goal.with_ways-evidence-requires
-with_ways-evidence-requires c =
-    subst (AreFirstWays (setting_in c.evidence_of-bare.result)) (sym c.deref.ensures.value) c.in_ok-ways.ensures
-
 pub add_failure-requires : goal.add_failure-requires
 add_failure-requires c =
     let judged = c.args.judged.now in record {
       trust = c.requires.trust;
-      evidence = todo_same c.args.case.now c.with_ways-evidence.result [] (c.with_ways-evidence.ensures ∙ c.evidence_of-bare.ensures);
+      evidence = todo_same c.args.case.now c.args.evidence.now [] c.requires.evidence;
       hashes = last_hashed c.args.case.now.rrsets judged.report.links c.as_slice.result.now judged.report.last
           judged.hashes.items c.index-last.result.now c.as_slice.ensures.value c.requires.kept.each_name c.index-last.ensures;
     }
@@ -39,9 +33,9 @@ add_failure-requires c =
 pub returns : goal.returns
 returns c =
     let report = c.args.judged.now.report in
-    failed_ended c.with_ways-evidence.result c.args.case.now (c.with_ways-evidence.ensures ∙ c.evidence_of-bare.ensures) c.args.rtype.0
+    failed_ended c.args.evidence.now c.args.case.now c.requires.evidence c.args.rtype.0
     report.links report.last report.verdict c.new-lines.result.items _ _ c.new-lines.ensures.items _ c.requires.unproved
     c.in_ok-add_failure.ensures
-    (way_added c.with_ways-evidence.result c.args.rtype.0 report.links report.last report.verdict _ _ _
+    (way_added c.args.evidence.now c.args.rtype.0 report.links report.last report.verdict _ _ _
     c.in_ok-add_links.ensures c.in_ok-add_verdict.ensures)
     c.in_ok-add_places_named.ensures
