@@ -23,6 +23,7 @@ mod explaining;
 mod key_files;
 mod listing;
 mod names;
+mod questions;
 mod showing;
 mod signed;
 mod streams;
@@ -48,6 +49,11 @@ fn checks_as_the_rows_say(rt: HostRuntime) -> Result<(), Fail> {
 #[test]
 fn explains_as_the_rows_say(rt: HostRuntime) -> Result<(), Fail> {
     meets(&rt, "", explaining::ROWS)
+}
+
+#[test]
+fn answers_many_questions_as_the_rows_say(rt: HostRuntime) -> Result<(), Fail> {
+    meets(&rt, questions::SHARED, questions::ROWS)
 }
 
 #[test]

@@ -1,4 +1,5 @@
 -- What the words of a command line ask for.
+pub mod Given
 pub mod Numbers
 pub mod Question
 pub mod Rows

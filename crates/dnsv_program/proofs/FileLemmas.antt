@@ -2,5 +2,6 @@
 pub mod Anchors
 pub mod Capture
 pub mod Faults
+pub mod Questions
 pub mod Statements
 pub mod Text

@@ -1,32 +1,36 @@
 -- What is told where all files were taken: the want of memory, or that the question is refused on its way.
-use Rattle.std.proofs.Common.{◌≡◌, ◌⊎◌, ◌∙◌, ℕ, List, Option, Some, inl, inr, refl, sym, subst}
-use Rattle.std.specs.Prelude.{Err, IfErr, IfSome, Ok, Result}
-use Rattle.dnsv_message.specs.Message.{Contents}
+use Rattle.std.proofs.Common.{◌≡◌, ◌⊎◌, ◌∙◌, ℕ, Bool, true, false, List, Option, ap, inl, inr, refl, sym, subst}
+use Rattle.std.specs.Prelude.{Err, IfErr, IfOk, IsErrOf, IsTrue, Ok, Result, string_bytes}
 use Rattle.dnsv_names.specs.Name.{Labels}
-use Rattle.dnsv_canonical.specs.Evidence.{Evidence, evidence_of}
+use Rattle.dnsv_canonical.specs.Question.{Asked}
+use Rattle.dnsv_canonical.specs.Rrsets.{IsQuestion, ReceivedRrset, forms_rrsets}
+use Rattle.dnsv_lines.specs.declared.line.Line.{Line}
 use Rattle.dnsv_verifier.specs.declared.answer.Answer.{Answer}
 use Rattle.dnsv_verifier.specs.declared.entry.Entry.{Entry}
 use Rattle.dnsv_chain.specs.declared.anchor.Anchor.{Anchor}
-use Rattle.dnsv_verdict.specs.Way.{IsRefusedFor}
+use Rattle.dnsv_verdict.specs.Way.{IsRefusedFor, IsVerdictOf}
+use Rattle.dnsv_verdict.specs.declared.report.Report.{Report}
+use Rattle.dnsv_verdict.specs.declared.verdict.Verdict.{Verdict}
+use Rattle.dnsv_verdict.specs.declared.verdict.Verdict.TheVariants as verdicts
 use Rattle.dnsv_verdict.specs.declared.error.VerdictError.{VerdictError}
 use Rattle.dnsv_verdict.specs.declared.error.VerdictError.TheVariants as error
-use Rattle.dnsv_verdict.specs.Verdict.{basis_of}
-use Rattle.dnsv_program.specs.declared.opening.Opening.{Opening}
+use Rattle.dnsv_verdict.specs.Verdict.{Basis, basis_of}
+use Rattle.dnsv_texts.specs.Checking.{check_text}
+use Rattle.dnsv_texts.specs.declared.format.Format.{Format}
 use Rattle.dnsv_program.specs.declared.work.Inputs.{Inputs}
+use Rattle.dnsv_program.specs.declared.work.Outcome.{Outcome}
+use Rattle.dnsv_program.specs.declared.status.Status.TheVariants as status
+use Rattle.dnsv_program.specs.Status.{status_code}
+use Rattle.dnsv_program.specs.Work.Asking.{IsAnswer, IsRefusedOne}
 use Rattle.dnsv_program.specs.declared.status.Fault.{Fault}
 use Rattle.dnsv_program.specs.declared.status.Fault.TheVariants as fault
 use Rattle.dnsv_program.specs.declared.status.InputFile.{InputFile}
-use Rattle.dnsv_program.specs.declared.status.InputFile.TheVariants.{Anchors, Capture, Keys, Macs, Statements}
-use Rattle.dnsv_program.specs.Files.Anchors.{HasAnchors}
-use Rattle.dnsv_program.specs.Files.Capture.{Holds, NewEvidence}
-use Rattle.dnsv_program.specs.Work.Checking.{IsStopped, verdict_fault}
-use Rattle.dnsv_program.specs.Opening.Given.{IsOpeningOf}
-use Rattle.dnsv_program.specs.Files.Faults.{OfFailedRead, OfOctets, TellsFailedReads, TellsFaults}
-use Rattle.dnsv_program.specs.Files.{AreTold, Files, given_failures, octets_or_none}
+use Rattle.dnsv_program.specs.declared.status.InputFile.TheVariants.{Questions}
+use Rattle.dnsv_program.specs.Work.Checking.{AreGivenBy, IsJudged, IsStopped, IsWhy, verdict_fault, verdict_status}
+use Rattle.dnsv_program.specs.Files.Faults.{OfFailedRead, OfOctets, TellsFaults, TellsFaultsBeside}
+use Rattle.dnsv_program.specs.Files.{AreTold, Files, given_failures}
 use Rattle.dnsv_program.specs.Run.{IsFirstFaultOfFiles, IsFirstFaultOfName}
-use Rattle.dnsv_program.specs.Files.Statements.{IsMeaningOf}
-use Rattle.dnsv_program.proofs.WorkLemmas.Checking.{all_in_order}
-use Rattle.dnsv_program.proofs.FileLemmas.Faults.{CapturedBy, IsOther, all_taken, of_told, reads_then, TellsFaults-weaker}
+use Rattle.dnsv_program.proofs.FileLemmas.Faults.{IsOther, reads_after, reads_untouched}
 
 -- it tells no failed read
 verdict_fault_reads : (error : VerdictError) (file : InputFile) → IsOther file (verdict_fault error)
@@ -81,47 +85,109 @@ unjudged_writes Refused (Ok x) only = tt
 unjudged_writes Refused (Err told) (inl memory) = λ is. let same = sym memory ∙ is in cc
 unjudged_writes Refused (Err told) (inr refused) = λ is. verdict_fault_writes refused.0 (sym refused.2 ∙ is)
 
-module _ {R U : Type 0} {remaining : R → Option (List ℕ)} {before after : Inputs R} (opening : Opening) where
-  -- all are taken, and the question is judge or refused
-  pub all_judged : {S V W X : Type 0} (name : Labels) (rtype moment : ℕ) (Refused : VerdictError → Type 0) (s : S) (x : V) (y : W) (z : X) (result : Result U Fault)
-      → TellsFailedReads {T = S} Keys (given_failures before.keys) (given_failures after.keys) (Ok s)
-      → TellsFailedReads {T = S} Macs (given_failures before.macs) (given_failures after.macs) (Ok s)
-      → CapturedBy {T = V} opening remaining before after (Ok x)
-      → TellsFailedReads {T = W} Anchors (given_failures before.anchors) (given_failures after.anchors) (Ok y)
-      → TellsFailedReads {T = X} Statements (given_failures before.statements) (given_failures after.statements) (Ok z)
-      → ((files : Files) (error : VerdictError) → AreTold remaining before files → Refused error → IsStopped name rtype moment files (verdict_fault error))
-      → IfErr result (IsUnjudged Refused)
-      → TellsFaults {T = U} (IsFirstFaultOfName name rtype moment) remaining before after result
-  all_judged name rtype moment Refused s x y z (Ok u) keys macs tells anchors reads stopped only =
-      TellsFaults-weaker (IsFirstFaultOfFiles moment) (IsFirstFaultOfName name rtype moment) (Ok u) (λ files told holds. inl holds)
-      (all_taken opening moment s x y z (Ok u) keys macs tells anchors reads tt)
-  all_judged name rtype moment Refused s x y z (Err told) keys macs tells anchors reads stopped (inl memory) =
-      TellsFaults-weaker (IsFirstFaultOfFiles moment) (IsFirstFaultOfName name rtype moment) (Err told) (λ files fault holds. inl holds)
-      (all_taken opening moment s x y z (Err told) keys macs tells anchors reads memory)
-  all_judged name rtype moment Refused s x y z (Err told) keys macs tells anchors reads stopped (inr refused) =
-      let other : (file : InputFile) → IsOther file told = λ file. subst (IsOther file) (sym refused.2) (verdict_fault_reads refused.0 file) in record {
-        first = λ files are. subst (OfOctets (IsFirstFaultOfName name rtype moment files)) (sym refused.2)
-            (verdict_fault_octets (IsFirstFaultOfName name rtype moment files) refused.0 (inr (stopped files refused.0 are refused.1)));
-        capture = reads_then x (Err told) tells.reads (other Capture);
-        anchors = reads_then y (Err told) anchors (other Anchors);
-        statements = reads_then z (Err told) reads (other Statements);
-        keys = reads_then s (Err told) keys (other Keys);
-        macs = reads_then s (Err told) macs (other Macs);
-        opened = λ file is. verdict_fault_opens refused.0 file (sym refused.2 ∙ is);
-      }
+unjudged_other : {U : Type 0} (Refused : VerdictError → Type 0) (file : InputFile) (result : Result U Fault) → IfErr result (IsUnjudged Refused) → IfErr result (IsOther file)
+unjudged_other Refused file (Ok x) only = tt
+unjudged_other Refused file (Err told) (inl memory) = subst (IsOther file) (sym memory) (λ is. cc)
+unjudged_other Refused file (Err told) (inr refused) = subst (IsOther file) (sym refused.2) (verdict_fault_reads refused.0 file)
+
+unjudged_opened : {U : Type 0} (Refused : VerdictError → Type 0) (result : Result U Fault) → IfErr result (IsUnjudged Refused)
+    → IfErr result (λ told. (file : InputFile) → told ≡ fault.OpenFailed file → ⊥)
+unjudged_opened Refused (Ok x) only = tt
+unjudged_opened Refused (Err told) (inl memory) = λ file is. let bad : fault.OutOfMemory ≡ fault.OpenFailed file = sym memory ∙ is in cc
+unjudged_opened Refused (Err told) (inr refused) = λ file is. verdict_fault_opens refused.0 file (sym refused.2 ∙ is)
+
+unjudged_first : {U : Type 0} (name : Labels) (rtype moment : ℕ) (files : Files) (Refused : VerdictError → Type 0) (result : Result U Fault)
+    → ((error : VerdictError) → Refused error → IsStopped name rtype moment files (verdict_fault error))
+    → IfErr result (IsUnjudged Refused) → IfErr result (OfOctets (IsFirstFaultOfName name rtype moment files))
+unjudged_first name rtype moment files Refused (Ok x) stopped only = tt
+unjudged_first name rtype moment files Refused (Err told) stopped (inl memory) = subst (OfOctets (IsFirstFaultOfName name rtype moment files)) (sym memory) tt
+unjudged_first name rtype moment files Refused (Err told) stopped (inr refused) =
+    subst (OfOctets (IsFirstFaultOfName name rtype moment files)) (sym refused.2)
+    (verdict_fault_octets (IsFirstFaultOfName name rtype moment files) refused.0 (inr (stopped refused.0 refused.1)))
+
+-- all files are taken, and the question is judged or refused
+pub all_judged : {R S U : Type 0} {remaining : R → Option (List ℕ)} {before after : Inputs R} (name : Labels) (rtype moment : ℕ) (Refused : VerdictError → Type 0) (x : S)
+    (result : Result U Fault) → TellsFaultsBeside {T = S} (IsFirstFaultOfFiles moment) remaining before after (Ok x) → after.questions ≡ before.questions
+    → ((files : Files) (error : VerdictError) → AreTold remaining before files → Refused error → IsStopped name rtype moment files (verdict_fault error))
+    → IfErr result (IsUnjudged Refused) → TellsFaults {T = U} (IsFirstFaultOfName name rtype moment) remaining before after result
+all_judged {before = before} {after = after} name rtype moment Refused x result tells same stopped only = record {
+  first = λ files are. unjudged_first name rtype moment files Refused result (λ error. stopped files error are) only;
+  reads = reads_after x result tells.reads (λ file. unjudged_other Refused file result only) (unjudged_opened Refused result only);
+  questions = reads_untouched (given_failures before.questions) (given_failures after.questions) result (ap given_failures same)
+      (unjudged_other Refused Questions result only);
+}
 
 -- a question over files that were all taken is refused on its way
-pub stopped_there : (name : Labels) (rtype moment : ℕ) (files : Files) (opening : Opening) → IsOpeningOf files.keys files.macs moment opening
-    → (held : Evidence) (anchors : List Anchor) (meaning : Entry → Answer) {octets : Option (List ℕ)} → octets ≡ Some files.capture
-    → IfSome octets (λ file. (messages : List Contents) × Holds NewEvidence opening file messages × (held ≡ evidence_of messages))
-    → HasAnchors (octets_or_none files.anchors) anchors → IsMeaningOf (octets_or_none files.statements) meaning
-    → (error : VerdictError)
-    → IsRefusedFor (basis_of held.rrsets anchors moment meaning) name rtype error
+pub stopped_there : (name : Labels) (rtype moment : ℕ) (files : Files) {rrsets : List ReceivedRrset} {anchors : List Anchor} {meaning : Entry → Answer}
+    → AreGivenBy moment files rrsets anchors meaning → (error : VerdictError) → IsRefusedFor (basis_of rrsets anchors moment meaning) name rtype error
     → IsStopped name rtype moment files (verdict_fault error)
-stopped_there name rtype moment files opening opens held anchors meaning is taken trusted said error refused =
-    let evidence = of_told (λ file. (messages : List Contents) × Holds NewEvidence opening file messages × (held ≡ evidence_of messages)) is taken in record {
-      given = all_in_order moment files opening opens anchors meaning evidence.0 evidence.1 trusted said;
-      error = error;
-      refused = subst (λ (each : Evidence). IsRefusedFor (basis_of each.rrsets anchors moment meaning) name rtype error) evidence.2 refused;
-      is = refl;
+stopped_there name rtype moment files are error refused = record {
+  given = are.given;
+  error = error;
+  refused = subst (λ (basis : Basis). IsRefusedFor basis name rtype error) are.is refused;
+  is = refl;
+}
+
+-- what isn't refused as a question that can't be asked can be
+stands : (b : Bool) → (¬ ¬ IsTrue b) → IsTrue b
+stands true holds = refl
+stands false holds = absurd (holds (λ bad. cc))
+
+pub asked_well : {T : Type 0} (name : Labels) (rtype : ℕ) {x : T} → ((¬ IsQuestion name rtype) → IsErrOf (Ok x) error.BadQuestion) → IsQuestion name rtype
+asked_well name rtype told =
+    let holds : ¬ ¬ IsQuestion name rtype = λ unasked. let bad = told unasked in cc in record {
+      forms = stands (forms_rrsets rtype) (λ bad. holds (λ is. bad is.forms));
+      not_nsec = λ nsec. holds (λ is. is.not_nsec nsec);
+      not_nsec3 = λ nsec3. holds (λ is. is.not_nsec3 nsec3);
+      below_root = λ ds root. holds (λ is. is.below_root ds root);
     }
+
+-- no verdict ends as a question that is refused
+pub verdict_unrefused : (verdict : Verdict) → verdict_status verdict ≡ status.Refused → ⊥
+verdict_unrefused (verdicts.SecureAnswer rrset signature) same = cc
+verdict_unrefused (verdicts.SecureAlias rrset signature) same = cc
+verdict_unrefused (verdicts.SecureNoName proof) same = cc
+verdict_unrefused (verdicts.SecureNoData proof) same = cc
+verdict_unrefused (verdicts.Insecure cut) same = cc
+verdict_unrefused (verdicts.Pending entries) same = cc
+verdict_unrefused verdicts.Bogus same = cc
+verdict_unrefused verdicts.Indeterminate same = cc
+
+pub judged_unrefused : {E : Type 0} (format : Format) (why : Bool) (basis : Basis) (name : Labels) (rtype : ℕ) (result : Result Outcome E)
+    → IfOk result (λ outcome. IsJudged format why basis name rtype outcome.status (string_bytes outcome.text))
+    → IfOk result (λ outcome. outcome.status ≡ status.Refused → ⊥)
+judged_unrefused format why basis name rtype (Ok outcome) judged = λ same. verdict_unrefused judged.report.verdict (sym judged.ends ∙ same)
+judged_unrefused format why basis name rtype (Err told) judged = tt
+
+-- ---- a report as an answer
+
+module _ (format : Format) (why : Bool) (basis : Basis) (asked : Asked) (name : Labels) (rtype moment : ℕ) (rrsets : List ReceivedRrset)
+    (report : Report) (told : Option (List Line)) where
+  pub answered_so : {E : Type 0} (result : Result Outcome E) → name ≡ asked.name → rtype ≡ asked.rtype → rrsets ≡ basis.rrsets → basis.moment ≡ moment
+      → IsQuestion name rtype → IsVerdictOf basis name rtype report.links report.last report.verdict → IsWhy why basis rtype report told
+      → IfOk result (λ outcome. outcome.status ≡ verdict_status report.verdict)
+      → IfOk result (λ outcome. string_bytes outcome.text
+      ≡ check_text format name rtype moment (status_code outcome.status) rrsets report.links report.verdict told)
+      → IfOk result (λ outcome. IsAnswer format why basis asked outcome.status (string_bytes outcome.text))
+  answered_so (Err fault) names types same at may verdict is_told ends lines = tt
+  answered_so (Ok outcome) names types same at may verdict is_told ends lines =
+      let judged : IsJudged format why basis name rtype outcome.status (string_bytes outcome.text) = record {
+        report = report;
+        is_verdict = verdict;
+        told = told;
+        is_told = is_told;
+        ends = ends;
+        lines = lines
+            ∙ (λ i. check_text format name rtype (sym at i) (status_code outcome.status) (same i) report.links report.verdict told);
+      } in
+      subst (λ (t : ℕ). IsAnswer format why basis (record { name = asked.name; rtype = t }) outcome.status (string_bytes outcome.text)) types
+      (subst (λ (n : Labels). IsAnswer format why basis (record { name = n; rtype = rtype }) outcome.status (string_bytes outcome.text)) names (inl (may, judged)))
+
+pub refused_so : {E : Type 0} (format : Format) (why : Bool) (basis : Basis) (asked : Asked) (name : Labels) (rtype : ℕ) (result : Result Outcome E)
+    → name ≡ asked.name → rtype ≡ asked.rtype
+    → IfOk result (λ outcome. IsRefusedOne format why basis (record { name = name; rtype = rtype }) outcome.status (string_bytes outcome.text))
+    → IfOk result (λ outcome. IsAnswer format why basis asked outcome.status (string_bytes outcome.text))
+refused_so format why basis asked name rtype (Err fault) names types told = tt
+refused_so format why basis asked name rtype (Ok outcome) names types told =
+    subst (λ (t : ℕ). IsAnswer format why basis (record { name = asked.name; rtype = t }) outcome.status (string_bytes outcome.text)) types
+    (subst (λ (n : Labels). IsAnswer format why basis (record { name = n; rtype = rtype }) outcome.status (string_bytes outcome.text)) names (inr told))

@@ -3,4 +3,5 @@ pub mod Answers
 pub mod Listed
 pub mod OneCapture
 pub mod OneFault
+pub mod OneRequest
 pub mod OneText

@@ -1,3 +1,4 @@
+mod AskingLemmas
 pub mod CommandLineLemmas
 pub mod FileLemmas
 mod JudgedLemmas

@@ -1,4 +1,5 @@
 -- How the program ends by what its parts answer.
+pub mod Refusals
 pub mod Told
 pub mod Words
 use Rattle.std.proofs.Common.{◌≡◌, ◌⊎◌, ◌↔◌, ℕ, Bool, true, List, [], ◌∷◌, Option, Some, None, ap, refl, subst, sym, ◌∙◌, inl, inr, arith}
@@ -7,19 +8,19 @@ use Rattle.std.specs.Io.KnownBytes.{Appends}
 use Rattle.dnsv_message.specs.Streams.Counted.{AppendsBeginning}
 use Rattle.dnsv_program.specs.declared.command_line.request.Request.{Request}
 use Rattle.dnsv_program.specs.declared.status.Status.{Status}
-use Rattle.dnsv_program.specs.declared.status.Status.TheVariants.{Done, Insecure, Pending, Bogus, Indeterminate}
+use Rattle.dnsv_program.specs.declared.status.Status.TheVariants.{Done, Insecure, Pending, Bogus, Indeterminate, Refused}
 use Rattle.dnsv_program.specs.declared.status.Fault.{Fault}
 use Rattle.dnsv_program.specs.declared.status.Fault.TheVariants as fault
 use Rattle.dnsv_program.specs.declared.status.Place.{Place}
 use Rattle.dnsv_program.specs.declared.status.Refusal.{Refusal}
 use Rattle.dnsv_program.specs.Files.{Files}
 use Rattle.dnsv_program.specs.CommandLine.{IsAccepted}
-use Rattle.dnsv_program.specs.Program.{AreFilesAt, BeganText, IsEnd, RefusedFiles, RefusedWords, WroteText, first_unopened, given_path, paths_of}
-use Rattle.dnsv_program.specs.CommandLine.Paths.{anchors_of, capture_of, keys_of, macs_of, statements_of}
+use Rattle.dnsv_program.specs.Program.{AreFilesAt, BeganText, IsEnd, RefusedFiles, RefusedWords, WroteFirst, WroteRefused, WroteText, first_unopened, given_path, paths_of}
+use Rattle.dnsv_program.specs.CommandLine.Paths.{anchors_of, capture_of, keys_of, macs_of, questions_of, statements_of}
 use Rattle.dnsv_program.specs.Told.{IsOpenFault, IsUnopened}
 use Rattle.dnsv_program.specs.declared.status.InputFile.{InputFile}
-use Rattle.dnsv_program.specs.declared.status.InputFile.TheVariants.{Anchors, Capture, Keys, Macs, Statements}
-use Rattle.dnsv_program.specs.Run.{IsTextAskedFor, IsFirstFault}
+use Rattle.dnsv_program.specs.declared.status.InputFile.TheVariants.{Anchors, Capture, Keys, Macs, Questions, Statements}
+use Rattle.dnsv_program.specs.Run.{AsksMany, IsTextAskedFor, IsTextOfFirst, IsFirstFault}
 use Rattle.dnsv_program.specs.Status.{fault_code, outcome_code, status_code}
 
 -- what is said of the words that were handed out holds of those that the machine tells
@@ -61,48 +62,72 @@ pub ended_well : {X : Status → Type 0} (outcome : Result Status Fault) (code :
 ended_well (Ok status) code is ends holds = (status, is, holds)
 ended_well (Err failed) code is ends holds = absurd (no_end failed code is ends)
 
-pub no_7 : (status : Status) → status_code status ≡ 7 → ⊥
-no_7 Done is_7 = omega (arith, is_7)
-no_7 Insecure is_7 = omega (arith, is_7)
-no_7 Pending is_7 = omega (arith, is_7)
-no_7 Bogus is_7 = omega (arith, is_7)
-no_7 Indeterminate is_7 = omega (arith, is_7)
-
 pub no_1 : (status : Status) → status_code status ≡ 1 → ⊥
 no_1 Done is_1 = omega (arith, is_1)
 no_1 Insecure is_1 = omega (arith, is_1)
 no_1 Pending is_1 = omega (arith, is_1)
 no_1 Bogus is_1 = omega (arith, is_1)
 no_1 Indeterminate is_1 = omega (arith, is_1)
+no_1 Refused is_1 = omega (arith, is_1)
 
--- 7 is the exit status of a refusal alone
+-- of the ends of a whole text 7 is that of a refused question alone
+pub refused_alone : (status : Status) → status_code status ≡ 7 → status ≡ Refused
+refused_alone Done is_7 = absurd (omega (arith, is_7))
+refused_alone Insecure is_7 = absurd (omega (arith, is_7))
+refused_alone Pending is_7 = absurd (omega (arith, is_7))
+refused_alone Bogus is_7 = absurd (omega (arith, is_7))
+refused_alone Indeterminate is_7 = absurd (omega (arith, is_7))
+refused_alone Refused is_7 = refl
+
+-- 7 is the exit status of a refusal: of a question among many, or of all
 pub ended_refused : (outcome : Result Status Fault) → outcome_code outcome ≡ 7
-    → (why : Refusal) × (place : Place) × (outcome ≡ Err (fault.Refused why place))
-ended_refused (Ok status) is_7 = absurd (no_7 status is_7)
+    → (outcome ≡ Ok Refused) ⊎ ((why : Refusal) × (place : Place) × (outcome ≡ Err (fault.Refused why place)))
+ended_refused (Ok status) is_7 = inl (ap (λ (each : Status). Ok each) (refused_alone status is_7))
 ended_refused (Err fault.OutOfMemory) is_7 = absurd (omega (arith, is_7))
 ended_refused (Err (fault.ReadFailed file)) is_7 = absurd (omega (arith, is_7))
 ended_refused (Err (fault.TooLong file)) is_7 = absurd (omega (arith, is_7))
 ended_refused (Err (fault.OpenFailed file)) is_7 = absurd (omega (arith, is_7))
 ended_refused (Err fault.WriteFailed) is_7 = absurd (omega (arith, is_7))
-ended_refused (Err (fault.Refused why place)) is_7 = (why, place, refl)
+ended_refused (Err (fault.Refused why place)) is_7 = inr (why, place, refl)
 
--- 1 is the exit status of a failed write, or of a fault that left the output as it was
-pub ended_failed : {Same Begun : Type 0} (outcome : Result Status Fault) → outcome_code outcome ≡ 1
-    → IfErr outcome (λ failed. (failed ≡ fault.WriteFailed → ⊥) → Same) → (outcome ≡ Err fault.WriteFailed → Begun) → Same ⊎ Begun
-ended_failed (Ok status) is_1 untouched begun = absurd (no_1 status is_1)
-ended_failed (Err fault.OutOfMemory) is_1 untouched begun = inl (untouched (λ is. cc))
-ended_failed (Err (fault.ReadFailed file)) is_1 untouched begun = inl (untouched (λ is. cc))
-ended_failed (Err (fault.TooLong file)) is_1 untouched begun = inl (untouched (λ is. cc))
-ended_failed (Err (fault.OpenFailed file)) is_1 untouched begun = inl (untouched (λ is. cc))
-ended_failed (Err fault.WriteFailed) is_1 untouched begun = inr (begun refl)
-ended_failed (Err (fault.Refused why place)) is_1 untouched begun = absurd (omega (arith, is_1))
+-- 1 is the exit status of a failed write, of memory that was wanting, or of a fault that left the output as it was
+pub ended_failed : {Same Begun First : Type 0} (outcome : Result Status Fault) → outcome_code outcome ≡ 1
+    → IfErr outcome (λ failed. (failed ≡ fault.WriteFailed → ⊥) → (failed ≡ fault.OutOfMemory → ⊥) → Same) → (outcome ≡ Err fault.WriteFailed → Begun)
+    → (outcome ≡ Err fault.OutOfMemory → Same ⊎ First) → Same ⊎ (Begun ⊎ First)
+ended_failed (Ok status) is_1 untouched begun whole = absurd (no_1 status is_1)
+ended_failed (Err fault.OutOfMemory) is_1 untouched begun whole = beside (whole refl)
+  where
+    beside : {A B C : Type 0} → A ⊎ C → A ⊎ (B ⊎ C)
+    beside (inl a) = inl a
+    beside (inr c) = inr (inr c)
+ended_failed (Err (fault.ReadFailed file)) is_1 untouched begun whole = inl (untouched (λ is. cc) (λ is. cc))
+ended_failed (Err (fault.TooLong file)) is_1 untouched begun whole = inl (untouched (λ is. cc) (λ is. cc))
+ended_failed (Err (fault.OpenFailed file)) is_1 untouched begun whole = inl (untouched (λ is. cc) (λ is. cc))
+ended_failed (Err fault.WriteFailed) is_1 untouched begun whole = inr (inl (begun refl))
+ended_failed (Err (fault.Refused why place)) is_1 untouched begun whole = absurd (omega (arith, is_1))
 
 pub began : (given : Option (List (List ℕ))) (octets_at : List ℕ → Option (List ℕ)) (old new : Option (List ℕ)) (request : Request)
     → IfSome given (λ words. IsAccepted words request)
-    → ((files : Files) → AreFilesAt octets_at request files → (status : Status) × (text : List ℕ) × IsTextAskedFor request files status text × AppendsBeginning old new text)
+    → ((files : Files) → AreFilesAt octets_at request files → (text : List ℕ) × IsTextOfFirst request files text × AppendsBeginning old new text)
     → IfSome given (λ words. BeganText words octets_at old new)
 began None octets_at old new request accepted text = tt
 began (Some words) octets_at old new request accepted text = record { request = request; accepted = accepted; text = text }
+
+-- the text of some of many questions was written
+pub wrote_first : (given : Option (List (List ℕ))) (octets_at : List ℕ → Option (List ℕ)) (old new : Option (List ℕ)) (request : Request)
+    → IfSome given (λ words. IsAccepted words request) → AsksMany request
+    → ((files : Files) → AreFilesAt octets_at request files → (text : List ℕ) × IsTextOfFirst request files text × Appends old new text)
+    → IfSome given (λ words. WroteFirst words octets_at old new)
+wrote_first None octets_at old new request accepted many text = tt
+wrote_first (Some words) octets_at old new request accepted many text = record { request = request; accepted = accepted; many = many; text = text }
+
+-- or of all, of which one is refused by itself
+pub wrote_refused : (given : Option (List (List ℕ))) (octets_at : List ℕ → Option (List ℕ)) (old new : Option (List ℕ)) (request : Request)
+    → IfSome given (λ words. IsAccepted words request) → AsksMany request
+    → ((files : Files) → AreFilesAt octets_at request files → (text : List ℕ) × IsTextAskedFor request files Refused text × Appends old new text)
+    → IfSome given (λ words. WroteRefused words octets_at old new)
+wrote_refused None octets_at old new request accepted many text = tt
+wrote_refused (Some words) octets_at old new request accepted many text = record { request = request; accepted = accepted; many = many; text = text }
 
 pub wrote : (given : Option (List (List ℕ))) (octets_at : List ℕ → Option (List ℕ)) (old new : Option (List ℕ)) (request : Request) (code : ℕ) (Helped : Type 0)
     → IfSome given (λ words. IsAccepted words request)
@@ -155,8 +180,11 @@ module _ (opens : List ℕ → Bool) (told : Fault) where
   at file path asked others same stops = subst (λ given. IsFirst (given_path file given others)) same (stops others)
 
   module _ (request : Request) (path : List ℕ) (opened : true ≡ opens path) (is_path : path ≡ capture_of request) where
+    abbrev BehindMacs : List (InputFile × List ℕ)
+    BehindMacs = given_path Questions (questions_of request) []
+
     abbrev BehindKeys : List (InputFile × List ℕ)
-    BehindKeys = given_path Macs (macs_of request) []
+    BehindKeys = given_path Macs (macs_of request) BehindMacs
 
     abbrev BehindStatements : List (InputFile × List ℕ)
     BehindStatements = given_path Keys (keys_of request) BehindKeys
@@ -188,9 +216,16 @@ module _ (opens : List ℕ → Bool) (told : Fault) where
           pub unopened_keys : Stops Keys keys → IsFirst (paths_of request)
           unopened_keys stops = past_statements (at Keys keys (keys_of request) BehindKeys keys_are stops)
 
-          pub unopened_macs : Passes opens Keys keys → (macs : Option (List ℕ)) → macs ≡ macs_of request → Stops Macs macs → IsFirst (paths_of request)
-          unopened_macs keys_opened macs macs_are stops =
-              past_statements (past Keys keys (keys_of request) BehindKeys keys_are keys_opened (at Macs macs (macs_of request) [] macs_are stops))
+          module _ (keys_opened : Passes opens Keys keys) (macs : Option (List ℕ)) (macs_are : macs ≡ macs_of request) where
+            past_keys : IsFirst BehindKeys → IsFirst (paths_of request)
+            past_keys first = past_statements (past Keys keys (keys_of request) BehindKeys keys_are keys_opened first)
+
+            pub unopened_macs : Stops Macs macs → IsFirst (paths_of request)
+            unopened_macs stops = past_keys (at Macs macs (macs_of request) BehindMacs macs_are stops)
+
+            pub unopened_questions : Passes opens Macs macs → (questions : Option (List ℕ)) → questions ≡ questions_of request → Stops Questions questions → IsFirst (paths_of request)
+            unopened_questions macs_opened questions questions_are stops =
+                past_keys (past Macs macs (macs_of request) BehindMacs macs_are macs_opened (at Questions questions (questions_of request) [] questions_are stops))
 
 -- where each file opened, none is told
 pub all_opened : (opens : List ℕ → Bool) (request : Request) (path : List ℕ) → true ≡ opens path → path ≡ capture_of request
@@ -198,16 +233,19 @@ pub all_opened : (opens : List ℕ → Bool) (request : Request) (path : List �
     → (statements : Option (List ℕ)) → statements ≡ statements_of request → Passes opens Statements statements
     → (keys : Option (List ℕ)) → keys ≡ keys_of request → Passes opens Keys keys
     → (macs : Option (List ℕ)) → macs ≡ macs_of request → Passes opens Macs macs
+    → (questions : Option (List ℕ)) → questions ≡ questions_of request → Passes opens Questions questions
     → first_unopened opens (paths_of request) ≡ None
-all_opened opens request path opened is_path anchors anchors_are anchors_opened statements statements_are statements_opened keys keys_are keys_opened macs macs_are macs_opened =
-    let behind_keys = given_path Macs (macs_of request) [] in
+all_opened opens request path opened is_path anchors anchors_are anchors_opened statements statements_are statements_opened keys keys_are keys_opened macs macs_are macs_opened questions questions_are questions_opened =
+    let behind_macs = given_path Questions (questions_of request) [] in
+    let behind_keys = given_path Macs (macs_of request) behind_macs in
     let behind_statements = given_path Keys (keys_of request) behind_keys in
     let behind_anchors = given_path Statements (statements_of request) behind_statements in
     opened_first opens Capture (capture_of request) (given_path Anchors (anchors_of request) behind_anchors) (ap opens (sym is_path) ∙ sym opened)
     ∙ ap (λ given. first_unopened opens (given_path Anchors given behind_anchors)) (sym anchors_are) ∙ anchors_opened behind_anchors
     ∙ ap (λ given. first_unopened opens (given_path Statements given behind_statements)) (sym statements_are) ∙ statements_opened behind_statements
     ∙ ap (λ given. first_unopened opens (given_path Keys given behind_keys)) (sym keys_are) ∙ keys_opened behind_keys
-    ∙ ap (λ given. first_unopened opens (given_path Macs given [])) (sym macs_are) ∙ macs_opened []
+    ∙ ap (λ given. first_unopened opens (given_path Macs given behind_macs)) (sym macs_are) ∙ macs_opened behind_macs
+    ∙ ap (λ given. first_unopened opens (given_path Questions given [])) (sym questions_are) ∙ questions_opened []
 
 -- the file that is told is the first that doesn't open
 pub which_unopened : {T : Type 0} (first : Option InputFile) (told : Fault) (file : InputFile) → IsUnopened first told → IsOpenFault told

@@ -4,15 +4,17 @@ use Rattle.std.specs.Prelude.{List, Option, Some, None, Result, Ok, Err, IfErr}
 use Rattle.dnsv_program.specs.declared.status.Fault.{Fault}
 use Rattle.dnsv_program.specs.declared.status.Fault.TheVariants as fault
 use Rattle.dnsv_program.specs.declared.status.InputFile.{InputFile}
-use Rattle.dnsv_program.specs.declared.status.InputFile.TheVariants.{Anchors, Capture, Keys, Macs, Statements}
+use Rattle.dnsv_program.specs.declared.status.InputFile.TheVariants.{Anchors, Capture, Keys, Macs, Questions, Statements}
 use Rattle.dnsv_program.specs.Opening.Given.{IsOpeningReached}
 use Rattle.dnsv_program.specs.Files.Faults.{IsAbout, OfFailedRead}
 use Rattle.dnsv_message.specs.Streams.Counted.{inner_of}
 use Rattle.dnsv_message.specs.declared.streams.counted.Counted.{Counted}
-use Rattle.dnsv_program.specs.Files.{Files, IsGiven, IsToldBy}
+use Rattle.dnsv_canonical.specs.Question.{Asked}
+use Rattle.dnsv_program.specs.Files.{Files, IsGiven, IsToldBy, octets_or_none}
+use Rattle.dnsv_program.specs.Files.Questions.{HasQuestions}
 use Rattle.dnsv_program.specs.Files.Capture.{NewEvidence, IsFaultOfCapture}
 use Rattle.dnsv_program.specs.declared.opening.Opening.TheVariants.{Plain}
-use Rattle.dnsv_program.specs.Run.{HasEvidence, IsFirstFaultOfList, IsReachedByList, IsReachedOfFiles}
+use Rattle.dnsv_program.specs.Run.{HasEvidence, IsFirstFaultOfList, IsReachedByEach, IsReachedByList, IsReachedOfFiles}
 use Rattle.std.proofs.lemmas.Bool.{false≢true}
 
 -- where a fault is about one file, what holds of that file is enough
@@ -61,6 +63,21 @@ in_files moment files Macs holds = holds
 in_files moment files Capture holds = absurd holds
 in_files moment files Anchors holds = absurd holds
 in_files moment files Statements holds = absurd holds
+in_files moment files Questions holds = absurd holds
+
+-- the files that questions are judged by are read behind the questions
+behind_questions : (moment : ℕ) (files : Files) → (asked : List Asked) × HasQuestions (octets_or_none files.questions) asked
+    → (file : InputFile) → IsReachedOfFiles moment files file → IsReachedByEach moment files file
+behind_questions moment files has Keys holds = (has, holds)
+behind_questions moment files has Macs holds = (has, holds)
+behind_questions moment files has Capture holds = (has, holds)
+behind_questions moment files has Anchors holds = (has, holds)
+behind_questions moment files has Statements holds = (has, holds)
+behind_questions moment files has Questions holds = absurd holds
+
+pub reached_behind : (moment : ℕ) (files : Files) → (asked : List Asked) × HasQuestions (octets_or_none files.questions) asked
+    → (told : Fault) → OfFailedRead (IsReachedOfFiles moment files) told → OfFailedRead (IsReachedByEach moment files) told
+reached_behind moment files has told = weaker_told (IsReachedOfFiles moment files) (IsReachedByEach moment files) told (behind_questions moment files has)
 
 -- the keys and the MACs are read first
 pub reached_sealed : (moment : ℕ) (files : Files) (told : Fault) → OfFailedRead (IsOpeningReached files.keys files.macs) told → OfFailedRead (IsReachedOfFiles moment files) told

@@ -19,6 +19,8 @@ use Rattle.std.specs.declared.io.ErrorKind.TheVariants as io
 use Rattle.dnsv_texts.specs.Checking.{question_word}
 use Rattle.dnsv_program.specs.CommandLine.Commands.{program_app}
 use Rattle.dnsv_program.specs.CommandLine.Moment.{last_moment}
+use Rattle.dnsv_program.specs.declared.command_line.request.Asking.{Asking}
+use Rattle.dnsv_program.specs.declared.command_line.request.Asking.TheVariants as asking
 use Rattle.dnsv_program.specs.declared.command_line.request.Request.{Request}
 use Rattle.dnsv_program.specs.declared.command_line.request.Request.TheVariants as request
 use Rattle.dnsv_texts.specs.declared.format.Format.{Format}
@@ -44,6 +46,19 @@ abbrev pub format_said : Bool → Format
 format_said false = Lines
 format_said true = Json
 
+-- the values ask for a question by its name and its type, or for each of a file
+abbrev pub AsksFor : List Row → Asking → Type 0
+AsksFor rows (asking.One asked rtype) = (first_of (codes "name") rows ≡ Some (string_bytes asked))
+    × (option_and_then (number_said 65535) (first_of (codes "type") rows) ≡ Some rtype.0)
+    × (first_of (codes "questions") rows ≡ None)
+AsksFor rows (asking.Each questions) = (first_of (codes "name") rows ≡ None)
+    × (first_of (codes "type") rows ≡ None)
+    × (first_of (codes "questions") rows ≡ Some (string_bytes questions))
+
+-- they ask for neither, or for more than one of the two
+abbrev pub IsUnclear : List Row → Type 0
+IsUnclear rows = (asked : Asking) → AsksFor rows asked → ⊥
+
 -- a subcommand and the values of its options ask for the request
 abbrev pub Asks : Text → List Row → Request → Type 0
 Asks name rows (request.Show capture) = (name ≡ codes "show")
@@ -54,12 +69,11 @@ Asks name rows (request.List capture moment statements all format) = (name ≡ c
     × (first_of (codes "statements") rows ≡ option_map string_bytes statements)
     × (flag_said (one_of (codes "all") rows) ≡ all)
     × (format_said (flag_said (one_of (codes "json") rows)) ≡ format)
-Asks name rows (request.Check capture anchors moment asked rtype statements keys macs format why) = (name ≡ question_word why)
+Asks name rows (request.Check capture anchors moment asking statements keys macs format why) = (name ≡ question_word why)
     × (first_of (codes "capture") rows ≡ Some (string_bytes capture))
     × (first_of (codes "anchors") rows ≡ Some (string_bytes anchors))
     × (option_and_then (number_said last_moment) (first_of (codes "moment") rows) ≡ Some moment)
-    × (first_of (codes "name") rows ≡ Some (string_bytes asked))
-    × (option_and_then (number_said 65535) (first_of (codes "type") rows) ≡ Some rtype.0)
+    × AsksFor rows asking
     × (first_of (codes "statements") rows ≡ option_map string_bytes statements)
     × (first_of (codes "keys") rows ≡ option_map string_bytes keys)
     × (first_of (codes "macs") rows ≡ option_map string_bytes macs)
@@ -79,10 +93,14 @@ is_asked kind.DisplayHelp = true
 is_asked kind.DisplayVersion = true
 is_asked _ = false
 
--- help or the version was asked for, or the words have a mistake, of a kind that the program gives at them
+-- help or the version was asked for, or the words have a mistake, of a kind that the program gives at them; or they have
+-- none, and a subcommand for questions isn't told which
 abbrev pub IsRefused : List Text → CommandLineError → Type 0
 IsRefused words line.OutOfMemory = ⊤
 IsRefused words line.NotText = ⊥
+IsRefused words line.Unclear = (fault_of program_app words ≡ [])
+    × ((why : Bool) × (rows : List Row) × (subcommand_of program_app words ≡ Some (question_word why, rows))
+    × IsUnclear rows)
 IsRefused words (line.Help refusal) =
     (is_asked (kind_of refusal) ≡ true) × IsAmong (kind_of refusal) (fault_of program_app words)
 IsRefused words (line.Misused refusal) =
@@ -106,6 +124,7 @@ words_error _ = line.NotText
 abbrev pub command_line_code : CommandLineError → ℕ
 command_line_code line.OutOfMemory = 1
 command_line_code line.NotText = 2
+command_line_code line.Unclear = 2
 command_line_code (line.Help refusal) = 0
 command_line_code (line.Misused refusal) = 2
 
@@ -126,11 +145,16 @@ HasNumber option last rows = (text : Text) × (first_of option rows ≡ Some tex
 abbrev pub IsFlag : Option Text → Type 0
 IsFlag text = (text ≡ None) ⊎ ((text ≡ Some (codes "true")) ⊎ (text ≡ Some (codes "false")))
 
+-- the same, or there is none
+abbrev pub MayHaveNumber : Text → ℕ → List Row → Type 0
+MayHaveNumber option last rows =
+    ((first_of option rows ≡ None) × (one_of option rows ≡ None)) ⊎ HasNumber option last rows
+
 abbrev pub HasListValues : List Row → Type 0
 HasListValues rows = HasCapture rows × HasNumber (codes "moment") last_moment rows × IsFlag (one_of (codes "all") rows)
     × IsFlag (one_of (codes "json") rows)
 
 abbrev pub HasCheckValues : List Row → Type 0
 HasCheckValues rows = HasCapture rows × HasValue (codes "anchors") rows
-    × HasNumber (codes "moment") last_moment rows × HasValue (codes "name") rows
-    × HasNumber (codes "type") 65535 rows × IsFlag (one_of (codes "json") rows)
+    × HasNumber (codes "moment") last_moment rows × MayHaveNumber (codes "type") 65535 rows
+    × IsFlag (one_of (codes "json") rows)

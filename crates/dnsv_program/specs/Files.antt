@@ -2,6 +2,7 @@
 pub mod Anchors
 pub mod Capture
 pub mod Faults
+pub mod Questions
 pub mod Statements
 use Rattle.std.specs.Prelude.{◌≡◌, ◌≢◌, ℕ, List, [], Option, Some, None, unwrap_or}
 use Rattle.std.specs.Option.{option_map, option_map_or}
@@ -16,6 +17,7 @@ pub record Files : Type 0 where
   pub statements : Option (List ℕ)
   pub keys : Option (List ℕ)
   pub macs : Option (List ℕ)
+  pub questions : Option (List ℕ)
 
 -- the file is given
 abbrev pub IsGiven : {T : Type 0} → Option T → Type 0
@@ -40,10 +42,15 @@ MayHave Says (Some text) (Some said) = Says text said
 abbrev pub given_failures : {R : Type 0} → Option (Counted R) → ℕ
 given_failures reader = option_map_or failures_of reader 0
 
--- the readers tell the octets of these files
-pub record AreTold {R : Type 0} (remaining : R → Option (List ℕ)) (inputs : Inputs R) (files : Files) : Type 0 where
+-- the readers of the files that questions are judged by tell the octets of these
+pub record AreToldBeside {R : Type 0} (remaining : R → Option (List ℕ)) (inputs : Inputs R) (files : Files) : Type 0 where
   pub capture : remaining (inner_of inputs.capture) ≡ Some files.capture
   pub anchors : IsToldBy remaining inputs.anchors files.anchors
   pub statements : IsToldBy remaining inputs.statements files.statements
   pub keys : IsToldBy remaining inputs.keys files.keys
   pub macs : IsToldBy remaining inputs.macs files.macs
+
+-- and that of questions too
+pub record AreTold {R : Type 0} (remaining : R → Option (List ℕ)) (inputs : Inputs R) (files : Files) : Type 0 where
+  pub beside : AreToldBeside remaining inputs files
+  pub questions : IsToldBy remaining inputs.questions files.questions

@@ -10,15 +10,16 @@ use Rattle.dnsv_program.specs.declared.command_line.CommandLineError.{CommandLin
 use Rattle.dnsv_program.specs.declared.status.Fault.{Fault}
 use Rattle.dnsv_program.specs.declared.status.Fault.TheVariants as fault
 use Rattle.dnsv_program.specs.declared.status.InputFile.{InputFile}
-use Rattle.dnsv_program.specs.declared.status.InputFile.TheVariants.{Anchors, Capture, Keys, Macs, Statements}
+use Rattle.dnsv_program.specs.declared.status.InputFile.TheVariants.{Anchors, Capture, Keys, Macs, Questions, Statements}
 use Rattle.dnsv_program.specs.declared.status.Status.{Status}
+use Rattle.dnsv_program.specs.declared.status.Status.TheVariants.{Refused}
 use Rattle.dnsv_program.specs.declared.status.Place.{Place}
 use Rattle.dnsv_program.specs.declared.status.Refusal.{Refusal}
 use Rattle.dnsv_program.specs.Files.Faults.{OfFailedRead, OfOctets}
 use Rattle.dnsv_program.specs.Files.{Files}
 use Rattle.dnsv_program.specs.CommandLine.{IsAccepted, IsRefused, command_line_code}
-use Rattle.dnsv_program.specs.CommandLine.Paths.{anchors_of, capture_of, keys_of, macs_of, statements_of}
-use Rattle.dnsv_program.specs.Run.{AsksRefused, IsTextAskedFor, IsFirstFault, IsReached}
+use Rattle.dnsv_program.specs.CommandLine.Paths.{anchors_of, capture_of, keys_of, macs_of, questions_of, statements_of}
+use Rattle.dnsv_program.specs.Run.{AsksMany, AsksRefused, IsTextAskedFor, IsTextOfFirst, IsFirstFault, IsReached}
 use Rattle.dnsv_program.specs.Status.{fault_line, status_code}
 
 -- ---- files
@@ -30,6 +31,7 @@ pub record AreFilesAt (octets_at : List ℕ → Option (List ℕ)) (request : Re
   pub statements : option_map octets_at (statements_of request) ≡ option_map (λ octets. Some octets) files.statements
   pub keys : option_map octets_at (keys_of request) ≡ option_map (λ octets. Some octets) files.keys
   pub macs : option_map octets_at (macs_of request) ≡ option_map (λ octets. Some octets) files.macs
+  pub questions : option_map octets_at (questions_of request) ≡ option_map (λ octets. Some octets) files.questions
 
 -- a file with its path, where one is given, before others
 abbrev pub given_path : InputFile → Option (List ℕ) → List (InputFile × List ℕ) → List (InputFile × List ℕ)
@@ -40,7 +42,7 @@ given_path file (Some path) others = (file, path) ∷ others
 abbrev pub paths_of : Request → List (InputFile × List ℕ)
 paths_of request = (Capture, capture_of request)
     ∷ given_path Anchors (anchors_of request) (given_path Statements (statements_of request)
-    (given_path Keys (keys_of request) (given_path Macs (macs_of request) [])))
+    (given_path Keys (keys_of request) (given_path Macs (macs_of request) (given_path Questions (questions_of request) []))))
 
 -- the first of the files that doesn't open
 abbrev pub first_unopened : (List ℕ → Bool) → List (InputFile × List ℕ) → Option InputFile
@@ -62,13 +64,32 @@ pub record WroteText (words : List Text) (octets_at : List ℕ → Option (List 
       → (status : Status) × (text : List ℕ) × IsTextAskedFor request files status text
       × (status_code status ≡ code) × Appends old new text
 
--- the words ask for something, and the output got a beginning of what the files that they name have for it
+-- the words ask for something, and the output got a beginning of what the files that they name have for it: of many
+-- questions, a beginning of the text of the first of them
 pub record BeganText (words : List Text) (octets_at : List ℕ → Option (List ℕ))
     (old new : Option (List ℕ)) : Type 0 where
   pub request : Request
   pub accepted : IsAccepted words request
   pub text : (files : Files) → AreFilesAt octets_at request files
-      → (status : Status) × (text : List ℕ) × IsTextAskedFor request files status text × AppendsBeginning old new text
+      → (text : List ℕ) × IsTextOfFirst request files text × AppendsBeginning old new text
+
+-- the words ask many questions, and the output got the whole text of some of them, from the first on
+pub record WroteFirst (words : List Text) (octets_at : List ℕ → Option (List ℕ))
+    (old new : Option (List ℕ)) : Type 0 where
+  pub request : Request
+  pub accepted : IsAccepted words request
+  pub many : AsksMany request
+  pub text : (files : Files) → AreFilesAt octets_at request files
+      → (text : List ℕ) × IsTextOfFirst request files text × Appends old new text
+
+-- the words ask many questions, of which one is refused by itself, and the output got the text of all of them
+pub record WroteRefused (words : List Text) (octets_at : List ℕ → Option (List ℕ))
+    (old new : Option (List ℕ)) : Type 0 where
+  pub request : Request
+  pub accepted : IsAccepted words request
+  pub many : AsksMany request
+  pub text : (files : Files) → AreFilesAt octets_at request files
+      → (text : List ℕ) × IsTextAskedFor request files Refused text × Appends old new text
 
 -- the words ask for something, and the first fault of the files that they name is a refusal
 pub record RefusedFiles (words : List Text) (octets_at : List ℕ → Option (List ℕ)) : Type 0 where
@@ -100,10 +121,12 @@ HasToldIn contents old new told =
     ⊎ ((failures_of old < 2 ^ 64 - 1 → failures_of old < failures_of new)
     × AppendsBeginning (contents (inner_of old)) (contents (inner_of new)) (fault_line told))
 
--- where this fault is told, a write of the output failed, or the output is as it was
-abbrev pub LeavesOutput : {W : Type 0} → Counted W → Counted W → Fault → Type 0
-LeavesOutput old new fault.WriteFailed = failures_of old < 2 ^ 64 - 1 → failures_of old < failures_of new
-LeavesOutput old new _ = new ≡ old
+-- where this fault is told, a write of the output failed, or the output is as it was; where memory was wanting it may
+-- have grown so
+abbrev pub LeavesOutput : {W : Type 0} → Counted W → Counted W → Type 0 → Fault → Type 0
+LeavesOutput old new Grew fault.WriteFailed = failures_of old < 2 ^ 64 - 1 → failures_of old < failures_of new
+LeavesOutput old new Grew fault.OutOfMemory = (new ≡ old) ⊎ Grew
+LeavesOutput old new Grew _ = new ≡ old
 
 -- a question that is refused is told, unless a file doesn't open
 abbrev pub TellsQuestion : Request → Fault → Type 0

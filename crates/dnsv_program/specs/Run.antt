@@ -6,17 +6,21 @@ use Rattle.dnsv_canonical.specs.Rrsets.{IsQuestion}
 use Rattle.dnsv_chain.specs.declared.anchor.Anchor.{Anchor}
 use Rattle.dnsv_program.specs.declared.opening.Opening.{Opening}
 use Rattle.dnsv_program.specs.declared.opening.Opening.TheVariants.{Plain}
+use Rattle.dnsv_program.specs.declared.command_line.request.Asking.TheVariants as asking
 use Rattle.dnsv_program.specs.declared.command_line.request.Request.{Request}
 use Rattle.dnsv_program.specs.declared.command_line.request.Request.TheVariants as request
 use Rattle.dnsv_program.specs.declared.status.Fault.{Fault}
 use Rattle.dnsv_program.specs.declared.status.Fault.TheVariants as fault
 use Rattle.dnsv_program.specs.declared.status.InputFile.{InputFile}
-use Rattle.dnsv_program.specs.declared.status.InputFile.TheVariants.{Anchors, Capture, Keys, Macs, Statements}
+use Rattle.dnsv_program.specs.declared.status.InputFile.TheVariants.{Anchors, Capture, Keys, Macs, Questions, Statements}
 use Rattle.dnsv_program.specs.declared.status.Status.{Status}
 use Rattle.dnsv_program.specs.declared.status.Status.TheVariants.{Done}
 use Rattle.dnsv_texts.specs.declared.format.Format.{Format}
 use Rattle.dnsv_program.specs.Files.Anchors.{HasAnchors, IsFaultOfAnchors}
 use Rattle.dnsv_program.specs.Files.Capture.{AnyMessage, NewEvidence, Holds, IsFaultOfCapture}
+use Rattle.dnsv_canonical.specs.Question.{Asked}
+use Rattle.dnsv_program.specs.Files.Questions.{HasQuestions, IsFaultOfQuestions}
+use Rattle.dnsv_program.specs.Work.Asking.{AreAnswered, AreFirstAnswered}
 use Rattle.dnsv_program.specs.Work.Checking.{IsCheck, IsStopped}
 use Rattle.dnsv_program.specs.Opening.Given.{IsOpeningOf, IsOpeningReached, IsFaultOfOpening}
 use Rattle.dnsv_program.specs.Files.{Files, IsGiven, octets_or_none}
@@ -43,8 +47,35 @@ abbrev pub IsTextAskedFor : Request → Files → Status → List ℕ → Type 0
 IsTextAskedFor (request.Show capture) files end text = (end ≡ Done) × IsShowing files.capture text
 IsTextAskedFor (request.List capture moment statements all format) files end text =
     (end ≡ Done) × IsListed all format moment files text
-IsTextAskedFor (request.Check capture anchors moment asked rtype statements keys macs format why) files end text =
+IsTextAskedFor (request.Check capture anchors moment (asking.One asked rtype) statements keys macs format why) files end text =
     IsAnswered format why (string_bytes asked) rtype.0 moment files end text
+IsTextAskedFor (request.Check capture anchors moment (asking.Each questions) statements keys macs format why) files end text =
+    AreAnswered format why moment files end text
+
+-- the request asks many questions
+abbrev pub AsksMany : Request → Type 0
+AsksMany (request.Show capture) = ⊥
+AsksMany (request.List capture moment statements all format) = ⊥
+AsksMany (request.Check capture anchors moment (asking.One asked rtype) statements keys macs format why) = ⊥
+AsksMany (request.Check capture anchors moment (asking.Each questions) statements keys macs format why) = Unit {0}
+
+-- the request asks many questions, at this moment, in this format, and this says whether it asks why
+abbrev pub IsManyAsked : Request → Format → Bool → ℕ → Type 0
+IsManyAsked (request.Show capture) format why moment = ⊥
+IsManyAsked (request.List capture at statements all form) format why moment = ⊥
+IsManyAsked (request.Check capture anchors at (asking.One asked rtype) statements keys macs form whether) format why moment = ⊥
+IsManyAsked (request.Check capture anchors at (asking.Each questions) statements keys macs form whether) format why moment =
+    (format ≡ form) × (why ≡ whether) × (moment ≡ at)
+
+-- what is written at most: of many questions the text of some, from the first on, and else the whole text
+abbrev pub IsTextOfFirst : Request → Files → List ℕ → Type 0
+IsTextOfFirst (request.Show capture) files text = (end : Status) × IsTextAskedFor (request.Show capture) files end text
+IsTextOfFirst (request.List capture moment statements all format) files text =
+    (end : Status) × IsTextAskedFor (request.List capture moment statements all format) files end text
+IsTextOfFirst (request.Check capture anchors moment (asking.One asked rtype) statements keys macs format why) files text =
+    (end : Status) × IsAnswered format why (string_bytes asked) rtype.0 moment files end text
+IsTextOfFirst (request.Check capture anchors moment (asking.Each questions) statements keys macs format why) files text =
+    AreFirstAnswered format why moment files text
 
 -- ---- the first fault
 
@@ -92,8 +123,9 @@ IsFaultOfQuestion asked rtype _ = ⊥
 abbrev pub AsksRefused : Request → Fault → Type 0
 AsksRefused (request.Show capture) fault = ⊥
 AsksRefused (request.List capture moment statements all format) fault = ⊥
-AsksRefused (request.Check capture anchors moment asked rtype statements keys macs format why) fault =
+AsksRefused (request.Check capture anchors moment (asking.One asked rtype) statements keys macs format why) fault =
     IsFaultOfQuestion (string_bytes asked) rtype.0 fault
+AsksRefused (request.Check capture anchors moment (asking.Each questions) statements keys macs format why) fault = ⊥
 
 -- the first of the files that is at fault has this fault; or none is, and an alias can't be followed
 abbrev pub IsFirstFaultOfName : Labels → ℕ → ℕ → Files → Fault → Type 0
@@ -106,12 +138,20 @@ IsFirstFaultOfCheck asked rtype moment files fault =
     IsFaultOfQuestion asked rtype fault
     ⊎ ((name : Labels) × Spells asked name × IsQuestion name rtype × IsFirstFaultOfName name rtype moment files fault)
 
+-- the first fault is in the questions, and then in the files that they are judged by
+abbrev pub IsFirstFaultOfEach : ℕ → Files → Fault → Type 0
+IsFirstFaultOfEach moment files fault =
+    IsFaultOfQuestions (octets_or_none files.questions) fault
+    ⊎ (((asked : List Asked) × HasQuestions (octets_or_none files.questions) asked) × IsFirstFaultOfFiles moment files fault)
+
 -- the first fault, in the order of the work
 abbrev pub IsFirstFault : Request → Files → Fault → Type 0
 IsFirstFault (request.Show capture) files fault = IsFaultOfCapture AnyMessage Plain files.capture fault
 IsFirstFault (request.List capture moment statements all format) files fault = IsFirstFaultOfList all files fault
-IsFirstFault (request.Check capture anchors moment asked rtype statements keys macs format why) files fault =
+IsFirstFault (request.Check capture anchors moment (asking.One asked rtype) statements keys macs format why) files fault =
     IsFirstFaultOfCheck (string_bytes asked) rtype.0 moment files fault
+IsFirstFault (request.Check capture anchors moment (asking.Each questions) statements keys macs format why) files fault =
+    IsFirstFaultOfEach moment files fault
 
 -- ---- what a failed read comes behind
 
@@ -142,15 +182,24 @@ IsReachedOfFiles moment files Anchors =
 IsReachedOfFiles moment files Statements =
     (opening : Opening) × IsOpeningOf files.keys files.macs moment opening × HasEvidence opening files.capture
     × ((anchors : List Anchor) × HasAnchors (octets_or_none files.anchors) anchors) × IsGiven files.statements
+IsReachedOfFiles moment files Questions = ⊥
 
 -- the question can be asked, and the files before this one are in order
 abbrev pub IsReachedByCheck : List ℕ → ℕ → ℕ → Files → InputFile → Type 0
 IsReachedByCheck asked rtype moment files file =
     ((name : Labels) × Spells asked name × IsQuestion name rtype) × IsReachedOfFiles moment files file
 
+-- the questions are read first, and then the files that they are judged by
+abbrev pub IsReachedByEach : ℕ → Files → InputFile → Type 0
+IsReachedByEach moment files Questions = IsGiven files.questions
+IsReachedByEach moment files file =
+    ((asked : List Asked) × HasQuestions (octets_or_none files.questions) asked) × IsReachedOfFiles moment files file
+
 -- The request reads the file, which is given, and what comes before it in the order of the work is in order.
 abbrev pub IsReached : Request → Files → InputFile → Type 0
 IsReached (request.Show capture) files file = IsCaptureReached file
 IsReached (request.List capture moment statements all format) files file = IsReachedByList all files file
-IsReached (request.Check capture anchors moment asked rtype statements keys macs format why) files file =
+IsReached (request.Check capture anchors moment (asking.One asked rtype) statements keys macs format why) files file =
     IsReachedByCheck (string_bytes asked) rtype.0 moment files file
+IsReached (request.Check capture anchors moment (asking.Each questions) statements keys macs format why) files file =
+    IsReachedByEach moment files file

@@ -14,10 +14,11 @@ use Rattle.dnsv_canonical.specs.CaptureError.{capture_error_code}
 use Rattle.dnsv_verifier.specs.StatementsError.{statements_error_code}
 use Rattle.dnsv_chain.specs.AnchorsError.{anchors_error_code}
 use Rattle.dnsv_verdict.specs.VerdictError.{verdict_error_code}
+use Rattle.dnsv_questions.specs.QuestionsError.{questions_error_code}
 use Rattle.dnsv_program.specs.declared.status.Status.{Status}
-use Rattle.dnsv_program.specs.declared.status.Status.TheVariants.{Done, Insecure, Pending, Bogus, Indeterminate}
+use Rattle.dnsv_program.specs.declared.status.Status.TheVariants.{Done, Insecure, Pending, Bogus, Indeterminate, Refused}
 use Rattle.dnsv_program.specs.declared.status.InputFile.{InputFile}
-use Rattle.dnsv_program.specs.declared.status.InputFile.TheVariants.{Anchors, Capture, Keys, Macs, Statements}
+use Rattle.dnsv_program.specs.declared.status.InputFile.TheVariants.{Anchors, Capture, Keys, Macs, Questions, Statements}
 use Rattle.dnsv_program.specs.declared.status.Refusal.{Refusal}
 use Rattle.dnsv_program.specs.declared.status.Refusal.TheVariants as refusal
 use Rattle.dnsv_program.specs.declared.status.Place.{Place}
@@ -31,6 +32,7 @@ status_code Insecure = 3
 status_code Pending = 4
 status_code Bogus = 5
 status_code Indeterminate = 6
+status_code Refused = 7
 
 -- ---- faults and their numbers
 
@@ -48,6 +50,7 @@ refusal_number (refusal.Tsig error) = tsig_error_code error
 refusal_number (refusal.Evidence error) = capture_error_code error
 refusal_number (refusal.AnchorLine error) = anchors_error_code error
 refusal_number (refusal.StatementLine error) = statements_error_code error
+refusal_number (refusal.QuestionLine error) = questions_error_code error
 
 abbrev pub fault_number : Fault → ℕ
 fault_number fault.OutOfMemory = 90
@@ -94,6 +97,7 @@ file_word Anchors = codes "anchors"
 file_word Statements = codes "statements"
 file_word Keys = codes "keys"
 file_word Macs = codes "macs"
+file_word Questions = codes "questions"
 
 -- a word and the number behind it, or nothing where there is none
 abbrev pub numbered : List ℕ → Option ℕ → List ℕ

@@ -26,7 +26,10 @@ use Rattle.dnsv_tsig.specs.declared.error.TsigError.TheVariants as tsig
 use Rattle.dnsv_tsig.specs.Answer.{tsig_answer_of}
 use Rattle.dnsv_tsig.specs.Key.{SharedKey}
 use Rattle.dnsv_program.specs.Opening.{HoldsNoMessage, IsUnreadable}
+use Rattle.dnsv_program.specs.Files.Questions.{TellsQuestionsError}
 use Rattle.dnsv_program.specs.Files.Statements.{TellsStatementsError}
+use Rattle.dnsv_questions.specs.declared.error.QuestionsError.{QuestionsError}
+use Rattle.dnsv_questions.specs.declared.error.QuestionsError.TheVariants as questions
 use Rattle.dnsv_program.specs.Status.{TellsMessageError, TellsCaptureError, TellsTsigError}
 use Rattle.dnsv_program.specs.Opening.Keys.{TellsKeysError}
 use Rattle.dnsv_tsig.specs.declared.error.KeyFileError.{KeyFileError}
@@ -61,6 +64,12 @@ abbrev pub IsStatementsFault : StatementsError → Fault → Type 0
 IsStatementsFault statements.OutOfMemory told = told ≡ fault.OutOfMemory
 IsStatementsFault error (fault.Refused why place) = TellsStatementsError error why place
 IsStatementsFault error _ = ⊥
+
+-- the fault tells the error of a file of questions
+abbrev pub IsQuestionsFault : QuestionsError → Fault → Type 0
+IsQuestionsFault questions.OutOfMemory told = told ≡ fault.OutOfMemory
+IsQuestionsFault error (fault.Refused why place) = TellsQuestionsError error why place
+IsQuestionsFault error _ = ⊥
 
 -- the fault tells the error of a file of trust anchors
 abbrev pub IsAnchorsFault : AnchorsError → Fault → Type 0

@@ -1,4 +1,6 @@
 -- What the requests ask of their files.
+pub mod Asking
 pub mod Checking
+pub mod Judging
 pub mod Listing
 pub mod Showing

@@ -1,12 +1,12 @@
 //! The command line.
-ghost use Rattle.std.specs.Prelude.{◌≡◌, ◌≤◌, ⊤, IfErr, IfOk, codes, map, option_and_then, string_bytes};
+ghost use Rattle.std.specs.Prelude.{◌≡◌, ◌⊎◌, ◌≤◌, ⊤, IfErr, IfOk, IfSome, codes, is_some, map, option_and_then, string_bytes};
 ghost use Rattle.std.specs.IoError.{error_kind as io_error_kind};
 ghost use Rattle.std.specs.Option.{option_map};
 ghost use Rattle.clap.specs.Words.{first_of, found_of, one_of, rows_of};
 ghost use Rattle.dnsv_texts.specs.Checking.{question_word};
-ghost use Rattle.dnsv_program.specs.CommandLine.{Asks, HasCapture, HasCheckValues, HasListValues, HasNumber, HasValue};
+ghost use Rattle.dnsv_program.specs.CommandLine.{Asks, AsksFor, HasCapture, HasCheckValues, HasListValues, HasNumber, HasValue, IsUnclear, MayHaveNumber};
 ghost use Rattle.dnsv_program.specs.CommandLine.{IsAccepted, IsFlag, IsRefused, command_line_code, command_line_error, flag_said, format_said, number_said, words_error};
-ghost use Rattle.dnsv_program.specs.declared.command_line.CommandLineError.TheVariants.{OutOfMemory};
+ghost use Rattle.dnsv_program.specs.declared.command_line.CommandLineError.TheVariants.{OutOfMemory, Unclear};
 
 pub mod commands;
 pub mod moment;
@@ -15,7 +15,7 @@ pub mod request;
 
 use crate::command_line::commands::program;
 use crate::command_line::moment::Moment;
-use crate::command_line::request::Request;
+use crate::command_line::request::{Asking, Request};
 use clap::ArgMatches;
 use clap::error::ErrorKind;
 use dnsv_names::RecordType;
@@ -40,6 +40,9 @@ pub enum CommandLineError {
     /// The words are no command of the program.
     #[error(transparent)]
     Misused(clap::Error),
+    /// The words ask for no question, or for one and for many.
+    #[error("error: a question is --name and --type, and many are --questions\n")]
+    Unclear,
 }
 
 impl CommandLineError {
@@ -50,7 +53,8 @@ impl CommandLineError {
         match self {
             CommandLineError::OutOfMemory => 1,
             CommandLineError::Help(_) => 0,
-            CommandLineError::NotText | CommandLineError::Misused(_) => 2,
+            CommandLineError::NotText | CommandLineError::Misused(_) | CommandLineError::Unclear =>
+                2,
         }
     }
 }
@@ -91,9 +95,10 @@ impl From<clap::Error> for CommandLineError {
 ///
 /// Whatever `clap` takes for the commands `show --capture FILE`,
 /// `list --capture FILE --moment N [--statements FILE] [--all] [--json]` and
-/// `check --capture FILE --anchors FILE --moment N --name NAME --type N` with `[--statements FILE]`, `[--keys FILE]`,
-/// `[--macs FILE]` and `[--json]`, and for `explain` with the words of `check`, is a request, and each error is one that
-/// `clap` gives there, or the want of memory.
+/// `check --capture FILE --anchors FILE --moment N` with `[--statements FILE]`, `[--keys FILE]`, `[--macs FILE]`,
+/// `[--json]` and either `--name NAME --type N` or `--questions FILE`, and for `explain` with the words of `check`, is a
+/// request. Each error is one that `clap` gives there, or that neither or more than one of the two was given, or the want
+/// of memory.
 pub fn read_command_line<S: AsStr>(alloc: Global, words: &[S]) -> Result<Request, CommandLineError>
     ensures accepted { IfOk result (λ request. IsAccepted (map S.text words.now) request) }
     ensures refused { IfErr result (λ error. IsRefused (map S.text words.now) error) }
@@ -105,7 +110,7 @@ pub fn read_command_line<S: AsStr>(alloc: Global, words: &[S]) -> Result<Request
     } else if name == "list" {
         Ok(list_request(alloc, values)?)
     } else {
-        Ok(check_request(alloc, values, name == "explain")?)
+        check_request(alloc, values, name == "explain")
     }
 }
 
@@ -138,15 +143,20 @@ fn list_request(alloc: Global, list: &ArgMatches<'_>) -> Result<Request, AllocEr
 }
 
 /// The request of the matches of `check`, or of `explain`.
-fn check_request(alloc: Global, check: &ArgMatches<'_>, why: bool) -> Result<Request, AllocError>
+fn check_request(
+    alloc: Global,
+    check: &ArgMatches<'_>,
+    why: bool,
+) -> Result<Request, CommandLineError>
     requires { HasCheckValues (rows_of (found_of check.now)) }
-    ensures { IfOk result (Asks (question_word why) (rows_of (found_of check.now))) }
+    ensures asks { IfOk result (Asks (question_word why) (rows_of (found_of check.now))) }
+    ensures refused { IfErr result (λ error. (error ≡ OutOfMemory)
+        ⊎ ((error ≡ Unclear) × IsUnclear (rows_of (found_of check.now)))) }
 {
+    let asking = asking_of(alloc, check)?;
     let capture = value(alloc, check, "capture")?;
     let anchors = value(alloc, check, "anchors")?;
     let moment = Moment::new(number(check, "moment", Moment::LAST)).unwrap();
-    let name = value(alloc, check, "name")?;
-    let rtype = RecordType(number(check, "type", 65_535) as u16);
     let statements = given_value(alloc, check, "statements")?;
     let keys = given_value(alloc, check, "keys")?;
     let macs = given_value(alloc, check, "macs")?;
@@ -155,14 +165,44 @@ fn check_request(alloc: Global, check: &ArgMatches<'_>, why: bool) -> Result<Req
         capture,
         anchors,
         moment,
-        name,
-        rtype,
+        asking,
         statements,
         keys,
         macs,
         format,
         why,
     })
+}
+
+/// What the matches of `check`, or of `explain`, ask for: a question, or each of a file.
+fn asking_of(alloc: Global, check: &ArgMatches<'_>) -> Result<Asking, CommandLineError>
+    requires { HasCheckValues (rows_of (found_of check.now)) }
+    ensures asks { IfOk result (AsksFor (rows_of (found_of check.now))) }
+    ensures refused { IfErr result (λ error. (error ≡ OutOfMemory)
+        ⊎ ((error ≡ Unclear) × IsUnclear (rows_of (found_of check.now)))) }
+{
+    let name = given_value(alloc, check, "name")?;
+    let rtype = given_number(check, "type", 65_535);
+    let questions = given_value(alloc, check, "questions")?;
+    match (name, rtype, questions) {
+        (Some(name), Some(rtype), None) => {
+            let rtype = RecordType(rtype as u16);
+            Ok(Asking::One { name, rtype })
+        }
+        (None, None, Some(questions)) => Ok(Asking::Each { questions }),
+        _ => Err(CommandLineError::Unclear),
+    }
+}
+
+/// The number of an option that may not be there, which is at most the last.
+fn given_number(matches: &ArgMatches<'_>, option: &str, last: u64) -> Option<u64>
+    requires { MayHaveNumber option.now last (rows_of (found_of matches.now)) }
+    ensures said { option_and_then (number_said last) (first_of option.now (rows_of (found_of matches.now)))
+        ≡ result }
+    ensures bound { IfSome result (λ number. number ≤ last) }
+    ensures given { is_some result ≡ is_some (first_of option.now (rows_of (found_of matches.now))) }
+{
+    matches.get_one::<u64>(option)
 }
 
 /// The number of an option that is there, which is at most the last.

@@ -1,6 +1,7 @@
-//! The files that a request reads: captured messages, trust anchors and statements.
+//! The files that a request reads: captured messages, trust anchors, statements and questions.
 
 pub mod anchors;
 pub mod capture;
+pub mod questions;
 pub mod statements;
 pub mod text;

@@ -1,15 +1,15 @@
 //! The program around the run: its words, its files, and how it tells that it failed.
-ghost use Rattle.std.specs.Prelude.{◌≡◌, ◌<◌, ◌≤◌, ◌⊎◌, ◌↔◌, Bool, IfErr, IfOk, IfSome, List, ℕ, OnOk, Option, is_ok};
+ghost use Rattle.std.specs.Prelude.{◌≡◌, ◌<◌, ◌≤◌, ◌⊎◌, ◌↔◌, Bool, Err, IfErr, IfOk, IfSome, List, ℕ, Ok, OnOk, Option, is_ok};
 ghost use Rattle.std.specs.Option.{option_map};
 ghost use Rattle.std.specs.Io.KnownBytes.{Appends};
 ghost use Rattle.dnsv_message.specs.Streams.Counted.{inner_of, failures_of, AppendsBeginning};
 ghost use Rattle.dnsv_program.specs.Files.Faults.{OfFailedRead, OfOctets};
 ghost use Rattle.dnsv_program.specs.Files.{AreTold, Files, IsToldBy};
 ghost use Rattle.dnsv_program.specs.CommandLine.{IsAccepted, IsRefused, command_line_code};
-ghost use Rattle.dnsv_program.specs.Program.{AreFilesAt, BeganText, IsEnd, RefusedFiles, RefusedWords, WroteText};
+ghost use Rattle.dnsv_program.specs.Program.{AreFilesAt, BeganText, IsEnd, RefusedFiles, RefusedWords, WroteFirst, WroteRefused, WroteText};
 ghost use Rattle.dnsv_program.specs.Program.{FailedRequest, FailedWords, HasToldIn, HasWritten, LeavesOutput, TellsQuestion};
 ghost use Rattle.dnsv_program.specs.Program.{first_unopened, given_path, paths_of};
-ghost use Rattle.dnsv_program.specs.Run.{IsTextAskedFor, IsFirstFault, IsReached};
+ghost use Rattle.dnsv_program.specs.Run.{AsksMany, IsTextAskedFor, IsTextOfFirst, IsFirstFault, IsReached};
 ghost use Rattle.dnsv_program.specs.Status.{fault_code, outcome_code};
 ghost use Rattle.dnsv_program.specs.Told.{IsOpenFault, IsUnopened};
 ghost use Rattle.dnsv_program.specs.declared.status.Fault.TheVariants as Fault;
@@ -41,8 +41,9 @@ pub fn exit_status_on<R: Env + Files + AllocGlobal + Print, E: Print>(system: &R
 }
 
 /// Does what the command line asks for. The answer is the exit status: where the output got the text, 0, or 3 to 6
-/// for the verdicts Insecure, Pending, Bogus and Indeterminate; 0 where it got help; 7 where the question or a file is
-/// refused, 2 where the words are no command, and 1 where the machine failed.
+/// for the verdicts Insecure, Pending, Bogus and Indeterminate, and of many questions the greatest of theirs, with 7 for
+/// one that is refused by itself; 0 where it got help; 7 where the question or a file is refused, 2 where the words are no
+/// command, and 1 where the machine failed.
 pub fn exit_status<M: Machine, W: Write, E: Write>(
     machine: &M,
     output: &mut Counted<W>,
@@ -51,23 +52,37 @@ pub fn exit_status<M: Machine, W: Write, E: Write>(
     ensures done { IsEnd result → IfSome (M.given_words machine.now) (λ words. WroteText words
         (M.octets_at machine.now) (W.contents (inner_of output.old)) (W.contents (inner_of output.new)) result
         ⊎ (RefusedWords words result × HasWritten W.contents output.old output.new)) }
+    // Something is refused: a file, or the question, and nothing is written; or one of many questions by itself, and all
+    // of their text is, and nothing told besides.
     ensures refused { result ≡ 7
-        → IfSome (M.given_words machine.now) (λ words. RefusedFiles words (M.octets_at machine.now)) }
+        → ((output.new ≡ output.old)
+        × IfSome (M.given_words machine.now) (λ words. RefusedFiles words (M.octets_at machine.now)))
+        ⊎ ((errors.new ≡ errors.old)
+        × IfSome (M.given_words machine.now) (λ words. WroteRefused words (M.octets_at machine.now)
+        (W.contents (inner_of output.old)) (W.contents (inner_of output.new)))) }
     ensures misused { result ≡ 2 → IfSome (M.given_words machine.now) (λ words. RefusedWords words 2) }
-    ensures untouched { (result ≡ 2) ⊎ (result ≡ 7) → output.new ≡ output.old }
+    ensures untouched { result ≡ 2 → output.new ≡ output.old }
 
-    // Where the machine failed, nothing was written, or a write failed: of the text, of which a beginning stands
-    // there, or of help.
+    // Where the machine failed, nothing was written; or a write failed: of the text, of which a beginning stands
+    // there, or of help; or memory was wanting behind the text of some of many questions.
     ensures failed { result ≡ 1 → (output.new ≡ output.old) ⊎
         ((failures_of output.old < u64.MAX → failures_of output.old < failures_of output.new)
         × IfSome (M.given_words machine.now) (λ words. BeganText words (M.octets_at machine.now)
-        (W.contents (inner_of output.old)) (W.contents (inner_of output.new)) ⊎ RefusedWords words 0)) }
+        (W.contents (inner_of output.old)) (W.contents (inner_of output.new)) ⊎ RefusedWords words 0)) ⊎
+        IfSome (M.given_words machine.now) (λ words. WroteFirst words (M.octets_at machine.now)
+        (W.contents (inner_of output.old)) (W.contents (inner_of output.new))) }
 
-    // The errors got the line of the first fault, or a beginning of it where a write failed.
-    ensures told { (result ≡ 1) ⊎ (result ≡ 7) → (fault : Fault) × (fault_code fault ≡ result)
-        × HasToldIn E.contents errors.old errors.new fault × LeavesOutput output.old output.new fault
+    // The errors got the line of the first fault, or a beginning of it where a write failed; or nothing, where one of many
+    // questions is refused by itself.
+    ensures told { (result ≡ 1) ⊎ (result ≡ 7) → ((fault : Fault) × (fault_code fault ≡ result)
+        × HasToldIn E.contents errors.old errors.new fault
+        × LeavesOutput output.old output.new (IfSome (M.given_words machine.now) (λ words. WroteFirst words
+        (M.octets_at machine.now) (W.contents (inner_of output.old)) (W.contents (inner_of output.new)))) fault
         × IfSome (M.given_words machine.now) (λ words. FailedRequest words (M.octets_at machine.now)
-        (M.opens machine.now) fault ⊎ FailedWords words fault) }
+        (M.opens machine.now) fault ⊎ FailedWords words fault))
+        ⊎ ((result ≡ 7) × (errors.new ≡ errors.old)
+        × IfSome (M.given_words machine.now) (λ words. WroteRefused words (M.octets_at machine.now)
+        (W.contents (inner_of output.old)) (W.contents (inner_of output.new)))) }
     ensures quiet { IsEnd result → errors.new ≡ errors.old }
     ensures codes { result ≤ 7 }
 {
@@ -116,17 +131,22 @@ fn answer<M: Machine, W: Write>(
     ensures write { result ≡ Err Fault.WriteFailed
         → failures_of output.old < u64.MAX → failures_of output.old < failures_of output.new }
     ensures begun { (files : Files) → AreFilesAt (M.octets_at machine.now) request.now files
-        → result ≡ Err Fault.WriteFailed
-        → (status : Status) × (text : List ℕ) × IsTextAskedFor request.now files status text
+        → result ≡ Err Fault.WriteFailed → (text : List ℕ) × IsTextOfFirst request.now files text
         × AppendsBeginning (W.contents (inner_of output.old)) (W.contents (inner_of output.new)) text }
-    ensures untouched { IfErr result (λ fault. (fault ≡ Fault.WriteFailed → ⊥) → output.new ≡ output.old) }
+    ensures whole { result ≡ Err Fault.OutOfMemory → (output.new ≡ output.old) ⊎ (AsksMany request.now
+        × ((files : Files) → AreFilesAt (M.octets_at machine.now) request.now files → (text : List ℕ)
+        × IsTextOfFirst request.now files text
+        × Appends (W.contents (inner_of output.old)) (W.contents (inner_of output.new)) text)) }
+    ensures refused_one { result ≡ Ok Status.Refused → AsksMany request.now }
+    ensures untouched { IfErr result (λ fault. (fault ≡ Fault.WriteFailed → ⊥) → (fault ≡ Fault.OutOfMemory → ⊥)
+        → output.new ≡ output.old) }
 {
     let mut inputs = open_all(machine, request)?;
     run(machine.alloc(), request, &mut inputs, output)
 }
 
-/// Opens the files of the request: the captured messages, the trust anchors, the statements, the keys, and then the
-/// MACs of requests.
+/// Opens the files of the request: the captured messages, the trust anchors, the statements, the keys, the MACs of
+/// requests, and then the questions.
 fn open_all<M: Machine>(machine: &M, request: &Request) -> Result<Inputs<M::File>, Fault>
     ensures files { (files : Files) → AreFilesAt (M.octets_at machine.now) request.now files
         → IfOk result (λ inputs. AreTold M.File.remaining inputs files) }
@@ -141,12 +161,14 @@ fn open_all<M: Machine>(machine: &M, request: &Request) -> Result<Inputs<M::File
     let statements = open_given(machine, InputFile::Statements, request.statements())?;
     let keys = open_given(machine, InputFile::Keys, request.keys())?;
     let macs = open_given(machine, InputFile::Macs, request.macs())?;
+    let questions = open_given(machine, InputFile::Questions, request.questions())?;
     Ok(Inputs {
         capture,
         anchors,
         statements,
         keys,
         macs,
+        questions,
     })
 }
 
@@ -199,7 +221,7 @@ fn refuse<W: Write, E: Write>(
     ensures untouched { (result ≡ 0) ⊎ (output.new ≡ output.old) ⊎ ((command_line_code error ≡ 0) × (result ≡ 1)
         × (failures_of output.old < u64.MAX → failures_of output.old < failures_of output.new)) }
     ensures told { result ≡ 1 → (fault : Fault) × HasToldIn E.contents errors.old errors.new fault
-        × LeavesOutput output.old output.new fault
+        × LeavesOutput output.old output.new (⊥) fault
         × ((fault ≡ Fault.OutOfMemory) ⊎ ((fault ≡ Fault.WriteFailed) × (command_line_code error ≡ 0))) }
     ensures helped { result ≡ 0 → HasWritten W.contents output.old output.new }
     ensures quiet { result ≡ 0 → errors.new ≡ errors.old }
@@ -207,7 +229,7 @@ fn refuse<W: Write, E: Write>(
     match error {
         CommandLineError::OutOfMemory => finish(errors, Err(Fault::OutOfMemory)),
         CommandLineError::Help(_) => finish(errors, tell_help(alloc, error, output)),
-        CommandLineError::NotText | CommandLineError::Misused(_) => {
+        CommandLineError::NotText | CommandLineError::Misused(_) | CommandLineError::Unclear => {
             let code = error.code();
             // Nothing is left to tell where the text itself can't be written.
             let _ = errors.write_fmt(error);

@@ -1,11 +1,12 @@
 //! How a run ends: with its text written, or with a fault.
-ghost use Rattle.std.specs.Prelude.{◌≡◌, ◌≤◌, length};
+ghost use Rattle.std.specs.Prelude.{◌≡◌, ◌⊎◌, ◌≤◌, length};
 ghost use Rattle.dnsv_program.specs.Status.{status_code, fault_code, fault_number, file_word, refusal_number};
 
 use dnsv_canonical::CaptureError;
 use dnsv_chain::AnchorsError;
 use dnsv_message::DecodeError;
 use dnsv_names::NameError;
+use dnsv_questions::QuestionsError;
 use dnsv_tsig::{KeyFileError, TsigError};
 use dnsv_verdict::VerdictError;
 use dnsv_verifier::StatementsError;
@@ -24,6 +25,8 @@ pub enum Status {
     Bogus,
     /// No trust anchor is at or above the question's name.
     Indeterminate,
+    /// One of many questions was refused.
+    Refused,
 }
 
 impl Status {
@@ -37,6 +40,19 @@ impl Status {
             Status::Pending => 4,
             Status::Bogus => 5,
             Status::Indeterminate => 6,
+            Status::Refused => 7,
+        }
+    }
+
+    /// That of the two with the greater exit status.
+    pub fn worse(self, other: Status) -> Status
+        ensures one { (result ≡ self) ⊎ (result ≡ other) }
+        ensures greatest { (status_code self ≤ status_code result) × (status_code other ≤ status_code result) }
+    {
+        if self.code() < other.code() {
+            other
+        } else {
+            self
         }
     }
 }
@@ -54,6 +70,8 @@ pub enum InputFile {
     Keys,
     /// The file of request MACs.
     Macs,
+    /// The file of questions.
+    Questions,
 }
 
 impl InputFile {
@@ -68,6 +86,7 @@ impl InputFile {
             InputFile::Statements => "statements",
             InputFile::Keys => "keys",
             InputFile::Macs => "macs",
+            InputFile::Questions => "questions",
         }
     }
 }
@@ -100,6 +119,8 @@ pub enum Refusal {
     AnchorLine(AnchorsError),
     /// A line of the file of statements is at fault.
     StatementLine(StatementsError),
+    /// A line of the file of questions is at fault.
+    QuestionLine(QuestionsError),
 }
 
 impl Refusal {
@@ -120,6 +141,7 @@ impl Refusal {
             Refusal::Evidence(error) => error.code(),
             Refusal::AnchorLine(error) => error.code(),
             Refusal::StatementLine(error) => error.code(),
+            Refusal::QuestionLine(error) => error.code(),
         }
     }
 }

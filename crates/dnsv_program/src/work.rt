@@ -1,18 +1,23 @@
 //! The run of a request over its files.
-ghost use Rattle.std.specs.Prelude.{◌≡◌, ◌<◌, List, ℕ, IfErr, IfOk, string_bytes};
+ghost use Rattle.std.specs.Prelude.{◌≡◌, ◌⊎◌, ◌<◌, Err, List, ℕ, IfErr, IfOk, MatchOption, Ok, string_bytes};
 ghost use Rattle.std.specs.Io.KnownBytes.{Appends};
 ghost use Rattle.dnsv_message.specs.Streams.Counted.{inner_of, failures_of, AppendsBeginning};
 ghost use Rattle.dnsv_program.specs.Files.Faults.{OfFailedRead, TellsFaults};
 ghost use Rattle.dnsv_program.specs.Files.{AreTold, Files};
-ghost use Rattle.dnsv_program.specs.Run.{AsksRefused, IsFirstFault, IsReached, IsTextAskedFor};
+ghost use Rattle.dnsv_program.specs.Run.{AsksMany, AsksRefused, IsFirstFault, IsManyAsked, IsReached, IsTextAskedFor, IsTextOfFirst};
+ghost use Rattle.dnsv_program.specs.declared.status.Status.{Status};
 
+pub mod asking;
 pub mod checking;
+pub mod given;
 pub mod judging;
 pub mod listing;
 pub mod showing;
 
-use crate::command_line::request::Request;
+use crate::command_line::moment::Moment;
+use crate::command_line::request::{Asking, Request};
 use crate::status::{Fault, Status};
+use crate::work::asking::check_each;
 use crate::work::checking::check;
 use crate::work::judging::Telling;
 use crate::work::listing::list;
@@ -35,6 +40,8 @@ pub struct Inputs<R> {
     pub keys: Option<Counted<R>>,
     /// The MACs of the requests, where they are given. They are read where keys are.
     pub macs: Option<Counted<R>>,
+    /// The questions, where many are asked.
+    pub questions: Option<Counted<R>>,
 }
 
 /// How a run ends that makes its whole text.
@@ -44,13 +51,13 @@ pub struct Outcome {
     pub text: String,
 }
 
-/// Makes the whole text that the request asks for, and then writes it. The octets of the messages lie in an arena of its
-/// own.
+/// Makes the whole text that the request asks for, and then writes it; of many questions the text of each, which is
+/// written before the next is judged. The octets of the messages lie in an arena of its own.
 ///
 /// The answer is a status where the output got the whole text, and else the first fault in the order of the
-/// work: the question's name and type, the keys, the MACs of requests, reading the file of captured messages, its
-/// framing, the number of the MACs, each message in turn, the trust anchors, and then the statements. A write that
-/// fails is not tried again; the output then has a beginning of the text.
+/// work: the question's name and type, or the file of questions, the keys, the MACs of requests, reading the file of
+/// captured messages, its framing, the number of the MACs, each message in turn, the trust anchors, and then the
+/// statements. A write that fails is not tried again; the output then has a beginning of the text.
 pub fn run<R: Read, W: Write>(
     alloc: Global,
     request: &Request,
@@ -78,14 +85,77 @@ pub fn run<R: Read, W: Write>(
 
     // A failed write leaves a beginning of the defined text.
     ensures begun { (files : Files) → AreTold R.remaining inputs.old files → result ≡ Err Fault.WriteFailed
-        → (status : Status) × (text : List ℕ) × IsTextAskedFor request.now files status text
+        → (text : List ℕ) × IsTextOfFirst request.now files text
         × AppendsBeginning (W.contents (inner_of output.old)) (W.contents (inner_of output.new)) text }
 
-    // Nothing is written unless the whole text is made.
-    ensures untouched { IfErr result (λ fault. (fault ≡ Fault.WriteFailed → ⊥) → output.new ≡ output.old) }
+    // Where memory is wanting nothing is written, but of many questions the whole text of some, from the first on.
+    ensures whole { result ≡ Err Fault.OutOfMemory → (output.new ≡ output.old) ⊎ (AsksMany request.now
+        × ((files : Files) → AreTold R.remaining inputs.old files → (text : List ℕ)
+        × IsTextOfFirst request.now files text
+        × Appends (W.contents (inner_of output.old)) (W.contents (inner_of output.new)) text)) }
+
+    // A question that is refused by itself is one of many.
+    ensures refused_one { result ≡ Ok Status.Refused → AsksMany request.now }
+
+    // Nothing is written where a file is at fault.
+    ensures untouched { IfErr result (λ fault. (fault ≡ Fault.WriteFailed → ⊥) → (fault ≡ Fault.OutOfMemory → ⊥)
+        → output.new ≡ output.old) }
 {
     let bump = Bump::new(alloc);
-    let outcome = outcome_of(alloc, request, inputs, &bump)?;
+    match &many_asked(request) {
+        Some((telling, moment)) => check_each(alloc, *telling, *moment, inputs, &bump, output),
+        None => tell(alloc, request, inputs, &bump, output),
+    }
+}
+
+/// How many questions are told, and for which moment, where the request asks them.
+fn many_asked(request: &Request) -> Option<(Telling, Moment)>
+    ensures { MatchOption result (¬ AsksMany request.now) (λ found. IsManyAsked request.now found.0.format found.0.why
+        found.1) }
+{
+    match request {
+        Request::Check {
+            asking: Asking::Each { .. },
+            moment,
+            format,
+            why,
+            ..
+        } => {
+            let telling = Telling {
+                format: *format,
+                why: *why,
+            };
+            Some((telling, *moment))
+        }
+        _ => None,
+    }
+}
+
+/// Makes the whole text that the request asks for, and then writes it.
+fn tell<R: Read, W: Write>(
+    alloc: Global,
+    request: &Request,
+    inputs: &mut Inputs<R>,
+    bump: &Bump,
+    output: &mut Counted<W>,
+) -> Result<Status, Fault>
+    requires { ¬ AsksMany request.now }
+    ensures done { (files : Files) → AreTold R.remaining inputs.old files → IfOk result (λ status. (text : List ℕ)
+        × IsTextAskedFor request.now files status text
+        × Appends (W.contents (inner_of output.old)) (W.contents (inner_of output.new)) text) }
+    ensures faults { TellsFaults (IsFirstFault request.now) R.remaining inputs.old inputs.new result }
+    ensures question { (fault : Fault) → AsksRefused request.now fault → result ≡ Err fault }
+    ensures reached { (files : Files) → AreTold R.remaining inputs.old files
+        → IfErr result (OfFailedRead (IsReached request.now files)) }
+    ensures write { result ≡ Err Fault.WriteFailed
+        → failures_of output.old < u64.MAX → failures_of output.old < failures_of output.new }
+    ensures begun { (files : Files) → AreTold R.remaining inputs.old files → result ≡ Err Fault.WriteFailed
+        → (status : Status) × (text : List ℕ) × IsTextAskedFor request.now files status text
+        × AppendsBeginning (W.contents (inner_of output.old)) (W.contents (inner_of output.new)) text }
+    ensures untouched { IfErr result (λ fault. (fault ≡ Fault.WriteFailed → ⊥) → output.new ≡ output.old) }
+    ensures unrefused { result ≡ Ok Status.Refused → ⊥ }
+{
+    let outcome = outcome_of(alloc, request, inputs, bump)?;
     match output.write_all(outcome.text.as_bytes()) {
         Ok(()) => Ok(outcome.status),
         Err(_) => Err(Fault::WriteFailed),
@@ -99,6 +169,7 @@ fn outcome_of<R: Read>(
     inputs: &mut Inputs<R>,
     bump: &Bump,
 ) -> Result<Outcome, Fault>
+    requires { ¬ AsksMany request.now }
     ensures text { (files : Files) → AreTold R.remaining inputs.old files
         → IfOk result (λ outcome. IsTextAskedFor request.now files outcome.status (string_bytes outcome.text)) }
     ensures faults { TellsFaults (IsFirstFault request.now) R.remaining inputs.old inputs.new result }
@@ -106,6 +177,7 @@ fn outcome_of<R: Read>(
     ensures reached { (files : Files) → AreTold R.remaining inputs.old files
         → IfErr result (OfFailedRead (IsReached request.now files)) }
     ensures unwritten { IfErr result (λ fault. fault ≡ Fault.WriteFailed → ⊥) }
+    ensures unrefused { IfOk result (λ outcome. outcome.status ≡ Status.Refused → ⊥) }
 {
     match request {
         Request::Show { .. } => Ok(done(show(alloc, inputs, bump)?)),
@@ -116,27 +188,29 @@ fn outcome_of<R: Read>(
             ..
         } => Ok(done(list(alloc, *all, *format, *moment, inputs, bump)?)),
         Request::Check {
-            name,
-            rtype,
+            asking,
             moment,
             format,
             why,
             ..
-        } => {
-            let telling = Telling {
-                format: *format,
-                why: *why,
-            };
-            check(
-                alloc,
-                telling,
-                name.as_bytes(),
-                *rtype,
-                *moment,
-                inputs,
-                bump,
-            )
-        }
+        } => match asking {
+            Asking::One { name, rtype } => {
+                let telling = Telling {
+                    format: *format,
+                    why: *why,
+                };
+                check(
+                    alloc,
+                    telling,
+                    name.as_bytes(),
+                    *rtype,
+                    *moment,
+                    inputs,
+                    bump,
+                )
+            }
+            Asking::Each { .. } => unreachable!(),
+        },
     }
 }
 

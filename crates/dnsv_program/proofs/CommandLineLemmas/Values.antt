@@ -14,8 +14,8 @@ use Rattle.clap.specs.Takes.{is_given, value_passes}
 use Rattle.clap.specs.Values.{read_as}
 use Rattle.clap.specs.Walk.{Row, Rule, first_of, one_of, reading_by}
 use Rattle.dnsv_program.proofs.CommandLineLemmas.Rows.{AreRowsIn, IsIn, IsRowIn, IsRowOf, StartsPassing}
-use Rattle.dnsv_program.specs.CommandLine.Commands.{all_rule, anchors_rule, capture_rule, json_rule, list_app, moment_rule, name_rule, program_app, question_app, show_app, type_rule}
-use Rattle.dnsv_program.specs.CommandLine.{HasCapture, HasCheckValues, HasListValues, HasNumber, IsFlag}
+use Rattle.dnsv_program.specs.CommandLine.Commands.{all_rule, anchors_rule, capture_rule, json_rule, list_app, moment_rule, program_app, question_app, show_app, type_rule}
+use Rattle.dnsv_program.specs.CommandLine.{HasCapture, HasCheckValues, HasListValues, HasNumber, IsFlag, MayHaveNumber}
 use Rattle.dnsv_program.specs.CommandLine.Moment.{last_moment}
 
 -- what building makes of the program and of its subcommands
@@ -145,9 +145,6 @@ built_json = filled json_rule
 abbrev built_anchors : Rule
 built_anchors = filled anchors_rule
 
-abbrev built_name : Rule
-built_name = filled name_rule
-
 abbrev built_type : Rule
 built_type = filled type_rule
 
@@ -161,8 +158,13 @@ show_values rows all fault =
 moment_has : (rows : List Row) → HasValueOf built_moment (codes "moment") rows → HasNumber (codes "moment") last_moment rows
 moment_has rows number = (number.0, number.1, number.2, number.3)
 
-type_has : (rows : List Row) → HasValueOf built_type (codes "type") rows → HasNumber (codes "type") 65535 rows
-type_has rows number = (number.0, number.1, number.2, number.3)
+-- the number of a type that may be given
+type_may : (s : Shape) (rows : List Row) → IsOnly s.rules (codes "type") built_type → AreRowsIn s.rules rows → MayHaveNumber (codes "type") 65535 rows
+type_may s rows only all = go (find (λ r. bytes_eq r.id (codes "type")) rows) refl
+  where
+    go : (o : Option Row) → find (λ r. bytes_eq r.id (codes "type")) rows ≡ o → MayHaveNumber (codes "type") 65535 rows
+    go None is = inl (rw is refl, rw is refl)
+    go (Some r) is = let number = value_found s (codes "type") built_type rows r only all is in inr (number.0, number.1, number.2, number.3)
 
 -- the text of a flag, by what the flag takes
 flag_text : (text : Text) → (bytes_eq text (codes "true") || bytes_eq text (codes "false")) ≡ true → IsFlag (Some text)
@@ -203,33 +205,27 @@ list_values rows all fault =
 
 check_capture : (why : Bool) (rows : List Row) → AreRowsIn (question_shape why).rules rows → check_fault (question_shape why) rows false ≡ [] → HasValueOf built_capture built_capture.id rows
 check_capture why rows all fault =
-    required_value (question_shape why) built_capture rows (λ e. refl, (λ e. cc, (λ e. cc, (λ e. cc, (λ e. cc, (λ e. cc, (λ e. cc, (λ e. cc, (λ e. cc, (λ e. cc, tt)))))))))) (inl refl) refl refl all fault
+    required_value (question_shape why) built_capture rows (λ e. refl, (λ e. cc, (λ e. cc, (λ e. cc, (λ e. cc, (λ e. cc, (λ e. cc, (λ e. cc, (λ e. cc, (λ e. cc, (λ e. cc, tt))))))))))) (inl refl) refl refl all fault
 
 check_anchors : (why : Bool) (rows : List Row) → AreRowsIn (question_shape why).rules rows → check_fault (question_shape why) rows false ≡ [] → HasValueOf built_anchors built_anchors.id rows
 check_anchors why rows all fault =
-    required_value (question_shape why) built_anchors rows (λ e. cc, (λ e. refl, (λ e. cc, (λ e. cc, (λ e. cc, (λ e. cc, (λ e. cc, (λ e. cc, (λ e. cc, (λ e. cc, tt)))))))))) (inr (inl refl)) refl refl all fault
+    required_value (question_shape why) built_anchors rows (λ e. cc, (λ e. refl, (λ e. cc, (λ e. cc, (λ e. cc, (λ e. cc, (λ e. cc, (λ e. cc, (λ e. cc, (λ e. cc, (λ e. cc, tt))))))))))) (inr (inl refl)) refl refl all fault
 
 check_moment : (why : Bool) (rows : List Row) → AreRowsIn (question_shape why).rules rows → check_fault (question_shape why) rows false ≡ [] → HasValueOf built_moment built_moment.id rows
 check_moment why rows all fault =
-    required_value (question_shape why) built_moment rows (λ e. cc, (λ e. cc, (λ e. refl, (λ e. cc, (λ e. cc, (λ e. cc, (λ e. cc, (λ e. cc, (λ e. cc, (λ e. cc, tt)))))))))) (inr (inr (inl refl))) refl refl all fault
+    required_value (question_shape why) built_moment rows (λ e. cc, (λ e. cc, (λ e. refl, (λ e. cc, (λ e. cc, (λ e. cc, (λ e. cc, (λ e. cc, (λ e. cc, (λ e. cc, (λ e. cc, tt))))))))))) (inr (inr (inl refl))) refl refl all fault
 
-check_name : (why : Bool) (rows : List Row) → AreRowsIn (question_shape why).rules rows → check_fault (question_shape why) rows false ≡ [] → HasValueOf built_name built_name.id rows
-check_name why rows all fault =
-    required_value (question_shape why) built_name rows (λ e. cc, (λ e. cc, (λ e. cc, (λ e. refl, (λ e. cc, (λ e. cc, (λ e. cc, (λ e. cc, (λ e. cc, (λ e. cc, tt)))))))))) (inr (inr (inr (inl refl)))) refl refl all fault
-
-check_type : (why : Bool) (rows : List Row) → AreRowsIn (question_shape why).rules rows → check_fault (question_shape why) rows false ≡ [] → HasValueOf built_type built_type.id rows
-check_type why rows all fault =
-    required_value (question_shape why) built_type rows (λ e. cc, (λ e. cc, (λ e. cc, (λ e. cc, (λ e. refl, (λ e. cc, (λ e. cc, (λ e. cc, (λ e. cc, (λ e. cc, tt)))))))))) (inr (inr (inr (inr (inl refl))))) refl refl all fault
+check_type : (why : Bool) (rows : List Row) → AreRowsIn (question_shape why).rules rows → MayHaveNumber (codes "type") 65535 rows
+check_type why rows all = type_may (question_shape why) rows (λ e. cc, (λ e. cc, (λ e. cc, (λ e. cc, (λ e. refl, (λ e. cc, (λ e. cc, (λ e. cc, (λ e. cc, (λ e. cc, (λ e. cc, tt))))))))))) all
 
 check_json : (why : Bool) (rows : List Row) → AreRowsIn (question_shape why).rules rows → IsFlag (one_of (codes "json") rows)
-check_json why rows all = json_has (question_shape why) rows (λ e. cc, (λ e. cc, (λ e. cc, (λ e. cc, (λ e. cc, (λ e. cc, (λ e. cc, (λ e. cc, (λ e. refl, (λ e. cc, tt)))))))))) all
+check_json why rows all = json_has (question_shape why) rows (λ e. cc, (λ e. cc, (λ e. cc, (λ e. cc, (λ e. cc, (λ e. cc, (λ e. cc, (λ e. cc, (λ e. cc, (λ e. refl, (λ e. cc, tt))))))))))) all
 
 pub check_values : (why : Bool) (rows : List Row) → AreRowsIn (question_shape why).rules rows → check_fault (question_shape why) rows false ≡ [] → HasCheckValues rows
 check_values why rows all fault = (
   ap is_some (check_capture why rows all fault).1,
   ap is_some (check_anchors why rows all fault).1,
   moment_has rows (check_moment why rows all fault),
-  ap is_some (check_name why rows all fault).1,
-  type_has rows (check_type why rows all fault),
+  check_type why rows all,
   check_json why rows all,
 )

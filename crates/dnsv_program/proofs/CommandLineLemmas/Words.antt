@@ -1,7 +1,7 @@
 -- What the matches of each subcommand read as, and that they have them.
 use Rattle.std.proofs.Common.{◌≡◌, ◌⊎◌, ◌≤◌, ◌∙◌, ℕ, Bool, true, false, not, List, Option, Some, None, ap, refl, sym, subst, inl, inr, arith, slice_index}
 use Rattle.std.proofs.lemmas.Slice.Eq.{bytes_eq-Decides}
-use Rattle.std.specs.Prelude.{IfErr, IsErrAnd, Ok, Err, Result}
+use Rattle.std.specs.Prelude.{IfErr, IfOk, IsErrAnd, Ok, Err, Result}
 use Rattle.std.specs.Str.Parse.{ParsesUnsigned}
 use Rattle.clap.specs.Words.{ReadsOne, Text}
 use Rattle.clap.specs.ValueTests.{is_unsigned_in}
@@ -24,13 +24,15 @@ use Rattle.clap.specs.declared.error.ErrorKind.{ErrorKind}
 use Rattle.clap.specs.declared.error.ErrorKind.TheVariants as kind
 use Rattle.clap.specs.declared.builder.ValueParser.TheVariants as parser
 use Rattle.dnsv_program.specs.declared.command_line.CommandLineError.{CommandLineError}
+use Rattle.dnsv_program.specs.declared.command_line.CommandLineError.TheVariants as line
+use Rattle.dnsv_program.specs.declared.command_line.request.Request.{Request}
 use Rattle.dnsv_program.proofs.CommandLineLemmas.Rows.{AreRowsIn}
 use Rattle.dnsv_program.proofs.CommandLineLemmas.Values.{check_values, list_values, program_shape, show_values, sub_shapes}
 use Rattle.dnsv_program.proofs.CommandLineLemmas.Walks.{AllLeaveValues, level_in}
 use Rattle.clap.proofs.ValueTestLemmas.{accepts-Accepts}
 use Rattle.dnsv_texts.specs.Checking.{question_word}
 use Rattle.dnsv_program.specs.CommandLine.Commands.{program_app}
-use Rattle.dnsv_program.specs.CommandLine.{HasCapture, HasCheckValues, HasListValues, IsFlag, IsRefused, error_of_kind, flag_said, command_line_error, is_asked, number_said}
+use Rattle.dnsv_program.specs.CommandLine.{Asks, HasCapture, HasCheckValues, HasListValues, IsAccepted, IsFlag, IsRefused, IsUnclear, error_of_kind, flag_said, command_line_error, is_asked, number_said}
 use Rattle.std.specs.Option.{SomeIff}
 use Rattle.dnsv_program.specs.CommandLine.Moment.{IsMoment}
 
@@ -175,6 +177,19 @@ passed_up (Ok x) a words e is passed kinds = absurd passed
 passed_up (Err error) a words e is passed kinds =
     let has = subst (λ (b : App). HasKind (fault_of b words) e) is (kinds (ap is_simple_and_free is)) in
     subst (IsRefused words) (sym passed) (refused_as words e has)
+
+-- what a subcommand asks for, the words do
+pub asked_as : (r : Result Request CommandLineError) (words : List Text) (name : Text) (rows : List Row) → fault_of program_app words ≡ []
+    → subcommand_of program_app words ≡ Some (name, rows) → IfOk r (Asks name rows) → IfOk r (IsAccepted words)
+asked_as (Ok request) words name rows none met asks = (none, (name, rows, met, asks))
+asked_as (Err error) words name rows none met asks = tt
+
+pub unclear_as : (r : Result Request CommandLineError) (words : List Text) (why : Bool) (rows : List Row) → fault_of program_app words ≡ []
+    → subcommand_of program_app words ≡ Some (question_word why, rows)
+    → IfErr r (λ error. (error ≡ line.OutOfMemory) ⊎ ((error ≡ line.Unclear) × IsUnclear rows)) → IfErr r (IsRefused words)
+unclear_as (Ok request) words why rows none met told = tt
+unclear_as (Err error) words why rows none met (inl memory) = subst (IsRefused words) (sym memory) tt
+unclear_as (Err error) words why rows none met (inr unclear) = subst (IsRefused words) (sym unclear.0) (none, (why, rows, met, unclear.1))
 
 -- a subcommand of that name with these rows stands in the words, and has its values
 pub record Sees (words : List Text) (name : Text) (rows : List Row) : Type 0 where

@@ -9,8 +9,8 @@ use Rattle.dnsv_program.specs.Files.Capture.{AreFramesRefused, Demand, Holds, Is
 use Rattle.dnsv_program.specs.declared.opening.Opening.{Opening}
 use Rattle.dnsv_program.specs.Opening.Given.{IsOpeningOf, IsFaultOfOpening}
 use Rattle.dnsv_program.specs.declared.work.Inputs.{Inputs}
-use Rattle.dnsv_program.specs.declared.status.InputFile.TheVariants.{Anchors, Capture, Keys, Macs, Statements}
-use Rattle.dnsv_program.specs.Files.{Files, AreTold, IsToldBy, given_failures, octets_or_none}
+use Rattle.dnsv_program.specs.declared.status.InputFile.TheVariants.{Anchors, Capture, Keys, Macs, Questions, Statements}
+use Rattle.dnsv_program.specs.Files.{Files, AreToldBeside, IsToldBy, given_failures, octets_or_none}
 use Rattle.dnsv_chain.specs.declared.anchor.Anchor.{Anchor}
 use Rattle.dnsv_program.specs.Files.Anchors.{HasAnchors, IsFaultOfAnchors}
 use Rattle.dnsv_program.specs.Run.{HasEvidence, IsFirstFaultOfFiles}
@@ -20,7 +20,7 @@ use Rattle.dnsv_program.specs.declared.status.Fault.TheVariants as fault
 use Rattle.dnsv_program.specs.declared.status.InputFile.{InputFile}
 use Rattle.dnsv_program.specs.declared.status.Place.{Place}
 use Rattle.dnsv_program.specs.declared.status.Refusal.{Refusal}
-use Rattle.dnsv_program.specs.Files.Faults.{IsAbout, OfOctets, TellsFailedReads, TellsFaults, TellsFileFaults}
+use Rattle.dnsv_program.specs.Files.Faults.{IsAbout, OfOctets, TellsFailedReads, TellsFaults, TellsFaultsBeside, TellsFileFaults, TellsReads}
 use Rattle.dnsv_program.specs.Told.{IsFaultOf}
 
 no_fault : {T : Type 0} {x : T} {told : Fault} → Path (Result T Fault) (Ok x) (Err told) → ⊥
@@ -98,7 +98,7 @@ frames_refused demand opening (Some file) frames is why place refused = inr (inr
 
 -- ---- the captured messages, and then the statements
 
-OfOctets-weaker : (P Q : Fault → Type 0) (told : Fault) → ((fault : Fault) → P fault → Q fault) → OfOctets P told → OfOctets Q told
+pub OfOctets-weaker : (P Q : Fault → Type 0) (told : Fault) → ((fault : Fault) → P fault → Q fault) → OfOctets P told → OfOctets Q told
 OfOctets-weaker P Q (fault.Refused why place) weaker holds = weaker (fault.Refused why place) holds
 OfOctets-weaker P Q (fault.TooLong file) weaker holds = weaker (fault.TooLong file) holds
 OfOctets-weaker P Q fault.OutOfMemory weaker holds = tt
@@ -154,44 +154,50 @@ module _ {R U : Type 0} {remaining : R → Option (List ℕ)} {before after : In
       → TellsFailedReads {T = T} Keys (given_failures before.keys) (given_failures after.keys) (Err told)
       → TellsFailedReads {T = T} Macs (given_failures before.macs) (given_failures after.macs) (Err told)
       → IsAbout Keys told ⊎ IsAbout Macs told
-      → TellsFaults {T = U} (IsFirstFaultOfFiles moment) remaining before after (Err told)
+      → TellsFaultsBeside {T = U} (IsFirstFaultOfFiles moment) remaining before after (Err told)
   unsealed moment told capture_stays anchors_stay statements_stay faults keys_reads macs_reads about = record {
     first = λ files are.
         OfOctets-weaker (IsFaultOfOpening files.keys files.macs) (IsFirstFaultOfFiles moment files) told (λ fault holds. inl holds)
         (faults files.keys files.macs are.keys are.macs);
-    capture = reads_untouched (failures_of before.capture) (failures_of after.capture) (Err told) (ap failures_of capture_stays)
-        (about_either told about (λ is. cc) (λ is. cc));
-    anchors = reads_untouched (given_failures before.anchors) (given_failures after.anchors) (Err told) (ap given_failures anchors_stay)
-        (about_either told about (λ is. cc) (λ is. cc));
-    statements = reads_untouched (given_failures before.statements) (given_failures after.statements) (Err told) (ap given_failures statements_stay)
-        (about_either told about (λ is. cc) (λ is. cc));
-    keys = reads_passed told keys_reads;
-    macs = reads_passed told macs_reads;
-    opened = either_opened told about;
+    reads = record {
+      capture = reads_untouched (failures_of before.capture) (failures_of after.capture) (Err told) (ap failures_of capture_stays)
+          (about_either told about (λ is. cc) (λ is. cc));
+      anchors = reads_untouched (given_failures before.anchors) (given_failures after.anchors) (Err told) (ap given_failures anchors_stay)
+          (about_either told about (λ is. cc) (λ is. cc));
+      statements = reads_untouched (given_failures before.statements) (given_failures after.statements) (Err told) (ap given_failures statements_stay)
+          (about_either told about (λ is. cc) (λ is. cc));
+      keys = reads_passed told keys_reads;
+      macs = reads_passed told macs_reads;
+      opened = either_opened told about;
+    };
+    unread = about_either told about (λ is. cc) (λ is. cc);
   }
 
   module _ (opening : Opening) where
     -- the file of captured messages is at fault
     pub captured : {T : Type 0} (IsFirst : Files → Fault → Type 0) (told : Fault)
-        → ((files : Files) → AreTold remaining before files → (fault : Fault) → IsFaultOfCapture NewEvidence opening files.capture fault → IsFirst files fault)
+        → ((files : Files) → AreToldBeside remaining before files → (fault : Fault) → IsFaultOfCapture NewEvidence opening files.capture fault → IsFirst files fault)
         → after.anchors ≡ before.anchors → after.statements ≡ before.statements → NoneOfSeals U before after told
-        → CapturedBy {T = T} opening remaining before after (Err told) → TellsFaults {T = U} IsFirst remaining before after (Err told)
+        → CapturedBy {T = T} opening remaining before after (Err told) → TellsFaultsBeside {T = U} IsFirst remaining before after (Err told)
     captured IsFirst told first anchors_stay statements_stay seals tells = record {
       first = λ files are.
           OfOctets-weaker (IsFaultOfCapture NewEvidence opening files.capture) (IsFirst files) told (first files are)
           (of_told (λ octets. OfOctets (IsFaultOfCapture NewEvidence opening octets) told) are.capture tells.told);
-      capture = reads_passed told tells.reads;
-      anchors = reads_untouched (given_failures before.anchors) (given_failures after.anchors) (Err told) (ap given_failures anchors_stay)
-          (about_another Anchors told tells.about (λ is. cc));
-      statements = reads_untouched (given_failures before.statements) (given_failures after.statements) (Err told) (ap given_failures statements_stay)
-          (about_another Statements told tells.about (λ is. cc));
-      keys = seals.0 (about_another Keys told tells.about (λ is. cc));
-      macs = seals.1 (about_another Macs told tells.about (λ is. cc));
-      opened = about_opened Capture told tells.about;
+      reads = record {
+        capture = reads_passed told tells.reads;
+        anchors = reads_untouched (given_failures before.anchors) (given_failures after.anchors) (Err told) (ap given_failures anchors_stay)
+            (about_another Anchors told tells.about (λ is. cc));
+        statements = reads_untouched (given_failures before.statements) (given_failures after.statements) (Err told) (ap given_failures statements_stay)
+            (about_another Statements told tells.about (λ is. cc));
+        keys = seals.0 (about_another Keys told tells.about (λ is. cc));
+        macs = seals.1 (about_another Macs told tells.about (λ is. cc));
+        opened = about_opened Capture told tells.about;
+      };
+      unread = about_another Questions told tells.about (λ is. cc);
     }
 
     module _ (moment : ℕ)
-        (opens : (files : Files) → AreTold remaining before files → IsOpeningOf files.keys files.macs moment opening) where
+        (opens : (files : Files) → AreToldBeside remaining before files → IsOpeningOf files.keys files.macs moment opening) where
       -- the file of captured messages is taken, and the trust anchors are at fault
       pub anchored : {T V : Type 0} (x : V) (told : Fault) → after.statements ≡ before.statements → NoneOfSeals U before after told
           → CapturedBy {T = V} opening remaining before after (Ok x)
@@ -199,18 +205,21 @@ module _ {R U : Type 0} {remaining : R → Option (List ℕ)} {before after : In
           → ((octets : Option (List ℕ)) → IsToldBy remaining before.anchors octets → OfOctets (IsFaultOfAnchors (octets_or_none octets)) told)
           → TellsFailedReads {T = T} Anchors (given_failures before.anchors) (given_failures after.anchors) (Err told)
           → IsAbout Anchors told
-          → TellsFaults {T = U} (IsFirstFaultOfFiles moment) remaining before after (Err told)
+          → TellsFaultsBeside {T = U} (IsFirstFaultOfFiles moment) remaining before after (Err told)
       anchored x told statements_stay seals tells held faults reads about = record {
         first = λ files are.
             OfOctets-weaker (IsFaultOfAnchors (octets_or_none files.anchors)) (IsFirstFaultOfFiles moment files) told
             (λ fault holds. inr (opening, opens files are, inr (held files.capture are.capture, inl holds))) (faults files.anchors are.anchors);
-        capture = reads_then x (Err told) tells.reads (about_another Capture told about (λ is. cc));
-        anchors = reads_passed told reads;
-        statements = reads_untouched (given_failures before.statements) (given_failures after.statements) (Err told) (ap given_failures statements_stay)
-            (about_another Statements told about (λ is. cc));
-        keys = seals.0 (about_another Keys told about (λ is. cc));
-        macs = seals.1 (about_another Macs told about (λ is. cc));
-        opened = about_opened Anchors told about;
+        reads = record {
+          capture = reads_then x (Err told) tells.reads (about_another Capture told about (λ is. cc));
+          anchors = reads_passed told reads;
+          statements = reads_untouched (given_failures before.statements) (given_failures after.statements) (Err told) (ap given_failures statements_stay)
+              (about_another Statements told about (λ is. cc));
+          keys = seals.0 (about_another Keys told about (λ is. cc));
+          macs = seals.1 (about_another Macs told about (λ is. cc));
+          opened = about_opened Anchors told about;
+        };
+        unread = about_another Questions told about (λ is. cc);
       }
 
       -- those are taken too, and the statements are at fault
@@ -222,18 +231,21 @@ module _ {R U : Type 0} {remaining : R → Option (List ℕ)} {before after : In
           → ((octets : Option (List ℕ)) → IsToldBy remaining before.statements octets → OfOctets (IsFaultOfStatements (octets_or_none octets)) told)
           → TellsFailedReads {T = T} Statements (given_failures before.statements) (given_failures after.statements) (Err told)
           → IsAbout Statements told
-          → TellsFaults {T = U} (IsFirstFaultOfFiles moment) remaining before after (Err told)
+          → TellsFaultsBeside {T = U} (IsFirstFaultOfFiles moment) remaining before after (Err told)
       stated x y told seals tells held trusted anchor_reads faults reads about = record {
         first = λ files are.
             OfOctets-weaker (IsFaultOfStatements (octets_or_none files.statements)) (IsFirstFaultOfFiles moment files) told
             (λ fault holds. inr (opening, opens files are, inr (held files.capture are.capture, inr (trusted files.anchors are.anchors, holds))))
             (faults files.statements are.statements);
-        capture = reads_then x (Err told) tells.reads (about_another Capture told about (λ is. cc));
-        anchors = reads_then y (Err told) anchor_reads (about_another Anchors told about (λ is. cc));
-        statements = reads_passed told reads;
-        keys = seals.0 (about_another Keys told about (λ is. cc));
-        macs = seals.1 (about_another Macs told about (λ is. cc));
-        opened = about_opened Statements told about;
+        reads = record {
+          capture = reads_then x (Err told) tells.reads (about_another Capture told about (λ is. cc));
+          anchors = reads_then y (Err told) anchor_reads (about_another Anchors told about (λ is. cc));
+          statements = reads_passed told reads;
+          keys = seals.0 (about_another Keys told about (λ is. cc));
+          macs = seals.1 (about_another Macs told about (λ is. cc));
+          opened = about_opened Statements told about;
+        };
+        unread = about_another Questions told about (λ is. cc);
       }
 
     -- all are taken
@@ -244,15 +256,18 @@ module _ {R U : Type 0} {remaining : R → Option (List ℕ)} {before after : In
         → TellsFailedReads {T = W} Anchors (given_failures before.anchors) (given_failures after.anchors) (Ok y)
         → TellsFailedReads {T = X} Statements (given_failures before.statements) (given_failures after.statements) (Ok z)
         → IfErr result (λ told. told ≡ fault.OutOfMemory)
-        → TellsFaults {T = U} (IsFirstFaultOfFiles moment) remaining before after result
+        → TellsFaultsBeside {T = U} (IsFirstFaultOfFiles moment) remaining before after result
     all_taken moment s x y z result keys_reads macs_reads tells anchor_reads reads only = record {
       first = λ files are. no_octets (IsFirstFaultOfFiles moment files) result only;
-      capture = reads_then x result tells.reads (not_read result Capture only);
-      anchors = reads_then y result anchor_reads (not_read result Anchors only);
-      statements = reads_then z result reads (not_read result Statements only);
-      keys = reads_then s result keys_reads (not_read result Keys only);
-      macs = reads_then s result macs_reads (not_read result Macs only);
-      opened = not_opened result only;
+      reads = record {
+        capture = reads_then x result tells.reads (not_read result Capture only);
+        anchors = reads_then y result anchor_reads (not_read result Anchors only);
+        statements = reads_then z result reads (not_read result Statements only);
+        keys = reads_then s result keys_reads (not_read result Keys only);
+        macs = reads_then s result macs_reads (not_read result Macs only);
+        opened = not_opened result only;
+      };
+      unread = not_read result Questions only;
     }
 
 if_weaker : {T : Type 0} (P Q : Fault → Type 0) (result : Result T Fault) → ((fault : Fault) → P fault → Q fault)
@@ -266,13 +281,73 @@ pub TellsFaults-weaker : {R T : Type 0} {remaining : R → Option (List ℕ)} {b
     → TellsFaults P remaining before after result → TellsFaults Q remaining before after result
 TellsFaults-weaker P Q result weaker tells = record {
   first = λ files are. if_weaker (P files) (Q files) result (weaker files) (tells.first files are);
-  capture = tells.capture;
-  anchors = tells.anchors;
-  statements = tells.statements;
-  keys = tells.keys;
-  macs = tells.macs;
-  opened = tells.opened;
+  reads = tells.reads;
+  questions = tells.questions;
 }
+
+-- a fault is told alike whatever else the answer may be
+pub beside_passed : {R S T : Type 0} {P : Files → Fault → Type 0} {remaining : R → Option (List ℕ)} {before after : Inputs R} (told : Fault)
+    → TellsFaultsBeside {T = S} P remaining before after (Err told) → TellsFaultsBeside {T = T} P remaining before after (Err told)
+beside_passed told tells = record {
+  first = tells.first;
+  reads = record {
+    capture = reads_passed told tells.reads.capture;
+    anchors = reads_passed told tells.reads.anchors;
+    statements = reads_passed told tells.reads.statements;
+    keys = reads_passed told tells.reads.keys;
+    macs = reads_passed told tells.reads.macs;
+    opened = tells.reads.opened;
+  };
+  unread = tells.unread;
+}
+
+-- where no questions are read, the first fault of the files that they are judged by is that of all
+pub with_questions : {R T : Type 0} {remaining : R → Option (List ℕ)} {before after : Inputs R} (P Q : Files → Fault → Type 0) (result : Result T Fault)
+    → ((files : Files) (fault : Fault) → P files fault → Q files fault) → after.questions ≡ before.questions
+    → TellsFaultsBeside P remaining before after result → TellsFaults Q remaining before after result
+with_questions {before = before} {after = after} P Q result weaker same tells = record {
+  first = λ files are. if_weaker (P files) (Q files) result (weaker files) (tells.first files are.beside);
+  reads = tells.reads;
+  questions = reads_untouched (given_failures before.questions) (given_failures after.questions) result (ap given_failures same) tells.unread;
+}
+
+if_other : {S T : Type 0} {file : InputFile} {m n : ℕ} (x : S) (result : Result T Fault) → TellsFailedReads {T = S} file m n (Ok x)
+    → ((other : InputFile) → IfErr result (IsOther other)) → TellsFailedReads {T = T} file m n result
+if_other {file = file} x result tells none = reads_then x result tells (none file)
+
+-- no read of the files failed, and none is told
+pub reads_after : {R S T : Type 0} {before after : Inputs R} (x : S) (result : Result T Fault) → TellsReads {T = S} before after (Ok x)
+    → ((file : InputFile) → IfErr result (IsOther file)) → IfErr result (λ told. (file : InputFile) → told ≡ fault.OpenFailed file → ⊥)
+    → TellsReads {T = T} before after result
+reads_after x result tells none opened = record {
+  capture = if_other x result tells.capture none;
+  anchors = if_other x result tells.anchors none;
+  statements = if_other x result tells.statements none;
+  keys = if_other x result tells.keys none;
+  macs = if_other x result tells.macs none;
+  opened = opened;
+}
+
+-- readers that weren't called
+pub reads_of_none : {R T : Type 0} {before after : Inputs R} (result : Result T Fault) → after.capture ≡ before.capture → after.anchors ≡ before.anchors
+    → after.statements ≡ before.statements → after.keys ≡ before.keys → after.macs ≡ before.macs
+    → IfErr result (IsAbout Questions) → TellsReads {T = T} before after result
+reads_of_none {before = before} {after = after} result capture anchors statements keys macs about = record {
+  capture = reads_untouched (failures_of before.capture) (failures_of after.capture) result (ap failures_of capture) (about_others Capture result about (λ is. cc));
+  anchors = reads_untouched (given_failures before.anchors) (given_failures after.anchors) result (ap given_failures anchors) (about_others Anchors result about (λ is. cc));
+  statements = reads_untouched (given_failures before.statements) (given_failures after.statements) result (ap given_failures statements) (about_others Statements result about (λ is. cc));
+  keys = reads_untouched (given_failures before.keys) (given_failures after.keys) result (ap given_failures keys) (about_others Keys result about (λ is. cc));
+  macs = reads_untouched (given_failures before.macs) (given_failures after.macs) result (ap given_failures macs) (about_others Macs result about (λ is. cc));
+  opened = none_opened result about;
+}
+  where
+    about_others : {T : Type 0} (file : InputFile) (result : Result T Fault) → IfErr result (IsAbout Questions) → (file ≡ Questions → ⊥) → IfErr result (IsOther file)
+    about_others file (Ok x) about differs = tt
+    about_others file (Err told) about differs = about_another file told about differs
+
+    none_opened : {T : Type 0} (result : Result T Fault) → IfErr result (IsAbout Questions) → IfErr result (λ told. (file : InputFile) → told ≡ fault.OpenFailed file → ⊥)
+    none_opened (Ok x) about = tt
+    none_opened (Err told) about = about_opened Questions told about
 
 -- the messages of a capture that was taken
 pub has_evidence : (opening : Opening) (octets : Option (List ℕ)) (held : Evidence)

@@ -11,7 +11,7 @@ use Rattle.dnsv_canonical.specs.Evidence.{Evidence, no_evidence, with_message}
 use Rattle.dnsv_program.specs.declared.opening.Opening.{Opening}
 use Rattle.dnsv_program.specs.declared.status.Fault.{Fault}
 use Rattle.dnsv_program.specs.declared.status.Fault.TheVariants as fault
-use Rattle.dnsv_program.specs.declared.status.InputFile.TheVariants.{Anchors, Capture, Keys, Macs, Statements}
+use Rattle.dnsv_program.specs.declared.status.InputFile.TheVariants.{Anchors, Capture, Keys, Macs, Questions, Statements}
 use Rattle.dnsv_program.specs.declared.status.Place.{Place}
 use Rattle.dnsv_program.specs.declared.status.Refusal.{Refusal}
 use Rattle.dnsv_program.specs.Files.Capture.{AreFramesRefused, Demand, AnyMessage, NewEvidence, Meets, Fails, AllTaken, Holds, FrameRefused, FirstRefused, IsFaultOfCapture, IsNowhere, IsRefusal}
@@ -168,6 +168,7 @@ module _ (laws : LayerLaws) where
       no_capture_fault messages (fault.TooLong Anchors) x long = long
       no_capture_fault messages (fault.TooLong Keys) x long = long
       no_capture_fault messages (fault.TooLong Macs) x long = long
+      no_capture_fault messages (fault.TooLong Questions) x long = long
       no_capture_fault messages fault.OutOfMemory x fault = fault
       no_capture_fault messages (fault.ReadFailed other) x fault = fault
       no_capture_fault messages (fault.OpenFailed other) x fault = fault
@@ -191,10 +192,12 @@ module _ (laws : LayerLaws) where
       one_capture_fault (fault.TooLong Anchors) b x y = absurd x
       one_capture_fault (fault.TooLong Keys) b x y = absurd x
       one_capture_fault (fault.TooLong Macs) b x y = absurd x
+      one_capture_fault (fault.TooLong Questions) b x y = absurd x
       one_capture_fault a (fault.TooLong Statements) x y = absurd y
       one_capture_fault a (fault.TooLong Anchors) x y = absurd y
       one_capture_fault a (fault.TooLong Keys) x y = absurd y
       one_capture_fault a (fault.TooLong Macs) x y = absurd y
+      one_capture_fault a (fault.TooLong Questions) x y = absurd y
       one_capture_fault fault.OutOfMemory b x y = absurd x
       one_capture_fault (fault.ReadFailed other) b x y = absurd x
       one_capture_fault (fault.OpenFailed other) b x y = absurd x

@@ -12,6 +12,7 @@ use Rattle.dnsv_verdict.specs.Way.{IsRefusedFor, IsVerdictOf}
 use Rattle.dnsv_chain.specs.declared.anchor.Anchor.{Anchor}
 use Rattle.dnsv_program.specs.declared.opening.Opening.{Opening}
 use Rattle.dnsv_program.specs.declared.opening.Opening.TheVariants.{Plain, Signed}
+use Rattle.dnsv_program.specs.declared.command_line.request.Asking.TheVariants as asking
 use Rattle.dnsv_program.specs.declared.command_line.request.Request.{Request}
 use Rattle.dnsv_program.specs.declared.command_line.request.Request.TheVariants as request
 use Rattle.dnsv_program.specs.declared.status.Fault.{Fault}
@@ -36,6 +37,7 @@ use Rattle.dnsv_program.proofs.OpeningLemmas.Keys.{no_keys_fault, one_keys_fault
 use Rattle.dnsv_program.proofs.OpeningLemmas.Macs.{no_fault_of_macs, one_macs_fault}
 use Rattle.dnsv_program.proofs.LawLemmas.OneCapture.{no_capture_fault, one_capture_fault, same_nowhere}
 use Rattle.dnsv_program.proofs.LawLemmas.OneText.{one_basis, one_opening, one_question}
+use Rattle.dnsv_program.proofs.FileLemmas.Questions.{no_questions_fault, one_questions_fault}
 use Rattle.dnsv_program.proofs.FileLemmas.Statements.{no_statements_fault, one_statements_fault}
 
 module _ (laws : LayerLaws) where
@@ -182,8 +184,8 @@ module _ (laws : LayerLaws) where
         → (told : Fault) → IsStopped name rtype moment files told → ⊥
     verdict_stands format why name rtype moment end text x told y =
         let bases = one_basis laws rtype moment files are x.given y.given in
-        laws.verdicts.verdict_apart (basis_in y.given) name rtype x.report.links x.report.last x.report.verdict y.error
-        (subst (λ (each : Basis). IsVerdictOf each name rtype x.report.links x.report.last x.report.verdict) bases x.is_verdict) y.refused
+        laws.verdicts.verdict_apart (basis_in y.given) name rtype x.judged.report.links x.judged.report.last x.judged.report.verdict y.error
+        (subst (λ (each : Basis). IsVerdictOf each name rtype x.judged.report.links x.judged.report.last x.judged.report.verdict) bases x.judged.is_verdict) y.refused
 
     answer_stands : (format : Format) (why : Bool) (asked : List ℕ) (rtype moment : ℕ) (end : Status) (text : List ℕ) (told : Fault)
         → IsAnswered format why asked rtype moment files end text → IsFirstFaultOfCheck asked rtype moment files told → ⊥
@@ -201,13 +203,25 @@ module _ (laws : LayerLaws) where
   text_stands (request.Show capture) files are end text told x bad = no_capture_fault laws AnyMessage Plain files.capture are x.1.0 told x.1.1 bad
   text_stands (request.List capture moment statements true format) files are end text told x bad = no_capture_fault laws NewEvidence Plain files.capture are x.1.0 told x.1.1 bad
   text_stands (request.List capture moment statements false format) files are end text told x bad = todo_stands files are format moment text told x.1 bad
-  text_stands (request.Check capture anchors moment asked rtype statements keys macs format why) files are end text told x bad =
+  text_stands (request.Check capture anchors moment (asking.One asked rtype) statements keys macs format why) files are end text told x bad =
       answer_stands files are format why (string_bytes asked) rtype.0 moment end text told x bad
+  text_stands (request.Check capture anchors moment (asking.Each questions) statements keys macs format why) files are end text told x (inl bad) =
+      no_questions_fault (octets_or_none files.questions) x.asked told x.has bad
+  text_stands (request.Check capture anchors moment (asking.Each questions) statements keys macs format why) files are end text told x (inr bad) =
+      order_stands files are moment x.given told bad.1
 
   -- files have one first fault
   pub one_first_fault : (asked : Request) (files : Files) → AreOctets files.capture → (a b : Fault) → IsFirstFault asked files a → IsFirstFault asked files b → a ≡ b
   one_first_fault (request.Show capture) files are a b x y = one_capture_fault laws AnyMessage Plain files.capture are a b x y
   one_first_fault (request.List capture moment statements true format) files are a b x y = one_capture_fault laws NewEvidence Plain files.capture are a b x y
   one_first_fault (request.List capture moment statements false format) files are a b x y = one_todo_fault files are a b x y
-  one_first_fault (request.Check capture anchors moment asked rtype statements keys macs format why) files are a b x y =
+  one_first_fault (request.Check capture anchors moment (asking.One asked rtype) statements keys macs format why) files are a b x y =
       one_fault_of_check files are (string_bytes asked) rtype.0 moment a b x y
+  one_first_fault (request.Check capture anchors moment (asking.Each questions) statements keys macs format why) files are a b (inl x) (inl y) =
+      one_questions_fault (octets_or_none files.questions) a b x y
+  one_first_fault (request.Check capture anchors moment (asking.Each questions) statements keys macs format why) files are a b (inl x) (inr y) =
+      absurd (no_questions_fault (octets_or_none files.questions) y.0.0 a y.0.1 x)
+  one_first_fault (request.Check capture anchors moment (asking.Each questions) statements keys macs format why) files are a b (inr x) (inl y) =
+      absurd (no_questions_fault (octets_or_none files.questions) x.0.0 b x.0.1 y)
+  one_first_fault (request.Check capture anchors moment (asking.Each questions) statements keys macs format why) files are a b (inr x) (inr y) =
+      one_fault_of_files files are moment a b x.1 y.1

@@ -1,6 +1,6 @@
 -- For its files a request has at most one text.
 use Rattle.std.proofs.Common.{◌≡◌, ℕ, suc, Bool, List, [], ◌∷◌, ◌++◌, Option, Some, None, refl, sym, ap, subst, ◌∙◌}
-use Rattle.std.specs.Prelude.{string_bytes, true, false}
+use Rattle.std.specs.Prelude.{true, false}
 use Rattle.dnsv_names.specs.Name.{Labels}
 use Rattle.dnsv_names.specs.Octets.{AreOctets}
 use Rattle.dnsv_message.specs.Message.{Contents}
@@ -22,22 +22,19 @@ use Rattle.dnsv_explain.specs.Explanation.{IsExplanation, IsExplanationOf}
 use Rattle.dnsv_lines.specs.declared.line.Line.{Line}
 use Rattle.dnsv_program.specs.declared.opening.Opening.{Opening}
 use Rattle.dnsv_program.specs.declared.opening.Opening.TheVariants.{Plain, Signed}
-use Rattle.dnsv_program.specs.declared.command_line.request.Request.{Request}
-use Rattle.dnsv_program.specs.declared.command_line.request.Request.TheVariants as request
 use Rattle.dnsv_program.specs.declared.status.Status.{Status}
 use Rattle.dnsv_texts.specs.declared.format.Format.{Format}
-use Rattle.dnsv_program.specs.Files.Capture.{AnyMessage, NewEvidence, Holds}
+use Rattle.dnsv_program.specs.Files.Capture.{NewEvidence, Holds}
 use Rattle.dnsv_texts.specs.Checking.{check_text}
-use Rattle.dnsv_program.specs.Work.Checking.{AreInOrder, IsCheck, IsWhy, basis_in, verdict_status}
+use Rattle.dnsv_program.specs.Work.Checking.{AreInOrder, IsCheck, IsJudged, IsWhy, basis_in, verdict_status}
 use Rattle.dnsv_program.specs.Opening.Given.{IsOpeningOf}
 use Rattle.dnsv_program.specs.Files.{Files, octets_or_none}
 use Rattle.dnsv_program.specs.Opening.Keys.{MayHaveKeys}
 use Rattle.dnsv_program.specs.Layers.{LayerLaws}
-use Rattle.dnsv_texts.specs.Listing.{ListsRrsets, ListsSignatures, SignedOctets, listing_text}
+use Rattle.dnsv_texts.specs.Listing.{ListsRrsets, ListsSignatures, SignedOctets}
 use Rattle.dnsv_program.specs.CommandLine.Question.{Spells}
 use Rattle.dnsv_program.specs.Status.{status_code}
-use Rattle.dnsv_program.specs.Run.{IsAnswered, IsTextAskedFor}
-use Rattle.dnsv_texts.specs.Showing.{message_text, texts_from}
+use Rattle.dnsv_program.specs.Run.{IsAnswered}
 use Rattle.dnsv_texts.specs.Todo.{todo_text}
 use Rattle.dnsv_program.specs.Work.Listing.{IsTodo}
 use Rattle.dnsv_program.proofs.OpeningLemmas.Keys.{same_keys}
@@ -58,7 +55,7 @@ module _ (laws : LayerLaws) where
       ∙ ap (λ (rest : List SignedOctets). record { rrset = number; signature = signature; octets = y.1 } ∷ rest) (one_front number rrset (suc signature) others x.2 y.2 x.5 y.5)
       ∙ sym y.6
 
-  one_list : (number : ℕ) (rrsets : List ReceivedRrset) (a b : List SignedOctets) → ListsRrsets number rrsets a → ListsRrsets number rrsets b → a ≡ b
+  pub one_list : (number : ℕ) (rrsets : List ReceivedRrset) (a b : List SignedOctets) → ListsRrsets number rrsets a → ListsRrsets number rrsets b → a ≡ b
   one_list number [] a b x y = x ∙ sym y
   one_list number (rrset ∷ rrsets) a b x y =
       x.4 ∙ ap (λ front. front ++ x.1) (one_front number rrset 1 rrset.signatures x.0 y.0 x.2 y.2)
@@ -67,7 +64,7 @@ module _ (laws : LayerLaws) where
 
   -- ---- list
 
-  one_todo : (format : Format) (moment : ℕ) (files : Files) → AreOctets files.capture → (a b : List ℕ) → IsTodo format moment files a → IsTodo format moment files b → a ≡ b
+  pub one_todo : (format : Format) (moment : ℕ) (files : Files) → AreOctets files.capture → (a b : List ℕ) → IsTodo format moment files a → IsTodo format moment files b → a ≡ b
   one_todo format moment files are a b x y =
       let messages = one_holding laws NewEvidence Plain files.capture are x.messages y.messages x.holds y.holds in
       let meanings = one_meaning (octets_or_none files.statements) x.meaning y.meaning x.said y.said in
@@ -140,37 +137,26 @@ module _ (laws : LayerLaws) where
     why_of true basis report other links last verdict None is = absurd is
     why_of true basis report other links last verdict (Some lines) is = explains basis report other links last verdict lines is
 
+    -- what is told of a question by what it is judged by
+    pub one_judged : (basis : Basis) (format : Format) (why : Bool) (name : Labels) (s t : Status) (a b : List ℕ) → IsJudged format why basis name rtype s a
+        → IsJudged format why basis name rtype t b → (s ≡ t) × (a ≡ b)
+    one_judged basis format why name s t a b x y =
+        let ways = laws.verdicts.one_way basis name rtype x.report.links y.report.links x.report.last y.report.last x.report.verdict y.report.verdict x.is_verdict y.is_verdict in
+        let tolds : x.told ≡ y.told = one_why why basis name y.report x.told y.told y.is_verdict
+        (why_of why basis x.report y.report ways.0 ways.1 ways.2 x.told x.is_told) y.is_told in
+        let ends : s ≡ t = x.ends ∙ ap verdict_status ways.2 ∙ sym y.ends in (
+          ends,
+          x.lines ∙ (λ i. check_text format name rtype basis.moment (status_code (ends i)) basis.rrsets (ways.0 i) (ways.2 i) (tolds i)) ∙ sym y.lines,
+        )
+
     one_check : (format : Format) (why : Bool) (name : Labels) (s t : Status) (a b : List ℕ) → IsCheck format why name rtype moment files s a → IsCheck format why name rtype moment files t b
         → (s ≡ t) × (a ≡ b)
     one_check format why name s t a b x y =
-        let bases : basis_in x.given ≡ basis_in y.given = one_basis x.given y.given in
-        let ways = laws.verdicts.one_way (basis_in y.given) name rtype x.report.links y.report.links x.report.last y.report.last x.report.verdict y.report.verdict
-        (subst (λ (each : Basis). IsVerdictOf each name rtype x.report.links x.report.last x.report.verdict) bases x.is_verdict) y.is_verdict in
-        let tolds : x.told ≡ y.told = one_why why (basis_in y.given) name y.report x.told y.told y.is_verdict
-        (why_of why (basis_in y.given) x.report y.report ways.0 ways.1 ways.2 x.told (subst (λ (each : Basis). IsWhy why each rtype x.report x.told) bases x.is_told)) y.is_told in
-        let ends : s ≡ t = x.ends ∙ ap verdict_status ways.2 ∙ sym y.ends in (
-          ends,
-          x.lines ∙ (λ i. check_text format name rtype moment (status_code (ends i)) (bases i).rrsets (ways.0 i) (ways.2 i) (tolds i)) ∙ sym y.lines,
-        )
+        one_judged (basis_in y.given) format why name s t a b
+        (subst (λ (each : Basis). IsJudged format why each name rtype s a) (one_basis x.given y.given) x.judged) y.judged
 
-    one_answer : (format : Format) (why : Bool) (asked : List ℕ) (s t : Status) (a b : List ℕ) → IsAnswered format why asked rtype moment files s a → IsAnswered format why asked rtype moment files t b
+    pub one_answer : (format : Format) (why : Bool) (asked : List ℕ) (s t : Status) (a b : List ℕ) → IsAnswered format why asked rtype moment files s a → IsAnswered format why asked rtype moment files t b
         → (s ≡ t) × (a ≡ b)
     one_answer format why asked s t a b x y =
         one_check format why y.0 s t a b
         (subst (λ (name : Labels). IsCheck format why name rtype moment files s a) (one_question asked x.0 y.0 x.1 y.1) x.3) y.3
-
-  -- ---- all requests
-
-  -- a request has one text and end for its files
-  pub one_text : (asked : Request) (files : Files) → AreOctets files.capture → (s t : Status) (a b : List ℕ)
-      → IsTextAskedFor asked files s a → IsTextAskedFor asked files t b → (s ≡ t) × (a ≡ b)
-  one_text (request.Show capture) files are s t a b x y =
-      (x.0 ∙ sym y.0, x.1.2 ∙ ap (texts_from message_text 1) (one_holding laws AnyMessage Plain files.capture are x.1.0 y.1.0 x.1.1 y.1.1) ∙ sym y.1.2)
-  one_text (request.List capture moment statements true format) files are s t a b x y = (
-    x.0 ∙ sym y.0,
-    x.1.4 ∙ ap (listing_text format moment) (one_list 1 (evidence_of x.1.0).rrsets x.1.2 y.1.2 x.1.3
-        (subst (λ messages. ListsRrsets 1 (evidence_of messages).rrsets y.1.2) (one_holding laws NewEvidence Plain files.capture are y.1.0 x.1.0 y.1.1 x.1.1) y.1.3)) ∙ sym y.1.4,
-  )
-  one_text (request.List capture moment statements false format) files are s t a b x y = (x.0 ∙ sym y.0, one_todo format moment files are a b x.1 y.1)
-  one_text (request.Check capture anchors moment asked rtype statements keys macs format why) files are s t a b x y =
-      one_answer rtype.0 moment files are format why (string_bytes asked) s t a b x y

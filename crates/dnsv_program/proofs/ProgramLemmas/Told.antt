@@ -10,6 +10,7 @@ use Rattle.dnsv_program.specs.declared.status.Fault.{Fault}
 use Rattle.dnsv_program.specs.declared.status.Fault.TheVariants as fault
 use Rattle.dnsv_program.specs.declared.status.InputFile.{InputFile}
 use Rattle.dnsv_program.specs.declared.status.Status.{Status}
+use Rattle.dnsv_program.specs.declared.status.Status.TheVariants.{Refused}
 use Rattle.dnsv_program.specs.Files.Faults.{OfFailedRead, OfOctets}
 use Rattle.dnsv_program.specs.Files.{Files}
 use Rattle.dnsv_program.specs.CommandLine.{IsAccepted, IsRefused, command_line_code}
@@ -17,7 +18,7 @@ use Rattle.dnsv_program.specs.Program.{AreFilesAt, FailedRequest, FailedWords, H
 use Rattle.dnsv_program.specs.Run.{AsksRefused, IsFirstFault, IsReached}
 use Rattle.dnsv_program.specs.Status.{fault_code, fault_line, outcome_code}
 use Rattle.dnsv_program.specs.Told.{IsOpenFault}
-use Rattle.dnsv_program.proofs.ProgramLemmas.{no_1, no_7, no_end}
+use Rattle.dnsv_program.proofs.ProgramLemmas.{no_1, no_end, refused_alone}
 use Rattle.dnsv_program.proofs.ProgramLemmas.Words.{EndsSo, at_most_2, no_7_of_words}
 
 -- a write of the line gives the whole, or a beginning of it and a call more that failed
@@ -50,18 +51,15 @@ not_opened request (fault.Refused why place) is = absurd is
 
 -- ---- where the words ask for something
 
-no_fault : (status : Status) (code : ℕ) → outcome_code (Ok status) ≡ code → (code ≡ 1) ⊎ (code ≡ 7) → ⊥
-no_fault status code is (inl is_1) = no_1 status (is ∙ is_1)
-no_fault status code is (inr is_7) = no_7 status (is ∙ is_7)
-
-leaves : {W : Type 0} (old new : Counted W) (told : Fault) → ((told ≡ fault.WriteFailed → ⊥) → new ≡ old)
-    → (told ≡ fault.WriteFailed → failures_of old < 2 ^ 64 - 1 → failures_of old < failures_of new) → LeavesOutput old new told
-leaves old new fault.OutOfMemory untouched failed = untouched (λ is. cc)
-leaves old new (fault.ReadFailed file) untouched failed = untouched (λ is. cc)
-leaves old new (fault.TooLong file) untouched failed = untouched (λ is. cc)
-leaves old new (fault.OpenFailed file) untouched failed = untouched (λ is. cc)
-leaves old new fault.WriteFailed untouched failed = failed refl
-leaves old new (fault.Refused why place) untouched failed = untouched (λ is. cc)
+leaves : {W Grew : Type 0} (old new : Counted W) (told : Fault) → ((told ≡ fault.WriteFailed → ⊥) → (told ≡ fault.OutOfMemory → ⊥) → new ≡ old)
+    → (told ≡ fault.WriteFailed → failures_of old < 2 ^ 64 - 1 → failures_of old < failures_of new) → (told ≡ fault.OutOfMemory → (new ≡ old) ⊎ Grew)
+    → LeavesOutput old new Grew told
+leaves old new fault.OutOfMemory untouched failed grew = grew refl
+leaves old new (fault.ReadFailed file) untouched failed grew = untouched (λ is. cc) (λ is. cc)
+leaves old new (fault.TooLong file) untouched failed grew = untouched (λ is. cc) (λ is. cc)
+leaves old new (fault.OpenFailed file) untouched failed grew = untouched (λ is. cc) (λ is. cc)
+leaves old new fault.WriteFailed untouched failed grew = failed refl
+leaves old new (fault.Refused why place) untouched failed grew = untouched (λ is. cc) (λ is. cc)
 
 module _ (octets_at : List ℕ → Option (List ℕ)) (opens_at : List ℕ → Option Bool) (request : Request) where
   -- what the answer says of files, by their octets and by which of them open
@@ -91,20 +89,24 @@ module _ (octets_at : List ℕ → Option (List ℕ)) (opens_at : List ℕ → O
     );
   })
 
-  pub request_told : {W : Type 0} {IsLine : Fault → Type 0} (given : Option (List (List ℕ))) (old new : Counted W) (outcome : Result Status Fault) (code : ℕ)
+  pub request_told : {W : Type 0} {IsLine : Fault → Type 0} {Quiet Grew All : Type 0} (given : Option (List (List ℕ))) (old new : Counted W) (outcome : Result Status Fault) (code : ℕ)
       → outcome_code outcome ≡ code → IfSome given (λ words. IsAccepted words request) → IsFirst outcome → IsBehind outcome
       → IfErr outcome (TellsQuestion request) → TellsUnopened outcome
-      → IfErr outcome (λ told. (told ≡ fault.WriteFailed → ⊥) → new ≡ old)
+      → IfErr outcome (λ told. (told ≡ fault.WriteFailed → ⊥) → (told ≡ fault.OutOfMemory → ⊥) → new ≡ old)
       → (outcome ≡ Err fault.WriteFailed → failures_of old < 2 ^ 64 - 1 → failures_of old < failures_of new)
-      → IfErr outcome IsLine → (code ≡ 1) ⊎ (code ≡ 7)
-      → (told : Fault) × (fault_code told ≡ code) × IsLine told × LeavesOutput old new told
-      × IfSome given (λ words. FailedRequest words octets_at opens_at told ⊎ FailedWords words told)
-  request_told given old new (Ok status) code is accepted first behind question unopened untouched failed line ends = absurd (no_fault status code is ends)
-  request_told given old new (Err told) code is accepted first behind question unopened untouched failed line ends = (
+      → (outcome ≡ Err fault.OutOfMemory → (new ≡ old) ⊎ Grew)
+      → IfErr outcome IsLine → OnOk outcome Quiet → (outcome ≡ Ok Refused → All) → (code ≡ 1) ⊎ (code ≡ 7)
+      → ((told : Fault) × (fault_code told ≡ code) × IsLine told × LeavesOutput old new Grew told
+      × IfSome given (λ words. FailedRequest words octets_at opens_at told ⊎ FailedWords words told))
+      ⊎ ((code ≡ 7) × Quiet × All)
+  request_told given old new (Ok status) code is accepted first behind question unopened untouched failed grew line quiet all (inl is_1) = absurd (no_1 status (is ∙ is_1))
+  request_told given old new (Ok status) code is accepted first behind question unopened untouched failed grew line quiet all (inr is_7) =
+      inr (is_7, quiet, all (ap (λ (each : Status). Ok each) (refused_alone status (is ∙ is_7))))
+  request_told given old new (Err told) code is accepted first behind question unopened untouched failed grew line quiet all ends = inl (
     told,
     is,
     line,
-    leaves old new told untouched (λ same. failed (ap (λ (f : Fault). Err f) same)),
+    leaves old new told untouched (λ same. failed (ap (λ (f : Fault). Err f) same)) (λ same. grew (ap (λ (f : Fault). Err f) same)),
     failed_request given told accepted first behind question unopened,
   )
 
@@ -122,6 +124,16 @@ ends_with_1 : (error : CommandLineError) (told : Fault) → IsWordsFault error t
 ends_with_1 error told (inl is) = ap fault_code is
 ends_with_1 error told (inr (is, asked)) = ap fault_code is
 
+-- an output that was left alone may have grown as well
+left_so : {W : Type 0} (Grew : Type 0) (old new : Counted W) (told : Fault) → LeavesOutput old new (⊥) told → LeavesOutput old new Grew told
+left_so Grew old new fault.OutOfMemory (inl same) = inl same
+left_so Grew old new fault.OutOfMemory (inr never) = absurd never
+left_so Grew old new (fault.ReadFailed file) same = same
+left_so Grew old new (fault.TooLong file) same = same
+left_so Grew old new (fault.OpenFailed file) same = same
+left_so Grew old new fault.WriteFailed failed = failed
+left_so Grew old new (fault.Refused why place) same = same
+
 module _ (error : CommandLineError) (code : ℕ) (ends : EndsSo error code) where
   failed_words : (words : List (List ℕ)) (told : Fault) → IsRefused words error → code ≡ 1 → EndsSo error code → IsWordsFault error told → FailedWords words told
   failed_words words told refused is_1 (inl is) (inl memory) = inl (memory, inr (record { error = error; refused = refused; code_told = sym is ∙ is_1 }))
@@ -134,16 +146,17 @@ module _ (error : CommandLineError) (code : ℕ) (ends : EndsSo error code) wher
   said_of_words octets_at opens_at None told refused is_1 why = tt
   said_of_words octets_at opens_at (Some words) told refused is_1 why = inr (failed_words words told refused is_1 ends why)
 
-  pub words_told : {W : Type 0} {IsLine : Fault → Type 0} (octets_at : List ℕ → Option (List ℕ)) (opens_at : List ℕ → Option Bool) (given : Option (List (List ℕ)))
+  pub words_told : {W : Type 0} {IsLine : Fault → Type 0} {Grew Else : Type 0} (octets_at : List ℕ → Option (List ℕ)) (opens_at : List ℕ → Option Bool) (given : Option (List (List ℕ)))
       (old new : Counted W) → IfSome given (λ words. IsRefused words error)
-      → (code ≡ 1 → (told : Fault) × IsLine told × LeavesOutput old new told × IsWordsFault error told)
+      → (code ≡ 1 → (told : Fault) × IsLine told × LeavesOutput old new (⊥) told × IsWordsFault error told)
       → (code ≡ 1) ⊎ (code ≡ 7)
-      → (told : Fault) × (fault_code told ≡ code) × IsLine told × LeavesOutput old new told
-      × IfSome given (λ words. FailedRequest words octets_at opens_at told ⊎ FailedWords words told)
+      → ((told : Fault) × (fault_code told ≡ code) × IsLine told × LeavesOutput old new Grew told
+      × IfSome given (λ words. FailedRequest words octets_at opens_at told ⊎ FailedWords words told))
+      ⊎ Else
   words_told octets_at opens_at given old new refused tells (inr is_7) = absurd (no_7_of_words error code ends is_7)
   words_told octets_at opens_at given old new refused tells (inl is_1) =
       let (told, line, left, why) = tells is_1 in
-      (told, ends_with_1 error told why ∙ sym is_1, line, left, said_of_words octets_at opens_at given told refused is_1 why)
+      inl (told, ends_with_1 error told why ∙ sym is_1, line, left_so _ old new told left, said_of_words octets_at opens_at given told refused is_1 why)
 
   quiet_so : {Same : Type 0} → EndsSo error code → (code ≡ 0 → Same) → IsEnd code → Same
   quiet_so so same (inl is_0) = same is_0
@@ -164,7 +177,7 @@ pub help_told : {W : Type 0} {IsLine : Fault → Type 0} (error : CommandLineErr
     → IfErr outcome (λ told. ((told ≡ fault.OutOfMemory) × (new ≡ old))
     ⊎ ((told ≡ fault.WriteFailed) × (failures_of old < 2 ^ 64 - 1 → failures_of old < failures_of new)))
     → IfErr outcome IsLine → code ≡ 1
-    → (told : Fault) × IsLine told × LeavesOutput old new told × IsWordsFault error told
+    → (told : Fault) × IsLine told × LeavesOutput old new (⊥) told × IsWordsFault error told
 help_told error old new (Ok status) code is asked failed line is_1 = absurd (no_1 status (is ∙ is_1))
-help_told error old new (Err told) code is asked (inl (memory, same)) line is_1 = (told, line, leaves old new told (λ _. same) (λ wrong. absurd (apart told memory wrong)), inl memory)
-help_told error old new (Err told) code is asked (inr (written, failed)) line is_1 = (told, line, leaves old new told (λ wrong. absurd (wrong written)) (λ _. failed), inr (written, asked))
+help_told error old new (Err told) code is asked (inl (memory, same)) line is_1 = (told, line, leaves old new told (λ _ _. same) (λ wrong. absurd (apart told memory wrong)) (λ _. inl same), inl memory)
+help_told error old new (Err told) code is asked (inr (written, failed)) line is_1 = (told, line, leaves old new told (λ wrong _. absurd (wrong written)) (λ _. failed) (λ memory. absurd (apart told memory written)), inr (written, asked))

@@ -4,7 +4,7 @@ use Rattle.std.specs.Prelude.{IfSome}
 use Rattle.dnsv_program.specs.declared.command_line.CommandLineError.{CommandLineError}
 use Rattle.dnsv_program.specs.declared.command_line.CommandLineError.TheVariants as line
 use Rattle.dnsv_program.specs.CommandLine.{IsRefused, command_line_code}
-use Rattle.dnsv_program.specs.Program.{BeganText, IsEnd, RefusedFiles, RefusedWords, WroteText}
+use Rattle.dnsv_program.specs.Program.{BeganText, IsEnd, RefusedWords, WroteText}
 
 -- the exit status of the error, or 1 where help that was asked for wasn't written
 abbrev pub EndsSo : CommandLineError → ℕ → Type 0
@@ -28,12 +28,14 @@ end_of_words line.OutOfMemory code is ends = absurd (no_end_of_1 code is ends)
 end_of_words line.NotText code is ends = absurd (no_end_of_2 code is ends)
 end_of_words (line.Help refusal) code is ends = is
 end_of_words (line.Misused refusal) code is ends = absurd (no_end_of_2 code is ends)
+end_of_words line.Unclear code is ends = absurd (no_end_of_2 code is ends)
 
 pub at_most_2 : (error : CommandLineError) → command_line_code error ≤ 2
 at_most_2 line.OutOfMemory = omega arith
 at_most_2 line.NotText = omega arith
 at_most_2 (line.Help refusal) = omega arith
 at_most_2 (line.Misused refusal) = omega arith
+at_most_2 line.Unclear = omega arith
 
 pub at_most_7 : (error : CommandLineError) (code : ℕ) → EndsSo error code → code ≤ 7
 at_most_7 error code (inl is) = omega (arith, is, at_most_2 error)
@@ -43,12 +45,10 @@ pub no_7_of_words : (error : CommandLineError) (code : ℕ) → EndsSo error cod
 no_7_of_words error code (inl is) is_7 = omega (arith, is, is_7, at_most_2 error)
 no_7_of_words error code (inr (asked, is_1)) is_7 = omega (arith, is_1, is_7)
 
-pub words_untouched : {Same Failed : Type 0} (error : CommandLineError) (code : ℕ) → Leaves error code Same Failed → (code ≡ 2) ⊎ (code ≡ 7) → Same
-words_untouched error code (inl is_0) (inl is_2) = absurd (omega (arith, is_0, is_2))
-words_untouched error code (inl is_0) (inr is_7) = absurd (omega (arith, is_0, is_7))
-words_untouched error code (inr (inl same)) ends = same
-words_untouched error code (inr (inr (asked, is_1, failed))) (inl is_2) = absurd (omega (arith, is_1, is_2))
-words_untouched error code (inr (inr (asked, is_1, failed))) (inr is_7) = absurd (omega (arith, is_1, is_7))
+pub words_untouched : {Same Failed : Type 0} (error : CommandLineError) (code : ℕ) → Leaves error code Same Failed → code ≡ 2 → Same
+words_untouched error code (inl is_0) is_2 = absurd (omega (arith, is_0, is_2))
+words_untouched error code (inr (inl same)) is_2 = same
+words_untouched error code (inr (inr (asked, is_1, failed))) is_2 = absurd (omega (arith, is_1, is_2))
 
 module _ (given : Option (List (List ℕ))) (error : CommandLineError) (code : ℕ) where
   of_words : (octets_at : List ℕ → Option (List ℕ)) (old new : Option (List ℕ)) (Helped : Type 0) (told : Option (List (List ℕ))) → IfSome told (λ words. IsRefused words error)
@@ -74,15 +74,15 @@ module _ (given : Option (List (List ℕ))) (error : CommandLineError) (code : �
   helped octets_at old new None refused asked = tt
   helped octets_at old new (Some words) refused asked = inr (record { error = error; refused = refused; code_told = asked })
 
-  pub words_failed : {Same Failed : Type 0} (octets_at : List ℕ → Option (List ℕ)) (old new : Option (List ℕ)) → IfSome given (λ words. IsRefused words error)
+  pub words_failed : {Same Failed First : Type 0} (octets_at : List ℕ → Option (List ℕ)) (old new : Option (List ℕ)) → IfSome given (λ words. IsRefused words error)
       → Leaves error code Same Failed → code ≡ 1
-      → Same ⊎ (Failed × IfSome given (λ words. BeganText words octets_at old new ⊎ RefusedWords words 0))
+      → Same ⊎ ((Failed × IfSome given (λ words. BeganText words octets_at old new ⊎ RefusedWords words 0)) ⊎ First)
   words_failed octets_at old new refused (inl is_0) is_1 = absurd (omega (arith, is_0, is_1))
   words_failed octets_at old new refused (inr (inl same)) is_1 = inl same
-  words_failed octets_at old new refused (inr (inr (asked, is, failed))) is_1 = inr (failed, helped octets_at old new given refused asked)
+  words_failed octets_at old new refused (inr (inr (asked, is, failed))) is_1 = inr (inl (failed, helped octets_at old new given refused asked))
 
-  pub words_refused : (octets_at : List ℕ → Option (List ℕ)) → EndsSo error code → code ≡ 7 → IfSome given (λ words. RefusedFiles words octets_at)
-  words_refused octets_at ends is_7 = absurd (no_7_of_words error code ends is_7)
+  pub words_refused : {Any : Type 0} → EndsSo error code → code ≡ 7 → Any
+  words_refused ends is_7 = absurd (no_7_of_words error code ends is_7)
 
 -- a beginning of the text is one of the two
 pub began_so : (given : Option (List (List ℕ))) (octets_at : List ℕ → Option (List ℕ)) (old new : Option (List ℕ)) → IfSome given (λ words. BeganText words octets_at old new)

@@ -31,21 +31,26 @@ anchors_rule = record (new_rule (codes "anchors")) {
   required = true;
 }
 
--- `--name NAME`, which has to be there
+-- `--name NAME`
 abbrev pub name_rule : Rule
 name_rule = record (new_rule (codes "name")) {
   long = Some (codes "name");
   value_names = 1;
-  required = true;
 }
 
--- `--type N`, which has to be there, with a decimal number up to 65535
+-- `--type N`, with a decimal number up to 65535
 abbrev pub type_rule : Rule
 type_rule = record (new_rule (codes "type")) {
   long = Some (codes "type");
   value_names = 1;
   parser = Some (parser.Unsigned 0 65535);
-  required = true;
+}
+
+-- `--questions FILE`
+abbrev pub questions_rule : Rule
+questions_rule = record (new_rule (codes "questions")) {
+  long = Some (codes "questions");
+  value_names = 1;
 }
 
 -- `--statements FILE`
@@ -92,12 +97,12 @@ abbrev pub list_app : App
 list_app = with_rule (with_rule (with_rule (with_rule (with_rule (new_app (codes "list")) capture_rule) moment_rule)
     statements_rule) all_rule) json_rule
 
--- this word, and `--capture FILE --anchors FILE --moment N --name NAME --type N [--statements FILE] [--keys FILE]
--- [--macs FILE] [--json]`
+-- this word, and `--capture FILE --anchors FILE --moment N [--name NAME] [--type N] [--questions FILE]
+-- [--statements FILE] [--keys FILE] [--macs FILE] [--json]`
 abbrev pub asking_app : List ℕ → App
 asking_app word = with_rule (with_rule (with_rule (with_rule (with_rule (with_rule (with_rule (with_rule (with_rule
-    (new_app word) capture_rule) anchors_rule) moment_rule) name_rule) type_rule) statements_rule)
-    keys_rule) macs_rule) json_rule
+    (with_rule (new_app word) capture_rule) anchors_rule) moment_rule) name_rule) type_rule) questions_rule)
+    statements_rule) keys_rule) macs_rule) json_rule
 
 abbrev pub question_app : Bool → App
 question_app why = asking_app (question_word why)

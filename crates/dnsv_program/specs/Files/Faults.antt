@@ -6,10 +6,10 @@ use Rattle.dnsv_program.specs.declared.work.Inputs.{Inputs}
 use Rattle.dnsv_program.specs.declared.status.Fault.{Fault}
 use Rattle.dnsv_program.specs.declared.status.Fault.TheVariants as fault
 use Rattle.dnsv_program.specs.declared.status.InputFile.{InputFile}
-use Rattle.dnsv_program.specs.declared.status.InputFile.TheVariants.{Anchors, Capture, Keys, Macs, Statements}
+use Rattle.dnsv_program.specs.declared.status.InputFile.TheVariants.{Anchors, Capture, Keys, Macs, Questions, Statements}
 use Rattle.dnsv_program.specs.declared.status.Place.{Place}
 use Rattle.dnsv_program.specs.declared.status.Refusal.{Refusal}
-use Rattle.dnsv_program.specs.Files.{Files, AreTold, given_failures}
+use Rattle.dnsv_program.specs.Files.{Files, AreTold, AreToldBeside, given_failures}
 
 -- where the octets of a file are at fault, this is so
 abbrev pub OfOctets : (Fault → Type 0) → Fault → Type 0
@@ -51,11 +51,8 @@ IsTextFault file IsRefused octets (fault.Refused why place) = (length octets ≤
 IsTextFault file IsRefused octets (fault.TooLong other) = (other ≡ file) × (file_limit < length octets)
 IsTextFault file IsRefused octets _ = ⊥
 
--- The answer tells the first fault of the files, and no other. `remaining` are the octets of a reader, where it
--- tells them.
-pub record TellsFaults {R T : Type 0} (IsFirst : Files → Fault → Type 0) (remaining : R → Option (List ℕ))
-    (before after : Inputs R) (result : Result T Fault) : Type 0 where
-  pub first : (files : Files) → AreTold remaining before files → IfErr result (OfOctets (IsFirst files))
+-- the answer tells no failed read of these files that wasn't, and none that they haven't
+pub record TellsReads {R T : Type 0} (before after : Inputs R) (result : Result T Fault) : Type 0 where
   pub capture : TellsFailedReads Capture (failures_of before.capture) (failures_of after.capture) result
   pub anchors : TellsFailedReads Anchors (given_failures before.anchors) (given_failures after.anchors) result
   pub statements : TellsFailedReads Statements (given_failures before.statements) (given_failures after.statements)
@@ -64,3 +61,18 @@ pub record TellsFaults {R T : Type 0} (IsFirst : Files → Fault → Type 0) (re
   pub macs : TellsFailedReads Macs (given_failures before.macs) (given_failures after.macs) result
   -- a file that is open can't fail to open
   pub opened : IfErr result (λ told. (file : InputFile) → told ≡ fault.OpenFailed file → ⊥)
+
+-- The answer tells the first fault of the files that questions are judged by, and no other. `remaining` are the octets of
+-- a reader, where it tells them.
+pub record TellsFaultsBeside {R T : Type 0} (IsFirst : Files → Fault → Type 0) (remaining : R → Option (List ℕ))
+    (before after : Inputs R) (result : Result T Fault) : Type 0 where
+  pub first : (files : Files) → AreToldBeside remaining before files → IfErr result (OfOctets (IsFirst files))
+  pub reads : TellsReads before after result
+  pub unread : IfErr result (λ told. told ≡ fault.ReadFailed Questions → ⊥)
+
+-- The answer tells the first fault of all files, and no other.
+pub record TellsFaults {R T : Type 0} (IsFirst : Files → Fault → Type 0) (remaining : R → Option (List ℕ))
+    (before after : Inputs R) (result : Result T Fault) : Type 0 where
+  pub first : (files : Files) → AreTold remaining before files → IfErr result (OfOctets (IsFirst files))
+  pub reads : TellsReads before after result
+  pub questions : TellsFailedReads Questions (given_failures before.questions) (given_failures after.questions) result

@@ -3,6 +3,7 @@ use Rattle.std.specs.Prelude.{◌≡◌, ⊤, ℕ, Bool, true, false, List, Opti
 use Rattle.dnsv_names.specs.Name.{Labels}
 use Rattle.dnsv_message.specs.Message.{Contents}
 use Rattle.dnsv_canonical.specs.Evidence.{evidence_of}
+use Rattle.dnsv_canonical.specs.Rrsets.{ReceivedRrset}
 use Rattle.dnsv_verifier.specs.declared.answer.Answer.{Answer}
 use Rattle.dnsv_verifier.specs.declared.entry.Entry.{Entry}
 use Rattle.dnsv_chain.specs.declared.anchor.Anchor.{Anchor}
@@ -69,6 +70,11 @@ pub record AreInOrder (moment : ℕ) (files : Files) : Type 0 where
 abbrev pub basis_in : {moment : ℕ} {files : Files} → AreInOrder moment files → Basis
 basis_in {moment} given = basis_of (evidence_of given.messages).rrsets given.anchors moment given.meaning
 
+-- the files are in order, and questions are judged by this evidence, these anchors and what is known of signatures
+pub record AreGivenBy (moment : ℕ) (files : Files) (rrsets : List ReceivedRrset) (anchors : List Anchor) (meaning : Entry → Answer) : Type 0 where
+  pub given : AreInOrder moment files
+  pub is : basis_of rrsets anchors moment meaning ≡ basis_in given
+
 -- where it is asked why the verdict stands, the lines that explain it are told, and else none
 abbrev pub IsWhy : Bool → Basis → ℕ → Report → Option (List Line) → Type 0
 IsWhy false basis rtype report None = ⊤
@@ -76,16 +82,20 @@ IsWhy false basis rtype report (Some lines) = ⊥
 IsWhy true basis rtype report None = ⊥
 IsWhy true basis rtype report (Some lines) = IsExplanationOf basis rtype report lines
 
--- The files are in order, and the end and the text are those of the verdict that they prove of the question, and of why
--- it stands, where that is asked for.
+-- The end and the text are those of the question's verdict, by what it is judged by, and of why it stands, where that is
+-- asked for.
+pub record IsJudged (format : Format) (why : Bool) (basis : Basis) (name : Labels) (rtype : ℕ) (end : Status) (text : List ℕ) : Type 0 where
+  pub report : Report
+  pub is_verdict : IsVerdictOf basis name rtype report.links report.last report.verdict
+  pub told : Option (List Line)
+  pub is_told : IsWhy why basis rtype report told
+  pub ends : end ≡ verdict_status report.verdict
+  pub lines : text ≡ check_text format name rtype basis.moment (status_code end) basis.rrsets report.links report.verdict told
+
+-- the files are in order, and these are the end and the text of the question by what they say
 pub record IsCheck (format : Format) (why : Bool) (name : Labels) (rtype moment : ℕ) (files : Files) (end : Status) (text : List ℕ) : Type 0 where
   pub given : AreInOrder moment files
-  pub report : Report
-  pub is_verdict : IsVerdictOf (basis_in given) name rtype report.links report.last report.verdict
-  pub told : Option (List Line)
-  pub is_told : IsWhy why (basis_in given) rtype report told
-  pub ends : end ≡ verdict_status report.verdict
-  pub lines : text ≡ check_text format name rtype moment (status_code end) (basis_in given).rrsets report.links report.verdict told
+  pub judged : IsJudged format why (basis_in given) name rtype end text
 
 -- The files are in order, and the question is refused: a way over aliases from its name ends at one that can't be
 -- followed. The refusal has no place.

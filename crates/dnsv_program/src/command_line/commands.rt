@@ -3,7 +3,7 @@ ghost use Rattle.std.specs.Prelude.{◌≡◌, false, true, IfOk};
 ghost use Rattle.clap.specs.Words.{app_of, rule_of};
 ghost use Rattle.clap.specs.declared.Command.TheViews.{out-Command as fields_of};
 ghost use Rattle.dnsv_program.specs.CommandLine.Commands.{all_rule, capture_rule, json_rule, keys_rule, macs_rule, moment_rule, statements_rule};
-ghost use Rattle.dnsv_program.specs.CommandLine.Commands.{anchors_rule, name_rule, type_rule};
+ghost use Rattle.dnsv_program.specs.CommandLine.Commands.{anchors_rule, name_rule, questions_rule, type_rule};
 ghost use Rattle.dnsv_program.specs.CommandLine.Commands.{asking_app, list_app, program_app, question_app, show_app};
 
 use crate::command_line::moment::Moment;
@@ -44,7 +44,8 @@ Next, where the list was written to the file todo:
 const AFTER_CHECK: &str = "\
 Exit status: 0 for SecureAnswer, SecureNoName and SecureNoData, 3 for Insecure,
 4 for Pending, 5 for Bogus, 6 for Indeterminate, 7 where the question or a file is refused,
-2 for words that are no command, 1 where memory, a file or the output failed
+2 for words that are no command, 1 where memory, a file or the output failed;
+of many questions the greatest
 
 Example:
   dnssec_check check --capture www.cap --anchors root.anchors --statements statements \
@@ -147,6 +148,7 @@ fn question<'a>(
         .arg(moment_option(alloc))?
         .arg(name_option(alloc))?
         .arg(type_option(alloc))?
+        .arg(questions_option(alloc))?
         .arg(statements_option(alloc))?
         .arg(keys_option(alloc))?
         .arg(macs_option(alloc))?
@@ -188,7 +190,6 @@ fn name_option<'a>(alloc: Global) -> Arg<'a>
         .long("name")
         .value_name("NAME")
         .help("The name that is asked for, which ends with a dot")
-        .required(true)
 }
 
 /// `--type N`
@@ -201,7 +202,17 @@ fn type_option<'a>(alloc: Global) -> Arg<'a>
         .value_name("N")
         .help("The number of the type that is asked for, from 0 to 65535")
         .value_parser(value_parser!(u64).range(0..=65_535))
-        .required(true)
+}
+
+/// `--questions FILE`
+fn questions_option<'a>(alloc: Global) -> Arg<'a>
+    ensures rule { rule_of result ≡ questions_rule }
+    ensures local { result.global ≡ false }
+{
+    Arg::new(alloc, "questions")
+        .long("questions")
+        .value_name("FILE")
+        .help("In place of --name and --type, many questions: lines `NAME N`")
 }
 
 /// `--moment N`

@@ -1,11 +1,28 @@
 //! What the program is asked to do.
 ghost use Rattle.std.specs.Prelude.{◌≡◌};
 ghost use Rattle.std.specs.Option.{option_map};
-ghost use Rattle.dnsv_program.specs.CommandLine.Paths.{anchors_of, capture_of, keys_of, macs_of, statements_of};
+ghost use Rattle.dnsv_program.specs.CommandLine.Paths.{anchors_of, capture_of, keys_of, macs_of, questions_of, statements_of};
 
 use crate::command_line::moment::Moment;
 use dnsv_names::RecordType;
 use dnsv_texts::Format;
+
+/// What is asked about the evidence.
+#[derive(Debug, Drop)]
+pub enum Asking {
+    /// One question.
+    One {
+        /// The name that is asked for, as text.
+        name: String,
+        /// The type that is asked for.
+        rtype: RecordType,
+    },
+    /// Each question of a file.
+    Each {
+        /// The path of the file of questions.
+        questions: String,
+    },
+}
 
 /// What the program is asked to do.
 #[derive(Debug, Drop)]
@@ -27,17 +44,14 @@ pub enum Request {
         /// How the text is written.
         format: Format,
     },
-    /// Say what the evidence proves of a question, and why that stands.
+    /// Say what the evidence proves of a question, or of each of many, and why that stands.
     Check {
         /// The path of the file of captured messages.
         capture: String,
         /// The path of the file of trust anchors.
         anchors: String,
         moment: Moment,
-        /// The name that is asked for, as text.
-        name: String,
-        /// The type that is asked for.
-        rtype: RecordType,
+        asking: Asking,
         /// The path of the file of statements.
         statements: Option<String>,
         /// The path of the file of keys, by which the messages were signed.
@@ -114,6 +128,19 @@ impl Request {
                 macs: Some(path),
                 ..
             } => Some(path.as_str()),
+            _ => None,
+        }
+    }
+
+    /// The path of the file of questions, where one is read.
+    pub fn questions(&self) -> Option<&str>
+        ensures { option_map (λ path. path.now) result ≡ questions_of self.now }
+    {
+        match self {
+            Request::Check {
+                asking: Asking::Each { questions },
+                ..
+            } => Some(questions.as_str()),
             _ => None,
         }
     }

@@ -6,19 +6,16 @@ ghost use Rattle.dnsv_program.specs.Files.{AreTold, Files};
 ghost use Rattle.dnsv_program.specs.Run.{IsAnswered, IsFaultOfQuestion, IsFirstFaultOfCheck, IsFirstFaultOfName};
 ghost use Rattle.dnsv_program.specs.Run.{IsReachedByCheck, IsReachedOfFiles};
 ghost use Rattle.dnsv_program.specs.Work.Checking.{IsCheck};
+ghost use Rattle.dnsv_program.specs.declared.status.Status.TheVariants.{Refused};
 
 use crate::command_line::moment::Moment;
 use crate::command_line::question::question_name;
-use crate::files::anchors::anchors_in;
-use crate::files::capture::evidence_in;
-use crate::files::text::text_in;
-use crate::opening::opening_in;
-use crate::status::{Fault, InputFile};
+use crate::status::Fault;
+use crate::work::given::given_in;
 use crate::work::judging::{Asked, Telling, judge};
 use crate::work::{Inputs, Outcome};
 use bumpalo::Bump;
 use dnsv_names::RecordType;
-use dnsv_verifier::Statements;
 use std::alloc::Global;
 use std::io::Read;
 
@@ -41,6 +38,7 @@ pub fn check<R: Read>(
     ensures reached { (files : Files) → AreTold R.remaining inputs.old files
         → IfErr result (OfFailedRead (IsReachedByCheck asked.now rtype.0 moment files)) }
     ensures unwritten { IfErr result (λ fault. fault ≡ Fault.WriteFailed → ⊥) }
+    ensures unrefused { IfOk result (λ outcome. outcome.status ≡ Refused → ⊥) }
 {
     let name = question_name(asked, rtype)?;
     let asked = Asked {
@@ -68,10 +66,16 @@ fn check_question<R: Read>(
     ensures reached { (files : Files) → AreTold R.remaining inputs.old files
         → IfErr result (OfFailedRead (IsReachedOfFiles asked.now.moment files)) }
     ensures unwritten { IfErr result (λ fault. fault ≡ Fault.WriteFailed → ⊥) }
+    ensures unrefused { IfOk result (λ outcome. outcome.status ≡ Refused → ⊥) }
 {
-    let opening = opening_in(alloc, asked.moment, &mut inputs.keys, &mut inputs.macs)?;
-    let held = evidence_in(alloc, &opening, &mut inputs.capture, bump)?;
-    let anchors = anchors_in(alloc, bump, &mut inputs.anchors)?;
-    let statements: Statements = text_in(alloc, InputFile::Statements, &mut inputs.statements)?;
-    judge(alloc, bump, telling, asked, &held, &anchors, &statements)
+    let given = given_in(alloc, asked.moment, inputs, bump)?;
+    judge(
+        alloc,
+        bump,
+        telling,
+        asked,
+        &given.held,
+        &given.anchors,
+        &given.statements,
+    )
 }

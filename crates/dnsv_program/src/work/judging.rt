@@ -1,4 +1,4 @@
-//! How a question is judged, and what the program says of it.
+//! How questions are judged, and what the program says of one.
 ghost use Rattle.std.specs.Prelude.{◌≡◌, ◌⊎◌, IfErr, IfOk, List, Option, string_bytes};
 ghost use Rattle.std.specs.Option.{option_map};
 ghost use Rattle.dnsv_canonical.specs.Rrsets.{IsQuestion};
@@ -6,13 +6,15 @@ ghost use Rattle.dnsv_verdict.specs.Way.{IsRefusal, IsRefusedFor, IsVerdictOf};
 ghost use Rattle.dnsv_verdict.specs.declared.error.VerdictError.{VerdictError};
 ghost use Rattle.dnsv_verdict.specs.declared.error.VerdictError.TheVariants.{OutOfMemory};
 ghost use Rattle.dnsv_verdict.specs.declared.report.Report.{Report};
-ghost use Rattle.dnsv_verdict.specs.Verdict.{basis_of};
+ghost use Rattle.dnsv_verdict.specs.Verdict.{Basis, basis_of};
 ghost use Rattle.dnsv_verdict.specs.VerdictError.{verdict_error_code};
 ghost use Rattle.dnsv_lines.specs.declared.line.Line.{Line};
 ghost use Rattle.dnsv_program.specs.Status.{fault_number, status_code};
 ghost use Rattle.dnsv_texts.specs.Checking as texts;
 ghost use Rattle.dnsv_program.specs.Work.Checking as specs;
-ghost use Rattle.dnsv_program.specs.Work.Checking.{IsWhy};
+ghost use Rattle.dnsv_program.specs.Work.Checking.{IsJudged, IsWhy};
+ghost use Rattle.dnsv_program.specs.Work.Judging.{case_of, tells_why};
+ghost use Rattle.dnsv_verdict.specs.Case.{IsCaseOf};
 
 use crate::command_line::moment::Moment;
 use crate::status::{Fault, Place, Refusal, Status};
@@ -20,11 +22,11 @@ use crate::work::Outcome;
 use bumpalo::Bump;
 use dnsv_canonical::{Capture, Rrset};
 use dnsv_chain::Anchors;
-use dnsv_explain::{Explanation, explain};
+use dnsv_explain::{Explainer, Explanation};
 use dnsv_lines::Line;
 use dnsv_names::{Name, RecordType};
 use dnsv_texts::{Format, Heading, check_text};
-use dnsv_verdict::{Report, Verdict, VerdictError, validate};
+use dnsv_verdict::{Case, Report, Verdict, VerdictError};
 use dnsv_verifier::Verifier;
 use std::alloc::{AllocError, Global};
 
@@ -45,6 +47,68 @@ pub struct Asked<'a> {
     pub moment: Moment,
 }
 
+/// A case that questions are judged by, and where it is asked why verdicts stand, with what explanations share.
+#[derive(Drop)]
+pub enum Judging<'a> {
+    /// Of verdicts alone.
+    Plain(Case<'a>),
+    /// Of verdicts, and of why they stand.
+    Telling(Explainer<'a>),
+}
+
+impl<'a> Judging<'a> {
+    /// The case at the moment, under what the verifier says, which is asked here and never again.
+    pub fn new<V: Verifier>(
+        alloc: Global,
+        bump: &'a Bump,
+        why: bool,
+        moment: Moment,
+        held: &'a Capture<'a>,
+        anchors: &'a Anchors<'a>,
+        verifier: &V,
+    ) -> Result<Judging<'a>, AllocError>
+        ensures case { IfOk result (λ judge. IsCaseOf (basis_of held.now.rrsets anchors.now moment (V.meaning
+            verifier.now)) (case_of judge)) }
+        ensures why { IfOk result (λ judge. tells_why judge ≡ why) }
+    {
+        let seconds = moment.seconds();
+        if why {
+            let explainer = Explainer::new(alloc, bump, held, anchors, seconds, verifier)?;
+            return Ok(Judging::Telling(explainer));
+        }
+        let case = Case::new(alloc, bump, held, anchors, seconds, verifier)?;
+        Ok(Judging::Plain(case))
+    }
+
+    /// The report on the question, and where that is asked for, why its verdict stands.
+    pub fn report(
+        &self,
+        alloc: Global,
+        name: &Name,
+        rtype: RecordType,
+    ) -> Result<(Report<'a>, Option<Explanation>), VerdictError>
+        ensures verdict { (basis : Basis) → IsCaseOf basis (case_of self.now) → IfOk result (λ told.
+            IsVerdictOf basis name.now rtype.0 told.0.links told.0.last told.0.verdict) }
+        ensures why { (basis : Basis) → IsCaseOf basis (case_of self.now) → IfOk result (λ told.
+            IsWhy (tells_why self.now) basis rtype.0 told.0 told.1) }
+        ensures question { (basis : Basis) → IsCaseOf basis (case_of self.now)
+            → IfOk result (λ _. IsQuestion name.now rtype.0) }
+        ensures refused { (basis : Basis) → IsCaseOf basis (case_of self.now) → IfErr result (λ error.
+            (error ≡ OutOfMemory) ⊎ IsRefusal basis name.now rtype.0 error) }
+    {
+        match self {
+            Judging::Plain(case) => {
+                let judged = case.judge(alloc, name, rtype, false)?;
+                Ok((judged.report, None))
+            }
+            Judging::Telling(explainer) => {
+                let (report, explanation) = explainer.explain(alloc, name, rtype)?;
+                Ok((report, Some(explanation)))
+            }
+        }
+    }
+}
+
 /// The verdict on the question, the aliases that lead to the name where it stands, what carries it, and where that is
 /// asked for, why it stands: in lines, or in JSON.
 ///
@@ -59,19 +123,23 @@ pub fn judge<V: Verifier>(
     verifier: &V,
 ) -> Result<Outcome, Fault>
     requires { IsQuestion asked.now.name.now asked.now.rtype.0 }
-    ensures verdict { IfOk result (λ outcome. (report : Report) × (told : Option (List Line))
-        × IsVerdictOf (basis_of held.now.rrsets anchors.now asked.now.moment (V.meaning verifier.now))
-        asked.now.name.now asked.now.rtype.0 report.links report.last report.verdict
-        × IsWhy telling.why (basis_of held.now.rrsets anchors.now asked.now.moment (V.meaning verifier.now))
-        asked.now.rtype.0 report told
-        × (outcome.status ≡ specs.verdict_status report.verdict)
-        × (string_bytes outcome.text ≡ texts.check_text telling.format asked.now.name.now asked.now.rtype.0
-        asked.now.moment (status_code outcome.status) held.now.rrsets report.links report.verdict told)) }
+    ensures verdict { IfOk result (λ outcome. IsJudged telling.format telling.why
+        (basis_of held.now.rrsets anchors.now asked.now.moment (V.meaning verifier.now)) asked.now.name.now
+        asked.now.rtype.0 outcome.status (string_bytes outcome.text)) }
     ensures only { IfErr result (λ told. (told ≡ Fault.OutOfMemory) ⊎ ((error : VerdictError)
         × IsRefusedFor (basis_of held.now.rrsets anchors.now asked.now.moment (V.meaning verifier.now))
         asked.now.name.now asked.now.rtype.0 error × (told ≡ specs.verdict_fault error))) }
 {
-    match report_and_why(alloc, bump, telling.why, asked, held, anchors, verifier) {
+    let judge = Judging::new(
+        alloc,
+        bump,
+        telling.why,
+        asked.moment,
+        held,
+        anchors,
+        verifier,
+    )?;
+    match judge.report(alloc, asked.name, asked.rtype) {
         Ok((report, told)) => {
             let format = telling.format;
             Ok(outcome_by(alloc, format, asked, held.rrsets(), &report, &told)?)
@@ -81,7 +149,7 @@ pub fn judge<V: Verifier>(
 }
 
 /// The end of a run by a report, and its text.
-fn outcome_by(
+pub fn outcome_by(
     alloc: Global,
     format: Format,
     asked: &Asked<'_>,
@@ -115,38 +183,8 @@ fn lines_of(why: &Option<Explanation>) -> Option<&[Line]>
     }
 }
 
-/// The report on the question, and where that is asked for, why its verdict stands.
-fn report_and_why<'a, V: Verifier>(
-    alloc: Global,
-    bump: &'a Bump,
-    why: bool,
-    asked: &Asked<'_>,
-    held: &'a Capture<'a>,
-    anchors: &'a Anchors<'a>,
-    verifier: &V,
-) -> Result<(Report<'a>, Option<Explanation>), VerdictError>
-    ensures verdict { IfOk result (λ told. IsVerdictOf (basis_of held.now.rrsets anchors.now asked.now.moment
-        (V.meaning verifier.now)) asked.now.name.now asked.now.rtype.0 told.0.links told.0.last told.0.verdict) }
-    ensures why { IfOk result (λ told. IsWhy why (basis_of held.now.rrsets anchors.now asked.now.moment
-        (V.meaning verifier.now)) asked.now.rtype.0 told.0 told.1) }
-    ensures refused { IfErr result (λ error. (error ≡ OutOfMemory)
-        ⊎ IsRefusal (basis_of held.now.rrsets anchors.now asked.now.moment (V.meaning verifier.now))
-        asked.now.name.now asked.now.rtype.0 error) }
-{
-    let seconds = asked.moment.seconds();
-    let Asked { name, rtype, .. } = *asked;
-    if why {
-        let (report, explanation) = explain(
-            alloc, bump, held, anchors, seconds, verifier, name, rtype,
-        )?;
-        return Ok((report, Some(explanation)));
-    }
-    let report = validate(alloc, bump, held, anchors, seconds, verifier, name, rtype)?;
-    Ok((report, None))
-}
-
 /// The fault by which it is told that a question has no verdict. It has no place.
-fn verdict_fault(error: VerdictError) -> Fault
+pub fn verdict_fault(error: VerdictError) -> Fault
     ensures told { result ≡ specs.verdict_fault error }
     ensures number { fault_number result ≡ verdict_error_code error }
 {

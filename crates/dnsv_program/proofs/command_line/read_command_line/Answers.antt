@@ -3,7 +3,7 @@ use Rattle.std.proofs.lemmas.Slice.Eq.{bytes_eq-Decides}
 use Rattle.std.specs.Str.{bytes_eq}
 use Rattle.clap.specs.Words.{app_of, found_of, rows_of}
 use Rattle.dnsv_texts.specs.Checking.{question_word}
-use Rattle.dnsv_program.proofs.CommandLineLemmas.Words.{Sees, is_list, is_neither, is_show, passed_up, sees}
+use Rattle.dnsv_program.proofs.CommandLineLemmas.Words.{Sees, asked_as, is_list, is_neither, is_show, passed_up, sees, unclear_as}
 use Rattle.dnsv_program.proofs.command_line.read_command_line.Goals as goal
 
 pub returns-in_err-matches-clause-refused : goal.returns-in_err-matches-clause-refused
@@ -61,4 +61,15 @@ returns-clause-accepted g c =
     c.in_ok-program.ensures c.in_ok-matches.ensures.matches c.in_ok-matches.ensures.kinds c.unwrap.ensures c.subcommand.ensures.name c.subcommand.ensures.rows in
     let question = is_neither at (search rules) (search rules) in
     let why : question_word (bytes_eq c.unwrap.result.0.now (codes "explain")) ≡ question_word c.eq-else-eq-2.result = search rules in
-    (at.none, (question_word c.eq-else-eq-2.result, _, at.met ∙ ap (λ n. Some (n, rows_of (found_of c.unwrap.result.1.now))) (question.0 ∙ why), c.in_ok-check_request.ensures))
+    asked_as c.check_request.result (map g.S.AsStr.text c.args.words.now) (question_word c.eq-else-eq-2.result) (rows_of (found_of c.unwrap.result.1.now)) at.none
+    (at.met ∙ ap (λ n. Some (n, rows_of (found_of c.unwrap.result.1.now))) (question.0 ∙ why)) c.check_request.ensures.asks
+
+pub returns-clause-refused : goal.returns-clause-refused
+returns-clause-refused g c =
+    let at : Sees (map g.S.AsStr.text c.args.words.now) c.unwrap.result.0.now (rows_of (found_of c.unwrap.result.1.now)) =
+    sees (λ p. p.0.now) (λ p. rows_of (found_of p.1.now)) c.subcommand.result c.unwrap.result (app_of c.in_ok-program.field-0) (map g.S.AsStr.text c.args.words.now) c.in_ok-matches.matches
+    c.in_ok-program.ensures c.in_ok-matches.ensures.matches c.in_ok-matches.ensures.kinds c.unwrap.ensures c.subcommand.ensures.name c.subcommand.ensures.rows in
+    let question = is_neither at (search rules) (search rules) in
+    let why : question_word (bytes_eq c.unwrap.result.0.now (codes "explain")) ≡ question_word c.eq-else-eq-2.result = search rules in
+    unclear_as c.check_request.result (map g.S.AsStr.text c.args.words.now) c.eq-else-eq-2.result (rows_of (found_of c.unwrap.result.1.now)) at.none
+    (at.met ∙ ap (λ n. Some (n, rows_of (found_of c.unwrap.result.1.now))) (question.0 ∙ why)) c.check_request.ensures.refused

@@ -1,4 +1,4 @@
-use Rattle.dnsv_program.proofs.LawLemmas.OneText.{one_text}
+use Rattle.dnsv_program.proofs.LawLemmas.OneRequest.{one_text}
 use Rattle.dnsv_program.proofs.laws.one_text.Goals as goal
 
 pub returns : goal.returns

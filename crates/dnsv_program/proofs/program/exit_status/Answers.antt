@@ -1,5 +1,6 @@
 use Rattle.std.proofs.Common.{◌∙◌, sym}
-use Rattle.dnsv_program.proofs.ProgramLemmas.{began, ended_failed, ended_well, ended_refused, wrote, refused}
+use Rattle.dnsv_program.proofs.ProgramLemmas.{began, ended_failed, ended_well, wrote}
+use Rattle.dnsv_program.proofs.ProgramLemmas.Refusals.{first_wrote, refused_ends, refused_wrote}
 use Rattle.dnsv_program.proofs.ProgramLemmas.Told.{quiet_at_end, request_told, words_quiet, words_told}
 use Rattle.dnsv_program.proofs.ProgramLemmas.Words.{at_most_7, began_so, words_done, words_failed, words_misused, words_refused, words_untouched}
 use Rattle.dnsv_program.proofs.program.exit_status.Goals as goal
@@ -10,19 +11,20 @@ returns-in-Ok-clause-done g c = λ ends.
 
 pub returns-in-Ok-clause-refused : goal.returns-in-Ok-clause-refused
 returns-in-Ok-clause-refused g c = λ is_7.
-    let (why, place, same) = ended_refused _ (sym c.finish.ensures.code ∙ is_7) in
-    refused _ _ _ why place c.in-Ok.ensures.accepted (λ files are. c.answer-outcome.ensures.refused files are why place same)
+    refused_ends _ _ _ _ _ _ c.in-Ok.ensures.accepted (sym c.finish.ensures.code ∙ is_7) c.answer-outcome.ensures.untouched c.answer-outcome.ensures.refused
+    c.finish.ensures.quiet c.answer-outcome.ensures.refused_one c.answer-outcome.ensures.done
 
 pub returns-in-Ok-clause-failed : goal.returns-in-Ok-clause-failed
 returns-in-Ok-clause-failed g c = λ is_1.
     ended_failed _ (sym c.finish.ensures.code ∙ is_1) c.answer-outcome.ensures.untouched (λ failed.
     (c.answer-outcome.ensures.write failed, began_so _ _ _ _ (began _ _ _ _ _ c.in-Ok.ensures.accepted (λ files are. c.answer-outcome.ensures.begun files are failed))))
+    (λ memory. first_wrote _ _ _ _ _ c.in-Ok.ensures.accepted (c.answer-outcome.ensures.whole memory))
 
 pub returns-in-Err-clause-done : goal.returns-in-Err-clause-done
 returns-in-Err-clause-done g c = words_done _ c.in-Err.error _ _ _ _ _ c.in-Err.ensures.refused c.refuse.ensures.code c.refuse.ensures.helped
 
 pub returns-in-Err-clause-refused : goal.returns-in-Err-clause-refused
-returns-in-Err-clause-refused g c = words_refused _ c.in-Err.error _ _ c.refuse.ensures.code
+returns-in-Err-clause-refused g c = words_refused (g.M.Machine.given_words c.args.machine.now) c.in-Err.error _ c.refuse.ensures.code
 
 pub returns-in-Err-clause-misused : goal.returns-in-Err-clause-misused
 returns-in-Err-clause-misused g c = words_misused _ c.in-Err.error _ c.in-Err.ensures.refused c.refuse.ensures.code
@@ -39,7 +41,9 @@ returns-in-Err-clause-codes g c = at_most_7 c.in-Err.error _ c.refuse.ensures.co
 pub returns-in-Ok-clause-told : goal.returns-in-Ok-clause-told
 returns-in-Ok-clause-told g c =
     request_told _ _ _ _ _ _ _ _ (sym c.finish.ensures.code) c.in-Ok.ensures.accepted c.answer-outcome.ensures.first c.answer-outcome.ensures.reached
-    c.answer-outcome.ensures.question c.answer-outcome.ensures.unopened c.answer-outcome.ensures.untouched c.answer-outcome.ensures.write c.finish.ensures.told
+    c.answer-outcome.ensures.question c.answer-outcome.ensures.unopened c.answer-outcome.ensures.untouched c.answer-outcome.ensures.write
+    (λ memory. first_wrote _ _ _ _ _ c.in-Ok.ensures.accepted (c.answer-outcome.ensures.whole memory)) c.finish.ensures.told c.finish.ensures.quiet
+    (λ refused. refused_wrote _ _ _ _ _ _ c.in-Ok.ensures.accepted refused c.answer-outcome.ensures.refused_one c.answer-outcome.ensures.done)
 
 pub returns-in-Ok-clause-quiet : goal.returns-in-Ok-clause-quiet
 returns-in-Ok-clause-quiet g c = λ ends. quiet_at_end _ _ (sym c.finish.ensures.code) ends c.finish.ensures.quiet

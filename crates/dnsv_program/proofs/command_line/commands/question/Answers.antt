@@ -4,7 +4,7 @@ use Rattle.std.proofs.lemmas.Result.{IfOk-weaker}
 use Rattle.clap.specs.Words.{app_of, new_app, with_rule}
 use Rattle.clap.specs.declared.Command.TheViews.{out-Command as fields_of}
 use Rattle.clap.specs.Simple.{app_of_fields}
-use Rattle.dnsv_program.specs.CommandLine.Commands.{anchors_rule, capture_rule, keys_rule, macs_rule, moment_rule, name_rule, statements_rule, type_rule}
+use Rattle.dnsv_program.specs.CommandLine.Commands.{anchors_rule, capture_rule, keys_rule, macs_rule, moment_rule, name_rule, questions_rule, statements_rule, type_rule}
 use Rattle.dnsv_program.proofs.command_line.commands.question.Goals as goal
 
 pub returns : goal.returns
@@ -33,19 +33,23 @@ returns c =
     c.in_ok-arg-5.ensures.shape c.type_option.ensures.local ∙ ap₂ with_rule with_name c.type_option.ensures.rule in
     let after_type : (fields_of c.in_ok-arg-5.field-0).has_globals ≡ false =
     c.in_ok-arg-5.ensures.globals ∙ ap₂ ◌||◌ after_name c.type_option.ensures.local in
-    let with_statements : app_of c.in_ok-arg-6.field-0 ≡ with_rule (with_rule (with_rule (with_rule (with_rule (with_rule (new_app c.args.word.now) capture_rule) anchors_rule) moment_rule) name_rule) type_rule) statements_rule =
-    c.in_ok-arg-6.ensures.shape c.statements_option.ensures.local ∙ ap₂ with_rule with_type c.statements_option.ensures.rule in
-    let after_statements : (fields_of c.in_ok-arg-6.field-0).has_globals ≡ false =
-    c.in_ok-arg-6.ensures.globals ∙ ap₂ ◌||◌ after_type c.statements_option.ensures.local in
-    let with_keys : app_of c.in_ok-arg-7.field-0 ≡ with_rule (with_rule (with_rule (with_rule (with_rule (with_rule (with_rule (new_app c.args.word.now) capture_rule) anchors_rule) moment_rule) name_rule) type_rule) statements_rule) keys_rule =
-    c.in_ok-arg-7.ensures.shape c.keys_option.ensures.local ∙ ap₂ with_rule with_statements c.keys_option.ensures.rule in
-    let after_keys : (fields_of c.in_ok-arg-7.field-0).has_globals ≡ false =
-    c.in_ok-arg-7.ensures.globals ∙ ap₂ ◌||◌ after_statements c.keys_option.ensures.local in
-    let with_macs : app_of c.in_ok-arg-8.field-0 ≡ with_rule (with_rule (with_rule (with_rule (with_rule (with_rule (with_rule (with_rule (new_app c.args.word.now) capture_rule) anchors_rule) moment_rule) name_rule) type_rule) statements_rule) keys_rule) macs_rule =
-    c.in_ok-arg-8.ensures.shape c.macs_option.ensures.local ∙ ap₂ with_rule with_keys c.macs_option.ensures.rule in
-    let after_macs : (fields_of c.in_ok-arg-8.field-0).has_globals ≡ false =
-    c.in_ok-arg-8.ensures.globals ∙ ap₂ ◌||◌ after_keys c.macs_option.ensures.local in
-    IfOk-weaker c.arg-9.result _ _ (λ command adds. (
+    let with_questions : app_of c.in_ok-arg-6.field-0 ≡ with_rule (with_rule (with_rule (with_rule (with_rule (with_rule (new_app c.args.word.now) capture_rule) anchors_rule) moment_rule) name_rule) type_rule) questions_rule =
+    c.in_ok-arg-6.ensures.shape c.questions_option.ensures.local ∙ ap₂ with_rule with_type c.questions_option.ensures.rule in
+    let after_questions : (fields_of c.in_ok-arg-6.field-0).has_globals ≡ false =
+    c.in_ok-arg-6.ensures.globals ∙ ap₂ ◌||◌ after_type c.questions_option.ensures.local in
+    let with_statements : app_of c.in_ok-arg-7.field-0 ≡ with_rule (with_rule (with_rule (with_rule (with_rule (with_rule (with_rule (new_app c.args.word.now) capture_rule) anchors_rule) moment_rule) name_rule) type_rule) questions_rule) statements_rule =
+    c.in_ok-arg-7.ensures.shape c.statements_option.ensures.local ∙ ap₂ with_rule with_questions c.statements_option.ensures.rule in
+    let after_statements : (fields_of c.in_ok-arg-7.field-0).has_globals ≡ false =
+    c.in_ok-arg-7.ensures.globals ∙ ap₂ ◌||◌ after_questions c.statements_option.ensures.local in
+    let with_keys : app_of c.in_ok-arg-8.field-0 ≡ with_rule (with_rule (with_rule (with_rule (with_rule (with_rule (with_rule (with_rule (new_app c.args.word.now) capture_rule) anchors_rule) moment_rule) name_rule) type_rule) questions_rule) statements_rule) keys_rule =
+    c.in_ok-arg-8.ensures.shape c.keys_option.ensures.local ∙ ap₂ with_rule with_statements c.keys_option.ensures.rule in
+    let after_keys : (fields_of c.in_ok-arg-8.field-0).has_globals ≡ false =
+    c.in_ok-arg-8.ensures.globals ∙ ap₂ ◌||◌ after_statements c.keys_option.ensures.local in
+    let with_macs : app_of c.in_ok-arg-9.field-0 ≡ with_rule (with_rule (with_rule (with_rule (with_rule (with_rule (with_rule (with_rule (with_rule (new_app c.args.word.now) capture_rule) anchors_rule) moment_rule) name_rule) type_rule) questions_rule) statements_rule) keys_rule) macs_rule =
+    c.in_ok-arg-9.ensures.shape c.macs_option.ensures.local ∙ ap₂ with_rule with_keys c.macs_option.ensures.rule in
+    let after_macs : (fields_of c.in_ok-arg-9.field-0).has_globals ≡ false =
+    c.in_ok-arg-9.ensures.globals ∙ ap₂ ◌||◌ after_keys c.macs_option.ensures.local in
+    IfOk-weaker c.arg-10.result _ _ (λ command adds. (
       adds.shape c.json_flag.ensures.local ∙ ap₂ with_rule with_macs c.json_flag.ensures.rule,
       adds.globals ∙ ap₂ ◌||◌ after_macs c.json_flag.ensures.local,
-    )) c.arg-9.ensures
+    )) c.arg-10.ensures

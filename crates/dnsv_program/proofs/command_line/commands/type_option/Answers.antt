@@ -1,14 +1,17 @@
-use Rattle.std.proofs.Common.{rules, ap, ap₂, codes, true, ◌≡◌, ◌∙◌}
-use Rattle.std.specs.Prelude.{Some, pos}
+use Rattle.std.proofs.Common.{rules, ap, ap₂, codes, ◌≡◌, ◌∙◌}
+use Rattle.std.specs.Prelude.{Option, Some, pos}
 use Rattle.clap.specs.Words.{NarrowsTo, Rule, new_rule, rule_of}
-use Rattle.clap.specs.declared.Arg.{Arg}
 use Rattle.clap.specs.declared.builder.ValueParser.{ValueParser}
 use Rattle.clap.specs.declared.builder.ValueParser.TheVariants as parser
-use Rattle.dnsv_program.proofs.CommandLineLemmas.Numbers.{demanded, narrowed_to}
+use Rattle.dnsv_program.proofs.CommandLineLemmas.Numbers.{narrowed_to}
 use Rattle.dnsv_program.proofs.command_line.commands.type_option.Goals as goal
 
 abbrev named : Rule
 named = record (new_rule (codes "type")) { long = Some (codes "type"); value_names = 1 }
+
+-- a rule with this reader of its value
+abbrev read_by : Option ValueParser → Rule → Rule
+read_by p r = record r { parser = p }
 
 pub returns-clause-rule : goal.returns-clause-rule
 returns-clause-rule c =
@@ -20,6 +23,4 @@ returns-clause-rule c =
     let made : given.0 ≡ parser.Unsigned 0 65535 = given.2 ∙ range_is in
     let parser_is : c.value_parser-2.result.value_parser ≡ Some (parser.Unsigned 0 65535) = given.1 ∙ ap (λ (p : ValueParser). Some p) made in
     let named_is : rule_of c.help.result ≡ named = search rules in
-    ap rule_of c.required.ensures
-    ∙ ap (λ (a : Arg). rule_of (record a { required = true })) c.value_parser-2.ensures.others
-    ∙ ap₂ demanded parser_is named_is
+    ap rule_of c.value_parser-2.ensures.others ∙ ap₂ read_by parser_is named_is

@@ -1,111 +1,44 @@
-use Rattle.std.proofs.Common.{inl, inr, refl}
+use Rattle.std.proofs.Common.{inl}
 use Rattle.std.proofs.lemmas.Result.{err_from_is_err_and}
 use Rattle.dnsv_verifier.specs.Statements.{listed_answer}
-use Rattle.dnsv_program.specs.declared.status.InputFile.TheVariants.{Anchors, Capture, Statements}
 use Rattle.dnsv_verdict.specs.Verdict.{Basis, basis_of}
 use Rattle.dnsv_verdict.specs.Way.{IsRefusedFor}
 use Rattle.dnsv_program.specs.Run.{IsFirstFaultOfFiles, IsFirstFaultOfName, IsReachedOfFiles}
+use Rattle.dnsv_program.proofs.FileLemmas.Faults.{beside_passed, with_questions}
+use Rattle.dnsv_program.proofs.JudgedLemmas.{all_judged, judged_unrefused, stopped_there, unjudged_read, unjudged_writes}
 use Rattle.dnsv_program.proofs.WorkLemmas.Checking.{all_checked}
-use Rattle.dnsv_program.proofs.FileLemmas.Faults.{TellsFaults-weaker, anchored, captured, has_evidence, reads_then, stated, unsealed}
-use Rattle.dnsv_program.proofs.JudgedLemmas.{all_judged, stopped_there, unjudged_read, unjudged_writes}
-use Rattle.dnsv_program.proofs.ReachedLemmas.{given_file, reached_by, reached_given, reached_sealed}
 use Rattle.dnsv_program.proofs.work.checking.check_question.Goals as goal
 
-pub returns-in_err-opening-clause-faults : goal.returns-in_err-opening-clause-faults
-returns-in_err-opening-clause-faults g c =
+pub returns-in_err-given-clause-faults : goal.returns-in_err-given-clause-faults
+returns-in_err-given-clause-faults g c =
     let p = err_from_is_err_and c.from_residual.result c.from_residual.ensures.1 in
-    rw (p.1, p.2) (TellsFaults-weaker (IsFirstFaultOfFiles c.args.asked.now.moment) (IsFirstFaultOfName c.args.asked.now.name.now c.args.asked.now.rtype.0 c.args.asked.now.moment) _ (λ files fault holds. inl holds)
-    (unsealed c.args.asked.now.moment c.in_err-opening.field-0.0 refl refl refl c.in_err-opening.ensures.faults
-    c.in_err-opening.ensures.keys_reads c.in_err-opening.ensures.macs_reads c.in_err-opening.ensures.about))
+    rw (p.1, p.2) (with_questions (IsFirstFaultOfFiles c.args.asked.now.moment) (IsFirstFaultOfName c.args.asked.now.name.now c.args.asked.now.rtype.0 c.args.asked.now.moment) _
+    (λ files fault holds. inl holds) c.given_in.ensures.questions (beside_passed c.in_err-given.field-0.0 c.in_err-given.ensures.faults))
 
-pub returns-in_err-held-clause-faults : goal.returns-in_err-held-clause-faults
-returns-in_err-held-clause-faults g c =
-    let p = err_from_is_err_and c.from_residual-in_err-held.result c.from_residual-in_err-held.ensures.1 in
-    rw (p.1, p.2) (TellsFaults-weaker (IsFirstFaultOfFiles c.args.asked.now.moment) (IsFirstFaultOfName c.args.asked.now.name.now c.args.asked.now.rtype.0 c.args.asked.now.moment) _ (λ files fault holds. inl holds)
-    (captured c.in_ok-opening.opening (IsFirstFaultOfFiles c.args.asked.now.moment) c.in_err-held.field-0.0
-    (λ files are fault holds. inr (c.in_ok-opening.opening, c.in_ok-opening.ensures.opening files.keys files.macs are.keys are.macs, inl holds)) refl refl
-    (reads_then c.in_ok-opening.opening _ c.in_ok-opening.ensures.keys_reads, reads_then c.in_ok-opening.opening _ c.in_ok-opening.ensures.macs_reads)
-    c.in_err-held.ensures.faults))
-
-pub returns-in_err-anchors-clause-faults : goal.returns-in_err-anchors-clause-faults
-returns-in_err-anchors-clause-faults g c =
-    let p = err_from_is_err_and c.from_residual-in_err-anchors.result c.from_residual-in_err-anchors.ensures.1 in
-    rw (p.1, p.2) (TellsFaults-weaker (IsFirstFaultOfFiles c.args.asked.now.moment) (IsFirstFaultOfName c.args.asked.now.name.now c.args.asked.now.rtype.0 c.args.asked.now.moment) _ (λ files fault holds. inl holds)
-    (anchored c.in_ok-opening.opening c.args.asked.now.moment
-    (λ files are. c.in_ok-opening.ensures.opening files.keys files.macs are.keys are.macs) c.in_ok-held.held c.in_err-anchors.field-0.0 refl
-    (reads_then c.in_ok-opening.opening _ c.in_ok-opening.ensures.keys_reads, reads_then c.in_ok-opening.opening _ c.in_ok-opening.ensures.macs_reads)
-    c.in_ok-held.ensures.faults
-    (has_evidence c.in_ok-opening.opening _ c.in_ok-held.held c.in_ok-held.ensures.evidence)
-    c.in_err-anchors.ensures.faults c.in_err-anchors.ensures.reads c.in_err-anchors.ensures.about))
-
-pub returns-in_err-statements-clause-faults : goal.returns-in_err-statements-clause-faults
-returns-in_err-statements-clause-faults g c =
-    let p = err_from_is_err_and c.from_residual-in_err-statements.result c.from_residual-in_err-statements.ensures.1 in
-    rw (p.1, p.2) (TellsFaults-weaker (IsFirstFaultOfFiles c.args.asked.now.moment) (IsFirstFaultOfName c.args.asked.now.name.now c.args.asked.now.rtype.0 c.args.asked.now.moment) _ (λ files fault holds. inl holds)
-    (stated c.in_ok-opening.opening c.args.asked.now.moment
-    (λ files are. c.in_ok-opening.ensures.opening files.keys files.macs are.keys are.macs) c.in_ok-held.held c.in_ok-anchors.anchors c.in_err-statements.field-0.0
-    (reads_then c.in_ok-opening.opening _ c.in_ok-opening.ensures.keys_reads, reads_then c.in_ok-opening.opening _ c.in_ok-opening.ensures.macs_reads)
-    c.in_ok-held.ensures.faults
-    (has_evidence c.in_ok-opening.opening _ c.in_ok-held.held c.in_ok-held.ensures.evidence)
-    (λ octets is. (c.in_ok-anchors.anchors, c.in_ok-anchors.ensures.said octets is)) c.in_ok-anchors.ensures.reads
-    c.in_err-statements.ensures.faults c.in_err-statements.ensures.reads c.in_err-statements.ensures.about))
+pub returns-in_err-given-clause-reached : goal.returns-in_err-given-clause-reached
+returns-in_err-given-clause-reached g c = λ files are.
+    let p = err_from_is_err_and c.from_residual.result c.from_residual.ensures.1 in
+    rw (p.1, p.2) (c.in_err-given.ensures.reached files are.beside)
 
 pub returns-clause-faults : goal.returns-clause-faults
 returns-clause-faults g c =
-    let basis : Basis = basis_of (c.in_ok-held.held.rrsets) (c.in_ok-anchors.anchors) c.args.asked.now.moment (listed_answer c.in_ok-statements.statements) in
-    all_judged c.in_ok-opening.opening c.args.asked.now.name.now c.args.asked.now.rtype.0 c.args.asked.now.moment (λ error. IsRefusedFor basis c.args.asked.now.name.now c.args.asked.now.rtype.0 error)
-    c.in_ok-opening.opening c.in_ok-held.held c.in_ok-anchors.anchors c.in_ok-statements.statements c.judge.result
-    c.in_ok-opening.ensures.keys_reads c.in_ok-opening.ensures.macs_reads c.in_ok-held.ensures.faults
-    c.in_ok-anchors.ensures.reads c.in_ok-statements.ensures.reads
-    (λ files error are refused. stopped_there c.args.asked.now.name.now c.args.asked.now.rtype.0 c.args.asked.now.moment files c.in_ok-opening.opening
-    (c.in_ok-opening.ensures.opening files.keys files.macs are.keys are.macs) c.in_ok-held.held c.in_ok-anchors.anchors
-    (listed_answer c.in_ok-statements.statements) are.capture c.in_ok-held.ensures.evidence
-    (c.in_ok-anchors.ensures.said files.anchors are.anchors)
-    (c.in_ok-statements.ensures.said files.statements are.statements) error refused)
+    let given = c.in_ok-given.given in
+    let basis : Basis = basis_of given.held.rrsets given.anchors c.args.asked.now.moment (listed_answer given.statements) in
+    all_judged c.args.asked.now.name.now c.args.asked.now.rtype.0 c.args.asked.now.moment (λ error. IsRefusedFor basis c.args.asked.now.name.now c.args.asked.now.rtype.0 error)
+    given c.judge.result c.in_ok-given.ensures.faults c.given_in.ensures.questions
+    (λ files error are refused. stopped_there c.args.asked.now.name.now c.args.asked.now.rtype.0 c.args.asked.now.moment files (c.in_ok-given.ensures.given files are.beside) error refused)
     c.judge.ensures.only
 
 pub returns-clause-text : goal.returns-clause-text
 returns-clause-text g c = λ files are.
-    all_checked c.args.telling.format c.args.telling.why c.args.asked.now.name.now c.args.asked.now.rtype.0 c.args.asked.now.moment files c.in_ok-opening.opening
-    (c.in_ok-opening.ensures.opening files.keys files.macs are.keys are.macs) c.in_ok-held.held c.in_ok-anchors.anchors
-    (listed_answer c.in_ok-statements.statements) c.judge.result are.capture c.in_ok-held.ensures.evidence
-    (c.in_ok-anchors.ensures.said files.anchors are.anchors)
-    (c.in_ok-statements.ensures.said files.statements are.statements) c.judge.ensures.verdict
-
-pub returns-in_err-opening-clause-reached : goal.returns-in_err-opening-clause-reached
-returns-in_err-opening-clause-reached g c = λ files are.
-    let p = err_from_is_err_and c.from_residual.result c.from_residual.ensures.1 in
-    rw (p.1, p.2) (reached_sealed c.args.asked.now.moment files c.in_err-opening.field-0.0 (c.in_err-opening.ensures.reached files.keys files.macs are.keys are.macs))
-
-pub returns-in_err-held-clause-reached : goal.returns-in_err-held-clause-reached
-returns-in_err-held-clause-reached g c = λ files are.
-    let p = err_from_is_err_and c.from_residual-in_err-held.result c.from_residual-in_err-held.ensures.1 in
-    rw (p.1, p.2) (reached_by (IsReachedOfFiles c.args.asked.now.moment files) Capture c.in_err-held.field-0.0 c.in_err-held.ensures.faults.about
-    (c.in_ok-opening.opening, c.in_ok-opening.ensures.opening files.keys files.macs are.keys are.macs))
-
-pub returns-in_err-anchors-clause-reached : goal.returns-in_err-anchors-clause-reached
-returns-in_err-anchors-clause-reached g c = λ files are.
-    let p = err_from_is_err_and c.from_residual-in_err-anchors.result c.from_residual-in_err-anchors.ensures.1 in
-    rw (p.1, p.2) (reached_given _ (IsReachedOfFiles c.args.asked.now.moment files) Anchors c.in_err-anchors.field-0.0 c.in_err-anchors.ensures.about c.in_err-anchors.ensures.given (λ given. (
-      c.in_ok-opening.opening,
-      c.in_ok-opening.ensures.opening files.keys files.macs are.keys are.macs,
-      has_evidence c.in_ok-opening.opening _ c.in_ok-held.held c.in_ok-held.ensures.evidence files.capture are.capture,
-      given_file g.R.Read.remaining c.args.inputs.now.anchors files.anchors are.anchors given,
-    )))
-
-pub returns-in_err-statements-clause-reached : goal.returns-in_err-statements-clause-reached
-returns-in_err-statements-clause-reached g c = λ files are.
-    let p = err_from_is_err_and c.from_residual-in_err-statements.result c.from_residual-in_err-statements.ensures.1 in
-    rw (p.1, p.2) (reached_given _ (IsReachedOfFiles c.args.asked.now.moment files) Statements c.in_err-statements.field-0.0 c.in_err-statements.ensures.about c.in_err-statements.ensures.given (λ given. (
-      c.in_ok-opening.opening,
-      c.in_ok-opening.ensures.opening files.keys files.macs are.keys are.macs,
-      has_evidence c.in_ok-opening.opening _ c.in_ok-held.held c.in_ok-held.ensures.evidence files.capture are.capture,
-      (c.in_ok-anchors.anchors, c.in_ok-anchors.ensures.said files.anchors are.anchors),
-      given_file g.R.Read.remaining c.args.inputs.now.statements files.statements are.statements given,
-    )))
+    all_checked c.args.telling.format c.args.telling.why c.args.asked.now.name.now c.args.asked.now.rtype.0 c.args.asked.now.moment files
+    (c.in_ok-given.ensures.given files are.beside) c.judge.result c.judge.ensures.verdict
 
 pub returns-clause-reached : goal.returns-clause-reached
 returns-clause-reached g c = λ files are. unjudged_read _ (IsReachedOfFiles c.args.asked.now.moment files) c.judge.result c.judge.ensures.only
 
 pub returns-clause-unwritten : goal.returns-clause-unwritten
 returns-clause-unwritten g c = unjudged_writes _ c.judge.result c.judge.ensures.only
+
+pub returns-clause-unrefused : goal.returns-clause-unrefused
+returns-clause-unrefused g c = judged_unrefused _ _ _ _ _ c.judge.result c.judge.ensures.verdict

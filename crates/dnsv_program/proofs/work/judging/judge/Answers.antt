@@ -6,20 +6,21 @@ use Rattle.dnsv_verdict.specs.declared.error.VerdictError.TheVariants.{BadQuesti
 use Rattle.dnsv_program.specs.Work.Checking.{verdict_fault}
 use Rattle.dnsv_program.proofs.work.judging.judge.Goals as goal
 
-pub returns-in_ok-outcome_by-in-Ok-clause-verdict : goal.returns-in_ok-outcome_by-in-Ok-clause-verdict
-returns-in_ok-outcome_by-in-Ok-clause-verdict g c = (
-  c.in-Ok.report,
-  c.in-Ok.told,
-  c.in-Ok.ensures.verdict,
-  c.in-Ok.ensures.why,
-  c.in_ok-outcome_by-in-Ok.ensures.status,
-  rw (← c.rrsets.ensures.value) c.in_ok-outcome_by-in-Ok.ensures.text,
-)
+pub returns-in-Ok-clause-verdict : goal.returns-in-Ok-clause-verdict
+returns-in-Ok-clause-verdict g c =
+    let basis : Basis = basis_of c.args.held.now.rrsets c.args.anchors.now c.args.asked.now.moment (g.V.Verifier.meaning c.args.verifier.now) in record {
+      report = c.in-Ok.report;
+      is_verdict = c.in-Ok.ensures.verdict basis c.in_ok-judge.ensures.case;
+      told = c.in-Ok.told;
+      is_told = rw c.in_ok-judge.ensures.why at (c.in-Ok.ensures.why basis c.in_ok-judge.ensures.case);
+      ends = c.in_ok-outcome_by-in-Ok.ensures.status;
+      lines = rw (← c.rrsets.ensures.value) c.in_ok-outcome_by-in-Ok.ensures.text;
+    }
 
-pub returns-in-Err-clause-only : goal.returns-in-Err-clause-only
-returns-in-Err-clause-only g c =
+pub returns-clause-only : goal.returns-clause-only
+returns-clause-only g c =
     let basis : Basis = basis_of c.args.held.now.rrsets c.args.anchors.now c.args.asked.now.moment (g.V.Verifier.meaning c.args.verifier.now) in
-    let told : (c.in-Err.error ≡ OutOfMemory) ⊎ IsRefusal basis c.args.asked.now.name.now c.args.asked.now.rtype.0 c.in-Err.error = c.in-Err.ensures.refused in
+    let told : (c.in-Err.error ≡ OutOfMemory) ⊎ IsRefusal basis c.args.asked.now.name.now c.args.asked.now.rtype.0 c.in-Err.error = c.in-Err.ensures.refused basis c.in_ok-judge.ensures.case in
     ⊎_elim (λ (memory : c.in-Err.error ≡ OutOfMemory). inl (c.verdict_fault.ensures.told ∙ ap verdict_fault memory))
     (λ (refusal : IsRefusal basis c.args.asked.now.name.now c.args.asked.now.rtype.0 c.in-Err.error).
     ⊎_elim (λ (unasked : (c.in-Err.error ≡ BadQuestion) × (¬ IsQuestion c.args.asked.now.name.now c.args.asked.now.rtype.0)). absurd (unasked.1 c.requires))

@@ -1,0 +1,13 @@
+use Rattle.std.proofs.Common.{◌≡◌}
+use Rattle.dnsv_message.specs.Streams.Counted.{failures_of, inner_of}
+use Rattle.dnsv_verdict.specs.Case.{IsCaseOf}
+use Rattle.dnsv_verdict.specs.Verdict.{Basis}
+use Rattle.dnsv_program.specs.Work.Judging.{case_of}
+use Rattle.dnsv_program.proofs.AskingLemmas.Steps.{ToldSoFar}
+use Rattle.dnsv_program.proofs.work.asking.tell_each.Given as goal
+
+abbrev pub invariant-loop-question : goal.invariant-loop-question
+invariant-loop-question g l = ((basis : Basis) → IsCaseOf basis (case_of l.fn.judge) → l.fn.rrsets ≡ basis.rrsets → basis.moment ≡ l.fn.moment
+    → ToldSoFar l.fn.telling.format l.fn.telling.why basis l.fn.questions l.question-index l.end (g.W.Write.contents (inner_of l.fn.output))
+    (g.W.Write.contents (inner_of l.output)))
+    × (failures_of l.output ≡ failures_of l.fn.output)

@@ -1,0 +1,242 @@
+//! The work of `check` and of `explain` over a file of questions: each is judged by one case, and told before the next.
+ghost use Rattle.std.specs.Prelude.{◌≡◌, ◌⊎◌, ◌<◌, ℕ, Err, IfErr, IfOk, List, string_bytes, take};
+ghost use Rattle.std.specs.Io.KnownBytes.{Appends};
+ghost use Rattle.dnsv_message.specs.Streams.Counted.{inner_of, failures_of, AppendsBeginning};
+ghost use Rattle.dnsv_canonical.specs.Question as asked;
+ghost use Rattle.dnsv_verdict.specs.Case.{IsCaseOf};
+ghost use Rattle.dnsv_verdict.specs.Verdict.{Basis, basis_of};
+ghost use Rattle.dnsv_verdict.specs.Way.{IsRefusal};
+ghost use Rattle.dnsv_verifier.specs.Statements.{listed_answer};
+ghost use Rattle.dnsv_program.specs.Files.Faults.{OfFailedRead, TellsFaults};
+ghost use Rattle.dnsv_program.specs.Files.Questions.{HasQuestions};
+ghost use Rattle.dnsv_program.specs.Files.{AreTold, Files, octets_or_none};
+ghost use Rattle.dnsv_program.specs.Run.{IsFirstFaultOfEach, IsReachedByEach};
+ghost use Rattle.dnsv_program.specs.Work.Asking.{AreAnswered, AreAnswers, AreFirstAnswered, IsAnswer, IsRefusedOne};
+ghost use Rattle.dnsv_program.specs.Work.Judging.{case_of, tells_why};
+ghost use Rattle.dnsv_program.specs.declared.status.Status.{Status};
+
+use crate::command_line::moment::Moment;
+use crate::files::text::text_in;
+use crate::status::{Fault, InputFile, Status};
+use crate::work::given::{Given, given_in};
+use crate::work::judging::{Asked, Judging, Telling, outcome_by, verdict_fault};
+use crate::work::{Inputs, Outcome};
+use bumpalo::Bump;
+use dnsv_canonical::Rrset;
+use dnsv_message::Counted;
+use dnsv_questions::{Questions, StoredQuestion};
+use dnsv_texts::{Heading, refused_text};
+use dnsv_verdict::VerdictError;
+use std::alloc::{AllocError, Global};
+use std::io::{Read, Write};
+
+/// Each question of the file is judged in its order, and what is told of it written, so that at most one text is kept. A
+/// question that is refused by itself is told so, and the next is judged.
+///
+/// The answer is the greatest status of all. The fault is the first in the order of the work: of the questions, and then
+/// of the files that they are judged by. Where memory runs out behind that, or a write fails, the output has the whole
+/// texts of the first questions; and where a write failed, a beginning of the next.
+pub fn check_each<R: Read, W: Write>(
+    alloc: Global,
+    telling: Telling,
+    moment: Moment,
+    inputs: &mut Inputs<R>,
+    bump: &Bump,
+    output: &mut Counted<W>,
+) -> Result<Status, Fault>
+    ensures done { (files : Files) → AreTold R.remaining inputs.old files → IfOk result (λ end. (text : List ℕ)
+        × AreAnswered telling.format telling.why moment files end text
+        × Appends (W.contents (inner_of output.old)) (W.contents (inner_of output.new)) text) }
+    ensures faults { TellsFaults (IsFirstFaultOfEach moment) R.remaining inputs.old inputs.new result }
+    ensures reached { (files : Files) → AreTold R.remaining inputs.old files
+        → IfErr result (OfFailedRead (IsReachedByEach moment files)) }
+    ensures write { result ≡ Err Fault.WriteFailed
+        → failures_of output.old < u64.MAX → failures_of output.old < failures_of output.new }
+    ensures begun { (files : Files) → AreTold R.remaining inputs.old files → result ≡ Err Fault.WriteFailed
+        → (text : List ℕ) × AreFirstAnswered telling.format telling.why moment files text
+        × AppendsBeginning (W.contents (inner_of output.old)) (W.contents (inner_of output.new)) text }
+    ensures whole { result ≡ Err Fault.OutOfMemory → (output.new ≡ output.old) ⊎ ((files : Files)
+        → AreTold R.remaining inputs.old files → (text : List ℕ)
+        × AreFirstAnswered telling.format telling.why moment files text
+        × Appends (W.contents (inner_of output.old)) (W.contents (inner_of output.new)) text) }
+    ensures untouched { IfErr result (λ fault. (fault ≡ Fault.WriteFailed → ⊥) → (fault ≡ Fault.OutOfMemory → ⊥)
+        → output.new ≡ output.old) }
+{
+    let questions: Questions = text_in(alloc, InputFile::Questions, &mut inputs.questions)?;
+    let given = given_in(alloc, moment, inputs, bump)?;
+    answer_all(
+        alloc,
+        bump,
+        telling,
+        moment,
+        &given,
+        questions.as_slice(),
+        output,
+    )
+}
+
+/// Each question is judged by one case, and what is told of it written.
+fn answer_all<W: Write>(
+    alloc: Global,
+    bump: &Bump,
+    telling: Telling,
+    moment: Moment,
+    given: &Given<'_>,
+    questions: &[StoredQuestion],
+    output: &mut Counted<W>,
+) -> Result<Status, Fault>
+    ensures done { IfOk result (λ end. (text : List ℕ)
+        × AreAnswers telling.format telling.why (basis_of given.now.held.rrsets given.now.anchors moment
+        (listed_answer given.now.statements)) questions.now end text
+        × Appends (W.contents (inner_of output.old)) (W.contents (inner_of output.new)) text) }
+    ensures only { IfErr result (λ fault. (fault ≡ Fault.OutOfMemory) ⊎ (fault ≡ Fault.WriteFailed)) }
+    ensures write { result ≡ Err Fault.WriteFailed
+        → failures_of output.old < u64.MAX → failures_of output.old < failures_of output.new }
+    ensures begun { result ≡ Err Fault.WriteFailed → (count : ℕ) × (end : Status) × (text : List ℕ)
+        × AreAnswers telling.format telling.why (basis_of given.now.held.rrsets given.now.anchors moment
+        (listed_answer given.now.statements)) (take count questions.now) end text
+        × AppendsBeginning (W.contents (inner_of output.old)) (W.contents (inner_of output.new)) text }
+    ensures whole { result ≡ Err Fault.OutOfMemory
+        → (output.new ≡ output.old) ⊎ ((count : ℕ) × (end : Status) × (text : List ℕ)
+        × AreAnswers telling.format telling.why (basis_of given.now.held.rrsets given.now.anchors moment
+        (listed_answer given.now.statements)) (take count questions.now) end text
+        × Appends (W.contents (inner_of output.old)) (W.contents (inner_of output.new)) text) }
+{
+    let judge = Judging::new(
+        alloc,
+        bump,
+        telling.why,
+        moment,
+        &given.held,
+        &given.anchors,
+        &given.statements,
+    )?;
+    tell_each(
+        alloc,
+        &judge,
+        telling,
+        moment,
+        given.held.rrsets(),
+        questions,
+        output,
+    )
+}
+
+/// What is told of each question is written, one behind the other.
+fn tell_each<W: Write>(
+    alloc: Global,
+    judge: &Judging<'_>,
+    telling: Telling,
+    moment: Moment,
+    rrsets: &[Rrset<'_>],
+    questions: &[StoredQuestion],
+    output: &mut Counted<W>,
+) -> Result<Status, Fault>
+    requires why { tells_why judge.now ≡ telling.why }
+    ensures done { (basis : Basis) → IsCaseOf basis (case_of judge.now) → rrsets.now ≡ basis.rrsets
+        → basis.moment ≡ moment → IfOk result (λ end. (text : List ℕ)
+        × AreAnswers telling.format telling.why basis questions.now end text
+        × Appends (W.contents (inner_of output.old)) (W.contents (inner_of output.new)) text) }
+    ensures only { IfErr result (λ fault. (fault ≡ Fault.OutOfMemory) ⊎ (fault ≡ Fault.WriteFailed)) }
+    ensures write { result ≡ Err Fault.WriteFailed
+        → failures_of output.old < u64.MAX → failures_of output.old < failures_of output.new }
+    ensures begun { (basis : Basis) → IsCaseOf basis (case_of judge.now) → rrsets.now ≡ basis.rrsets
+        → basis.moment ≡ moment → result ≡ Err Fault.WriteFailed → (count : ℕ) × (end : Status) × (text : List ℕ)
+        × AreAnswers telling.format telling.why basis (take count questions.now) end text
+        × AppendsBeginning (W.contents (inner_of output.old)) (W.contents (inner_of output.new)) text }
+    ensures whole { (basis : Basis) → IsCaseOf basis (case_of judge.now) → rrsets.now ≡ basis.rrsets
+        → basis.moment ≡ moment → result ≡ Err Fault.OutOfMemory → (count : ℕ) × (end : Status) × (text : List ℕ)
+        × AreAnswers telling.format telling.why basis (take count questions.now) end text
+        × Appends (W.contents (inner_of output.old)) (W.contents (inner_of output.new)) text }
+{
+    let mut end = Status::Done;
+    for question in questions {
+        let told = tell_one(alloc, judge, telling, moment, rrsets, question, output)?;
+        end = end.worse(told);
+    }
+    Ok(end)
+}
+
+/// What is told of the question is written.
+fn tell_one<W: Write>(
+    alloc: Global,
+    judge: &Judging<'_>,
+    telling: Telling,
+    moment: Moment,
+    rrsets: &[Rrset<'_>],
+    question: &StoredQuestion,
+    output: &mut Counted<W>,
+) -> Result<Status, Fault>
+    requires why { tells_why judge.now ≡ telling.why }
+    ensures done { (basis : Basis) → IsCaseOf basis (case_of judge.now) → rrsets.now ≡ basis.rrsets
+        → basis.moment ≡ moment → IfOk result (λ end. (text : List ℕ)
+        × IsAnswer telling.format telling.why basis question.now end text
+        × Appends (W.contents (inner_of output.old)) (W.contents (inner_of output.new)) text) }
+    ensures only { IfErr result (λ fault. (fault ≡ Fault.OutOfMemory) ⊎ (fault ≡ Fault.WriteFailed)) }
+    ensures calm { IfOk result (λ _. failures_of output.new ≡ failures_of output.old) }
+    ensures write { result ≡ Err Fault.WriteFailed
+        → failures_of output.old < u64.MAX → failures_of output.old < failures_of output.new }
+    ensures begun { (basis : Basis) → IsCaseOf basis (case_of judge.now) → rrsets.now ≡ basis.rrsets
+        → basis.moment ≡ moment → result ≡ Err Fault.WriteFailed → (end : Status) × (text : List ℕ)
+        × IsAnswer telling.format telling.why basis question.now end text
+        × AppendsBeginning (W.contents (inner_of output.old)) (W.contents (inner_of output.new)) text }
+    ensures untouched { result ≡ Err Fault.OutOfMemory → output.new ≡ output.old }
+{
+    let outcome = answer(alloc, judge, telling, moment, rrsets, question)?;
+    match output.write_all(outcome.text.as_bytes()) {
+        Ok(()) => Ok(outcome.status),
+        Err(_) => Err(Fault::WriteFailed),
+    }
+}
+
+/// The verdict on the question, and why it stands, where that is asked for; or how it is refused.
+fn answer(
+    alloc: Global,
+    judge: &Judging<'_>,
+    telling: Telling,
+    moment: Moment,
+    rrsets: &[Rrset<'_>],
+    question: &StoredQuestion,
+) -> Result<Outcome, AllocError>
+    requires why { tells_why judge.now ≡ telling.why }
+    ensures { (basis : Basis) → IsCaseOf basis (case_of judge.now) → rrsets.now ≡ basis.rrsets
+        → basis.moment ≡ moment → IfOk result (λ outcome. IsAnswer telling.format telling.why basis question.now
+        outcome.status (string_bytes outcome.text)) }
+{
+    let name = question.name();
+    let asked = Asked {
+        name: &name,
+        rtype: question.rtype(),
+        moment,
+    };
+    match judge.report(alloc, &name, asked.rtype) {
+        Ok((report, told)) => outcome_by(alloc, telling.format, &asked, rrsets, &report, &told),
+        Err(error) => refused(alloc, telling, &asked, error),
+    }
+}
+
+/// How the question is refused, unless that is for want of memory.
+fn refused(
+    alloc: Global,
+    telling: Telling,
+    asked: &Asked<'_>,
+    error: VerdictError,
+) -> Result<Outcome, AllocError>
+    ensures { (basis : Basis) → basis.moment ≡ asked.now.moment
+        → (error ≡ VerdictError.OutOfMemory) ⊎ IsRefusal basis asked.now.name.now asked.now.rtype.0 error
+        → IfOk result (λ outcome. IsRefusedOne telling.format telling.why basis (record { name = asked.now.name.now; rtype = asked.now.rtype.0 })
+        outcome.status (string_bytes outcome.text)) }
+{
+    let Fault::Refused(_, _) = verdict_fault(error) else {
+        return Err(AllocError);
+    };
+    let status = Status::Refused;
+    let heading = Heading {
+        name: asked.name,
+        rtype: asked.rtype,
+        moment: asked.moment.seconds(),
+        status: status.code(),
+    };
+    let text = refused_text(alloc, telling.format, error.code(), telling.why, &heading)?;
+    Ok(Outcome { status, text })
+}
