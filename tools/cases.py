@@ -10,7 +10,7 @@ from dataclasses import dataclass
 
 EXAMPLES = pathlib.Path(__file__).resolve().parent.parent / "examples"
 LINE = re.compile(r"(\d+) (\S+(?: \S+)*)")
-FILES = ("--capture", "--anchors", "--statements", "--keys", "--macs")
+FILES = ("--capture", "--anchors", "--statements", "--keys", "--macs", "--questions")
 
 
 class WrongLine(ValueError):
@@ -28,6 +28,10 @@ class Example:
     @property
     def is_json(self) -> bool:
         return "--json" in self.words
+
+    @property
+    def asks_many(self) -> bool:
+        return "--questions" in self.words
 
     @property
     def stem(self) -> str:

@@ -29,6 +29,11 @@ class Json(unittest.TestCase):
         if jsonschema is not None:
             jsonschema.Draft7Validator(json.loads(SCHEMA.read_text())).validate(json.loads(line))
 
+    def assert_all_valid(self, example, text):
+        """So is each line of what is told of many questions, and all of what is told of one."""
+        for line in text.splitlines(keepends=True) if example.asks_many else [text]:
+            self.assert_valid(line)
+
     def test_examples_in_json_say_what_those_in_lines_say(self):
         there = {example.name: example for example in examples()}
         in_json = [example for example in there.values() if example.is_json]
@@ -38,7 +43,7 @@ class Json(unittest.TestCase):
                 lines, text = there[example.name.removesuffix(".json")], example.output.decode()
                 self.assertEqual((example.status, example.words), (lines.status, (*lines.words, "--json")))
                 self.assertEqual(text, self.as_json(lines.words, lines.output.decode()))
-                self.assert_valid(text)
+                self.assert_all_valid(example, text)
 
     def test_the_tool_says_one_example(self):
         wanted, = [example.output for example in examples() if example.name == "bind-www-a/explain.json"]
@@ -129,7 +134,7 @@ key b. rrset 3 record 2 tag 29000 algorithm 13 flags 257 signature 1 ds 2 1
                 status, output, errors = run_program(PROGRAM, *example.words, "--json", folder=example.folder)
                 self.assertEqual((status, errors), (example.status, ""))
                 self.assertEqual(output.decode(), self.as_json(example.words, example.output.decode()))
-                self.assert_valid(output.decode())
+                self.assert_all_valid(example, output.decode())
 
     @unittest.skipUnless(PROGRAM.exists(), "needs the built program")
     def test_show_has_no_json(self):

@@ -31,14 +31,26 @@ def value(word):
     if name in ("--capture", "--anchors", "--keys", "--macs"):
         text = hashlib.sha256(open(text, "rb").read()).hexdigest()
     return [name, text]
-words = sorted(value(word) for word in sys.argv[2:] if not word.startswith("--statements"))
-bogus = dict(BOGUS, **{name[2:]: text for name, text in words if name == "--name"},
-             **{name[2:]: int(text) for name, text in words if name in ("--type", "--moment")})
-bogus["why"] = [dict(MISSING, name=bogus["name"], type=bogus["type"], zone="bind.test.")]
-status, output, errors = told.get(json.dumps([sys.argv[1], words]), [5, json.dumps(bogus), ""])
-sys.stdout.write(output)
-sys.stderr.write(errors)
-sys.exit(status)
+def answer(given):
+    words = sorted(value(word) for word in given if not word.startswith("--statements"))
+    bogus = dict(BOGUS, **{name[2:]: text for name, text in words if name == "--name"},
+                 **{name[2:]: int(text) for name, text in words if name in ("--type", "--moment")})
+    bogus["why"] = [dict(MISSING, name=bogus["name"], type=bogus["type"], zone="bind.test.")]
+    status, output, errors = told.get(json.dumps([sys.argv[1], words]), [5, json.dumps(bogus) + "\\n", ""])
+    if asked and errors.startswith("refused 70"):
+        output, errors = json.dumps(dict(bogus, refused=int(errors[8:11]), status=7)) + "\\n", ""
+    return status, output, errors
+def questions(path):
+    for line in open(path):
+        name, kind = line.split()
+        yield ["--name=" + name, "--type=" + kind]
+given = [word for word in sys.argv[2:] if not word.startswith("--questions=")]
+asked = [word.partition("=")[2] for word in sys.argv[2:] if word not in given]
+answers = [answer([*given, *each]) for each in (questions(asked[0]) if asked else [[]])]
+for _, output, errors in answers:
+    sys.stdout.write(output)
+    sys.stderr.write(errors)
+sys.exit(max(status for status, _, _ in answers))
 """
 
 
@@ -64,7 +76,8 @@ class Example:
 def examples(end):
     """Those with names of this end, but for the cases that are there for a refusal or a failure."""
     return [Example(each) for each in cases.examples()
-            if each.name.endswith(f"/{end}") and not each.folder.name.startswith(("refuses-", "fails-"))]
+            if each.name.endswith(f"/{end}") and not each.folder.name.startswith(("refuses-", "fails-"))
+            and not each.asks_many]
 
 
 def digest_of(value):

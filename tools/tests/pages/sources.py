@@ -11,7 +11,8 @@ EQUATION = re.compile(r"^(\w+) (\S.*) = ([\w ]+)$", re.MULTILINE)
 # What each refusal is of, as the tools say it; a question is refused for its type or for what aliases lead to.
 WHERE = {"Name": {"name"}, "Question": {"type", "-"}, "KeyLine": {"keys"}, "MacSyntax": {"macs"}, "MacCount": {"macs"},
          "ZeroLength": {"capture"}, "TornFrame": {"capture"}, "Message": {"capture"}, "Tsig": {"capture"},
-         "Evidence": {"capture"}, "AnchorLine": {"anchors"}, "StatementLine": {"statements"}}
+         "Evidence": {"capture"}, "AnchorLine": {"anchors"}, "StatementLine": {"statements"},
+         "QuestionLine": {"questions"}}
 # Where the words of an explanation's lines are written, and the keys of their objects.
 LINES = ("dnsv_lines/src/**/*.rt",)
 
