@@ -11,11 +11,11 @@ given, each capture of a folder that `dnssec_check-capture --split` wrote is ask
 
 Without options a line is printed for each question, with the verdict, until when the signatures that carry it are
 valid, and what the aliases on the way lead to, or what is refused and what to do. Below it, where it isn't secure,
-stands why: what fails first (FAIL) with its extended DNS error [EDE N], what the zone has beside what is wanted (HAS),
-what follows (THEN), and how far the chain holds (HOLDS); where something may be unsigned, why (WHY). --tsv has a first
-line with the names of its columns: capture, moment (in seconds since 1970), name, type, status, verdict, evidence,
-until, reason, ede; --jsonl has the same values by these names. The verdict is the program's word, or `refused` or
-`fault`. What can't be shown in a line is written as `\\xNN`. --html writes a page besides, which loads nothing.
+stands why: what fails first (FAIL) with its extended DNS error [EDE N], and behind that what only lacks since nobody
+asked; what the zone has beside what is wanted (HAS), what follows (THEN), and how far the chain holds (HOLDS); where
+something may be unsigned, why (WHY). --tsv has a first line with the columns: capture, moment (in seconds since 1970),
+name, type, status, verdict, evidence, until, reason, ede, reasons; --jsonl has the values by these names. The verdict
+is the program's word, or `refused` or `fault`. What can't be shown is `\\xNN`. --html writes a page that loads nothing.
 
 What isn't verified of a capture within --budget and --budget-octets stays Unknown, so that a verdict is Pending that
 hangs on it. A line on the standard error says so, and how to give more.

@@ -43,3 +43,10 @@ def word_of(number: int) -> str:
         return mnemonic_of(number)
     except Failure:
         return f"TYPE{number}"
+
+
+def rcode_of_number(number: int) -> str:
+    """The mnemonic of a response code."""
+    from dns import rcode
+
+    return rcode.to_text(rcode.Rcode(number))

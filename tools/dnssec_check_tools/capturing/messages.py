@@ -7,9 +7,10 @@ HEADER_SIZE = 12
 MESSAGE_SIZE_MOST = 65535  # what two octets tell (RFC 1035 4.2.2)
 NAME_PARTS_MOST = 255  # of 127 labels, each behind a pointer, and the root
 QR, AA, TC, RA, CD, DO = 0x8000, 0x0400, 0x0200, 0x0080, 0x0010, 0x8000
-TYPE_NS, TYPE_CNAME, TYPE_OPT, TYPE_DS, TYPE_RRSIG, TYPE_NSEC, TYPE_DNSKEY, TYPE_NSEC3 = 2, 5, 41, 43, 46, 47, 48, 50
-TYPE_TSIG = 250
+TYPE_NS, TYPE_CNAME, TYPE_SOA, TYPE_OPT, TYPE_TSIG = 2, 5, 6, 41, 250
+TYPE_DS, TYPE_RRSIG, TYPE_NSEC, TYPE_DNSKEY, TYPE_NSEC3 = 43, 46, 47, 48, 50
 ANSWER, AUTHORITY, ADDITIONAL = range(3)
+SERVFAIL = 2  # of the RCODEs (RFC 1035 4.1.1)
 
 Labels = Tuple[bytes, ...]
 
@@ -159,6 +160,14 @@ def edns_of(octets: Octets) -> int:
 def rcode_of(octets: Octets) -> int:
     """How it went, of a whole message; the upper octet is in the OPT record."""
     return edns_of(octets) >> 24 << 4 | flags_of(octets) & 15
+
+
+def remedy_of(octets: Octets) -> Optional[str]:
+    """What to ask where a whole answer tells of the failure of a resolver; None for any other. One that validates keeps
+    back what is Bogus, and hands out what it has to who asks with CD (RFC 4035 3.2.2)."""
+    if rcode_of(octets) != SERVFAIL or not flags_of(octets) & RA:
+        return None
+    return "ask the servers of the zone" if flags_of(octets) & CD else "ask with CD (delv +cd)"
 
 
 def is_with_do(octets: Octets) -> bool:

@@ -2,13 +2,11 @@
 from typing import List, Optional, Sequence, Set
 from ..asking.kinds import word_of
 from .messages import (
-    CD,
-    RA,
+    SERVFAIL,
     TYPE_DNSKEY,
     TYPE_DS,
     TYPE_RRSIG,
     Labels,
-    flags_of,
     lower,
     name_at,
     name_text,
@@ -16,10 +14,10 @@ from .messages import (
     question_of,
     rcode_of,
     records_of,
+    remedy_of,
 )
 from .octets import Incomplete
 
-SERVFAIL = 2  # the RCODE (RFC 1035 4.1.1)
 SIGNER = 18  # where the signer's name stands in the RDATA of an RRSIG record (RFC 4034 3.1)
 
 
@@ -52,14 +50,13 @@ class Zones:
 
 
 def failure_of(octets: bytes) -> Optional[str]:
-    """What is to be said of an answer that tells of the server's failure. A validating resolver answers so where a name
-    is Bogus, and hands out what it has to who asks with CD (RFC 4035 3.2.2)."""
+    """What is to be said of an answer that tells of the server's failure."""
     question = question_of(octets)
     if question is None or rcode_of(octets) != SERVFAIL:
         return None
     said = f"the answer for {name_text(question.name)} {word_of(question.kind)} is SERVFAIL"
-    is_held_back = flags_of(octets) & RA and not flags_of(octets) & CD
-    return f"{said}: ask with CD (delv +cd)" if is_held_back else said
+    remedy = remedy_of(octets)
+    return f"{said}: {remedy}" if remedy else said
 
 
 def notes_of(messages: Sequence[bytes]) -> List[str]:

@@ -1,8 +1,7 @@
 """The chain of trust as boxes and edges: what a picture of an explanation has, whoever draws it."""
 from typing import Any, Dict, List, NamedTuple, Optional, Sequence, Tuple
 
-from .explanation import Line
-from .missing import DS, DNSKEY
+from .explanation import DNSKEY, DS, Line
 from .values import algorithm_name, digest_name, owned
 
 # How a box or an edge stands: it holds; it fails; it isn't there; it follows from what fails; or it just is. An edge

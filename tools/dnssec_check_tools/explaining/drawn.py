@@ -1,10 +1,10 @@
 """The boxes and edges that each line of an explanation puts into the picture of the chain."""
 from typing import Dict, List, Set, Tuple
-from .explanation import Explanation, Line
+from .explanation import DNSKEY, DS, Explanation, Line
 from .chain import FAILS, FOLLOWS, HOLDS, MISSING, PLAIN, UNDER
 from .chain import Chain, Key, anchor_box, ds_box, key_box, keys_box, rrset_box
 from .holding import UNUSABLE
-from .missing import DNAME, DNSKEY, DS, ROLES
+from .missing import DNAME, ROLES, is_unasked
 from .values import date, flag_names, owned
 from .vouchers import is_voucher
 
@@ -201,7 +201,12 @@ def unsigned(scene: Scene, line: Line) -> None:
 
 def at_zone(scene: Scene, line: Line) -> None:
     """What a zone lacks, as an empty box."""
-    scene.chain.add((line["word"], line["zone"]), line["zone"], (ABSENT[line["word"]],), MISSING)
+    scene.chain.add((line["word"], line["zone"]), line["zone"], absent(scene, line), MISSING)
+
+
+def absent(scene: Scene, line: Line) -> Tuple[str, ...]:
+    """What isn't there, and whether that is since nobody asked."""
+    return (ABSENT[line["word"]], *(["nobody asked"] if is_unasked(scene.told, line) else []))
 
 
 def at_name(scene: Scene, line: Line) -> None:
@@ -232,13 +237,14 @@ def dname(scene: Scene, line: Line) -> None:
 
 
 def question(scene: Scene, line: Line) -> None:
-    box = scene.chain.add((line["word"],), line.get("zone"), (ABSENT[line["word"]],), MISSING)
+    box = scene.chain.add((line["word"],), line.get("zone"), absent(scene, line), MISSING)
     scene.lead(box, MISSING)
 
 
 def cut(scene: Scene, line: Line) -> None:
     """A delegation of which nothing proves that it is unsigned, as an empty box with its name."""
-    box = scene.chain.add((line["word"], line["name"]), line["zone"], (ABSENT[line["word"]], line["name"]), MISSING)
+    text = (*absent(scene, line), line["name"])
+    box = scene.chain.add((line["word"], line["name"]), line["zone"], text, MISSING)
     scene.lead(box, MISSING)
 
 

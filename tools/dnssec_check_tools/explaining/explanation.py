@@ -1,15 +1,21 @@
-"""What a JSON object of `explain` says besides its lines, and what its lines say of keys."""
-from typing import Any, Dict, List
+"""What a JSON object of `explain` says besides its lines, what its lines say of keys, and what was asked for."""
+import functools
+from typing import Any, Dict, List, Optional, Sequence, Tuple
 
+from .replies import Replies, Reply
+
+DNSKEY, DS = 48, 43
 
 Line = Dict[str, Any]
+Asked = Tuple[str, int]  # a name and a type
 
 
 class Explanation:
-    """An object of `explain --json`."""
+    """An object of `explain --json`, with the replies of the capture, None where these aren't known."""
 
-    def __init__(self, value: Line) -> None:
+    def __init__(self, value: Line, replies: Optional[Sequence[Reply]] = None) -> None:
         self.value, self.now, self.lines = value, value["moment"], value["why"]
+        self.replies = None if replies is None else Replies(replies)
 
     def of(self, line: str) -> List[Line]:
         """The lines that begin with this word."""
@@ -30,3 +36,21 @@ class Explanation:
     def signing_tags(self, zone: str, rrset: int) -> List[int]:
         """The tags of the keys that sign the DNSKEY RRset they are in."""
         return sorted({each["tag"] for each in self.keys(zone) if each["rrset"] == rrset and "signature" in each})
+
+    def reply(self, name: str, kind: int) -> Optional[Reply]:
+        """How a message answers what was asked; None where nobody asked, or nothing is known of it."""
+        return self.replies.to(name, kind) if self.replies else None
+
+    def is_unasked(self, name: str, kind: int) -> bool:
+        """Whether it's known that no message answers this."""
+        return self.replies is not None and self.replies.to(name, kind) is None
+
+    @functools.cached_property
+    def denied(self) -> Optional[Asked]:
+        """What a denial is needed of where something fails: a delegation's DS, or what is asked for."""
+        for line in self.of("reason"):
+            if line["word"] == "ds-unproved":
+                return line["name"], DS
+            if line["word"] in ("answer-missing", "denial-unproved"):
+                return line["name"], line["type"]
+        return None

@@ -1,6 +1,6 @@
 """What holds, a sentence for each line that says it."""
-from .explanation import Explanation, Line
-from .missing import DNSKEY, DS, ROLES
+from .explanation import DNSKEY, DS, Explanation, Line
+from .missing import ROLES
 from .said import HAS, HOLDS, WHY, Said
 from .values import SECTIONS, ZONE_KEY, algorithm_name, date, digest_name, flag_names, key_name, owned, until
 

@@ -1,9 +1,12 @@
 """What isn't there, and what is there and proves something else."""
-from .explanation import Explanation, Line
+from typing import Optional
+
+from .explanation import DNSKEY, DS, Asked, Explanation, Line
+from .replies import Reply
 from .said import Words
 from .values import all_of, key_name, owned
 
-DNSKEY, DS, DNAME = 48, 43, 39
+DNAME = 39
 # What a part of a proof is for.
 ROLES = {
     "closest-encloser": "closest encloser",
@@ -12,18 +15,52 @@ ROLES = {
     "name": "name asked for",
     "cut": "delegation",
 }
+UNASKED = "nobody asked for it, or its answer was lost or truncated"
+# The words of what a zone lacks, by type; and of what is needed of a denial.
+OF_ZONES = {"dnskey-missing": DNSKEY, "ds-missing": DS}
+OF_DENIALS = {"match-missing", "encloser-missing", "cover-missing", "answer-missing", "denial-unproved", "ds-unproved"}
+
+
+def is_unasked(told: Explanation, line: Line) -> bool:
+    """Whether a reason is there for nobody asked: that isn't what is wrong where something else is."""
+    asked = asked_of(told, line)
+    return asked is not None and told.is_unasked(*asked)
+
+
+def asked_of(told: Explanation, line: Line) -> Optional[Asked]:
+    """What has to be asked so that the line isn't told; None where it isn't a matter of that."""
+    if line["word"] in OF_ZONES:
+        return line["zone"], OF_ZONES[line["word"]]
+    return told.denied if line["word"] in OF_DENIALS else None
+
+
+def answered(told: Explanation, asked: Asked, none: str = "that there is none") -> Optional[str]:
+    """What was answered to who asked, or that nobody did; None where nothing is known of it."""
+    reply = told.reply(*asked)
+    return reply.text(none) if reply else UNASKED if told.is_unasked(*asked) else None
 
 
 def no_anchor(_told: Explanation, line: Line) -> Words:
     return line["zone"], "no trust anchor is at or above it"
 
 
-def dnskey_missing(_told: Explanation, line: Line) -> Words:
-    return owned(line["zone"], DNSKEY), "the capture has no keys of the zone"
+def dnskey_missing(told: Explanation, line: Line) -> Words:
+    zone = line["zone"]
+    text = answered(told, (zone, DNSKEY), "that there are none") or "the capture has no keys of the zone"
+    return owned(zone, DNSKEY), text + without_keys(told, zone)
 
 
-def ds_missing(_told: Explanation, line: Line) -> Words:
-    return owned(line["zone"], DS), "the capture has no DS of the zone, and there is no anchor for it"
+def without_keys(told: Explanation, zone: str) -> str:
+    """What to do with a zone that says that it has no keys, and has a DS."""
+    reply = told.reply(zone, DNSKEY)
+    parents = [line["signer"] for line in told.of("signed") if (line["owner"], line["type"]) == (zone, DS)]
+    is_unsigned = reply is not None and reply.is_of_none() and parents
+    return f": take the DS out of {parents[0]}, or sign the zone" if is_unsigned else ""
+
+
+def ds_missing(told: Explanation, line: Line) -> Words:
+    text = answered(told, (line["zone"], DS)) or "the capture has no DS of the zone"
+    return owned(line["zone"], DS), f"{text}, and there is no anchor for it"
 
 
 def not_self_signed(told: Explanation, line: Line) -> Words:
@@ -92,14 +129,31 @@ def cover_missing(_told: Explanation, line: Line) -> Words:
     return line["name"], f"no {source(line)} proves that it isn't there ({ROLES[line['role']]})"
 
 
-def answer_missing(_told: Explanation, line: Line) -> Words:
+def answer_missing(told: Explanation, line: Line) -> Words:
+    name, kind = line["name"], line["type"]
     by = f" by {line['zone']}" if "zone" in line else ""
-    return owned(line["name"], line["type"]), f"the capture has no such record, and no proof{by} that there is none"
+    text = f"the capture has no such record, and no proof{by} that there is none"
+    said, reply = answered(told, (name, kind)), told.reply(name, kind)
+    if said and reply and reply.is_of_none():
+        said += without_denials(reply, line.get("zone", "a zone above it"))
+    return owned(name, kind), said or text
 
 
-def denial_unproved(_told: Explanation, line: Line) -> Words:
-    return owned(line["name"], line["type"]), f"what {line['zone']} says doesn't prove that there is none"
+def without_denials(reply: Reply, zone: str) -> str:
+    return " with no NSEC or NSEC3 record" + (f" of {zone}" if reply.has_denials else "")
 
 
-def ds_unproved(_told: Explanation, line: Line) -> Words:
-    return owned(line["name"], DS), f"nothing that {line['zone']} says proves that there is none"
+def denial_unproved(told: Explanation, line: Line) -> Words:
+    text = f"what {line['zone']} says doesn't prove that there is none"
+    return owned(line["name"], line["type"]), with_answer(told, (line["name"], line["type"]), text)
+
+
+def ds_unproved(told: Explanation, line: Line) -> Words:
+    text = f"nothing that {line['zone']} says proves that there is none"
+    return owned(line["name"], DS), with_answer(told, (line["name"], DS), text)
+
+
+def with_answer(told: Explanation, asked: Asked, text: str) -> str:
+    """What isn't proved, behind what was answered."""
+    said = answered(told, asked)
+    return f"{said}; {text}" if said else text

@@ -1,9 +1,9 @@
 """The sentences of an explanation: the verdict; then what fails first, what the zone has beside what is wanted, what
 follows, and how far it holds. All of it is from one JSON object of `explain`."""
 from typing import Dict, List, Optional
-from .explanation import Explanation, Line
+from .explanation import DNSKEY, Explanation, Line
 from . import holding
-from .missing import DNSKEY
+from .missing import is_unasked
 from .reasons import follows, reason
 from .said import HOLDS, Said
 from .values import counted, owned, until
@@ -45,17 +45,20 @@ def holds_until(told: Explanation) -> Optional[int]:
     return next((line["to"] for line in told.of("holds")), None)
 
 
-def first_reason(told: Explanation) -> Optional[Said]:
-    """The first fact that fails; None where none is said."""
-    return next((reason(told, line) for line in told.of("reason")), None)
+def reasons(told: Explanation) -> List[Said]:
+    """The facts that fail, each once: RRsets that came several times may have equal sentences. What is only lacking
+    since nobody asked for it stands behind what the evidence shows to be wrong."""
+    lines = sorted(told.of("reason"), key=lambda line: is_unasked(told, line))
+    return list(dict.fromkeys(reason(told, line) for line in lines))
 
 
 def why(told: Explanation) -> List[Said]:
-    """Why the verdict isn't secure; nothing of one that is. RRsets that came several times may have equal sentences,
-    each of which is said once."""
-    words = ("reason", "key", "follows") if told.value["verdict"] in FAILING else ("case", "unusable", "hope")
-    said = list(dict.fromkeys(sentence(told, line) for word in words for line in told.of(word)))
-    return said + how_far(told) if said and told.value["verdict"] in FAILING else said
+    """Why the verdict isn't secure; nothing of one that is."""
+    is_failing = told.value["verdict"] in FAILING
+    words = ("key", "follows") if is_failing else ("case", "unusable", "hope")
+    others = dict.fromkeys(sentence(told, line) for word in words for line in told.of(word))
+    said = [*(reasons(told) if is_failing else ()), *others]
+    return said + how_far(told) if said and is_failing else said
 
 
 def how_far(told: Explanation) -> List[Said]:

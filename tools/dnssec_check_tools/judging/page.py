@@ -1,7 +1,6 @@
 """The page of HTML that --html writes."""
 from typing import Dict, List, Tuple
 from ..asking.kinds import mnemonic_of
-from ..explaining.explanation import Explanation
 from ..explaining.page import Entry, library, page_of
 from ..explaining.picture import program
 
@@ -27,8 +26,7 @@ class Page:
     def add(self, path: str, row: Row) -> None:
         """A verdict."""
         question = f"{row.question.name} {mnemonic_of(row.question.kind)}"
-        told = Explanation(row.explained) if row.explained else None
-        self.entries.append(Entry(question, self.lines.said(path, row), path, row.moment, told))
+        self.entries.append(Entry(question, self.lines.said(path, row), path, row.moment, row.told()))
 
     def octets(self) -> bytes:
         captures = [self.records[number] for number in sorted(self.records)]

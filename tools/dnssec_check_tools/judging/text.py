@@ -5,17 +5,16 @@ from typing import Dict, List, Optional, Tuple
 from ..asking.faults import escaped
 from ..asking.kinds import mnemonic_of
 from ..asking.moments import moment_text
-from ..explaining.explanation import Explanation
-from ..explaining.sentences import first_reason, holds_until, verdict, why
-
 from ..explaining.said import Said
+from ..explaining.sentences import holds_until, reasons, verdict, why
 from ..program import Json
 from .numbers import fault_text
 from .work import Row
 
-COLUMNS = ("capture", "moment", "name", "type", "status", "verdict", "evidence", "until", "reason", "ede")
+COLUMNS = ("capture", "moment", "name", "type", "status", "verdict", "evidence", "until", "reason", "ede", "reasons")
 PLACES = ("message", "record", "line", "file")
 INDENT = "  "
+BETWEEN = " | "  # two reasons of a table
 
 
 def fields_of(capture: str, row: Row) -> Json:
@@ -25,11 +24,15 @@ def fields_of(capture: str, row: Row) -> Json:
     return dict(zip(COLUMNS, values))
 
 
-def why_fields(row: Row) -> Tuple[Optional[int], Optional[str], Optional[int]]:
-    """Until when the verdict holds, and the first reason with its extended DNS error; None of each that isn't said."""
-    told = Explanation(row.explained) if row.explained else None
-    end, said = (holds_until(told), first_reason(told)) if told else (None, None)
-    return (end, f"{said.about}: {said.text}", said.ede) if said else (end, None, None)
+def why_fields(row: Row) -> Tuple[Optional[int], Optional[str], Optional[int], List[Json]]:
+    """Until when the verdict holds; the first reason with its extended DNS error, None of each that isn't said; and all
+    reasons."""
+    told = row.told()
+    said: List[Json] = (
+        [{"reason": f"{each.about}: {each.text}", "ede": each.ede} for each in reasons(told)] if told else []
+    )
+    first: Json = said[0] if said else {"reason": None, "ede": None}
+    return (holds_until(told) if told else None), first["reason"], first["ede"], said
 
 
 def json_line(capture: str, row: Row) -> str:
@@ -37,12 +40,17 @@ def json_line(capture: str, row: Row) -> str:
 
 
 def tsv_line(capture: str, row: Row) -> str:
-    fields = {**fields_of(capture, row), "evidence": evidence_words(row.evidence)}
+    fields = fields_of(capture, row)
+    fields.update(evidence=evidence_words(row.evidence), reasons=reasons_words(fields["reasons"]))
     return "\t".join("" if value is None else escaped(str(value)) for value in fields.values())
 
 
 def tsv_head() -> str:
     return "\t".join(COLUMNS)
+
+
+def reasons_words(told: List[Json]) -> str:
+    return BETWEEN.join(each["reason"] + (f" [EDE {each['ede']}]" if each["ede"] else "") for each in told)
 
 
 def evidence_words(evidence: Json) -> str:
@@ -79,14 +87,16 @@ class Lines:
         return "\n".join(map(escaped, lines))
 
     def said(self, capture: str, row: Row) -> str:
-        if row.explained is None:
+        told = row.told()
+        if told is None:
             return f"{row.word} " + fault_text(row.evidence, {**self.paths, "capture": capture})
-        return "; ".join([verdict(Explanation(row.explained)), *aliases_texts(row.evidence)])
+        return "; ".join([verdict(told), *aliases_texts(row.evidence)])
 
 
 def reasons_of(row: Row) -> List[Said]:
     """The sentences that say why the verdict isn't secure."""
-    return why(Explanation(row.explained)) if row.explained else []
+    told = row.told()
+    return why(told) if told else []
 
 
 def aliases_texts(evidence: Json) -> List[str]:

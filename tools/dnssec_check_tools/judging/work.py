@@ -1,13 +1,18 @@
 """A capture judged: verified once, and asked each question at each moment. All that it reads is octets."""
 import contextlib
-from typing import Dict, List, NamedTuple, Optional
+from typing import Dict, List, NamedTuple, Optional, Tuple
 
 from ..asking.questions import Question
+from ..capturing.frames import frames_of
+from ..explaining.explanation import Explanation
+from ..explaining.replies import Reply
+from ..explaining.sentences import FAILING
 from ..program import EXPLAIN, FAILED, Files, Json, Program, Told, Unlisted
 from ..started import nameless
 from ..verifying.verifier import Budget
 
 from .evidence import Evidence
+from .replies import replies_of
 from .statements import STATEMENTS, statements_on
 
 DENYING = {47: "NSEC", 50: "NSEC3"}
@@ -24,7 +29,8 @@ class Common(NamedTuple):
 
 
 class Row(NamedTuple):
-    """A verdict: its word, what carries it by name, and the object that says why, None where there is none."""
+    """A verdict: its word, what carries it by name, and the object that says why, None where there is none; where it
+    isn't secure, with how the messages of the capture answer what was asked."""
 
     moment: int
     question: Question
@@ -32,6 +38,10 @@ class Row(NamedTuple):
     word: str
     evidence: Json
     explained: Optional[Json]
+    replies: Optional[Tuple[Reply, ...]] = None
+
+    def told(self) -> Optional[Explanation]:
+        return Explanation(self.explained, self.replies) if self.explained else None
 
 
 class Judged(NamedTuple):
@@ -78,6 +88,7 @@ class View:
     def __init__(self, octets: bytes) -> None:
         self.octets = octets
         self.kept: Optional[Evidence] = None
+        self.kept_replies: Optional[Tuple[Reply, ...]] = None
 
     @property
     def evidence(self) -> Evidence:
@@ -86,13 +97,21 @@ class View:
             self.kept = Evidence(self.octets)
         return self.kept
 
+    @property
+    def replies(self) -> Tuple[Reply, ...]:
+        """Read where a verdict fails."""
+        if self.kept_replies is None:
+            self.kept_replies = replies_of(frames_of(self.octets)[0])
+        return self.kept_replies
+
     def row(self, moment: int, question: Question, told: Told) -> Row:
         if told.value is None:
             return Row(moment, question, told.status, told.word, of_fault(told.said), None)
         aliases = told.value["aliases"]
         evidence = {"aliases": [self.of_alias(each) for each in aliases]} if aliases else {}
         evidence.update(self.evidence_of(told.value))
-        return Row(moment, question, told.status, told.word, evidence, told.value)
+        replies = self.replies if told.word in FAILING else None
+        return Row(moment, question, told.status, told.word, evidence, told.value, replies)
 
     def evidence_of(self, value: Json) -> Json:
         """What carries the verdict, besides the aliases."""

@@ -227,9 +227,9 @@ class Notes(unittest.TestCase):
         self.assertEqual(self.told(failed, answer("www.Stale.test.", "A", flags=0x8582)), [f"{said}: ask with CD (delv +cd)"])
 
     def test_a_failure_that_CD_does_not_mend(self):
-        for flags in (0x8192, 0x8402, 0x8412):
+        for flags, remedy in ((0x8192, ": ask the servers of the zone"), (0x8402, ""), (0x8412, "")):
             self.assertEqual(self.told(answer("www.stale.test.", "AAAA", flags=flags)),
-                             ["the answer for www.stale.test. AAAA is SERVFAIL"])
+                             [f"the answer for www.stale.test. AAAA is SERVFAIL{remedy}"])
 
     def test_a_failure_is_told_without_dnspython(self):
         with mock.patch("dnssec_check_tools.asking.kinds.table", side_effect=Failure("no dnspython")):

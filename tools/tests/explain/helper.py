@@ -18,10 +18,11 @@ def told_of(name):
     return Explanation(json.loads((DATA / "explain" / f"{name}.json").read_text()))
 
 
-def told_by(*lines, verdict="Bogus", moment=NOON, **others):
+def told_by(*lines, verdict="Bogus", moment=NOON, replies=None, **others):
     """An explanation of these lines."""
-    return Explanation({"command": "explain", "name": "www.example.", "type": 1, "moment": moment, "verdict": verdict, "status": 5,
-                 "aliases": [], **others, "why": list(lines)})
+    value = {"command": "explain", "name": "www.example.", "type": 1, "moment": moment, "verdict": verdict, "status": 5,
+             "aliases": [], **others, "why": list(lines)}
+    return Explanation(value, replies)
 
 
 def values_of(key, form):

@@ -65,6 +65,16 @@ class Drawn(unittest.TestCase):
         self.assertEqual({text for text, state in boxes.items() if state == chain.MISSING}, {
             "no NSEC3 other-name.ldns.test. next closer name", "no NSEC3 other-name.ldns.test.", "no proof"})
 
+    def test_what_nobody_asked_for_is_marked(self):
+        lines = [{"line": "reason", "word": "dnskey-missing", "ede": 9, "zone": "a."},
+                 {"line": "reason", "word": "ds-unproved", "ede": 12, "name": "b.a.", "zone": "a."},
+                 {"line": "reason", "word": "answer-missing", "ede": 12, "name": "b.a.", "type": 1}]
+        texts = ["no DNSKEY", "no proof that it is unsigned b.a.", "no answer"]
+        for replies, behind in ((None, ""), ((), " nobody asked")):
+            for line, text in zip(lines, texts):
+                boxes, _ = states_of(told_by(line, replies=replies))
+                self.assertIn(f"{text.removesuffix(' b.a.')}{behind}{' b.a.' * text.endswith(' b.a.')}", boxes)
+
     def test_the_text_for_graphviz_quotes_what_strangers_wrote(self):
         self.assertEqual(picture.quoted(['a"b', "\\000&lt;", "{|}"]), r'"a\"b\n\\000&amp;lt;\n{|}"')
         self.assertEqual(picture.broken("a.test. A"), ["a.test. A"])

@@ -171,9 +171,9 @@ class Samples(unittest.TestCase):
         for there, text in ((keys, "'s is of RSASHA256 and ED25519"), (keys[2:], " has 7"), ([], " has no such key")):
             self.assertEqual(texts(told_by(reason, *there))[0], f"{front}{text} [EDE 9]")
 
-    def test_the_first_reason(self):
-        self.assertEqual(sentences.first_reason(told_of("roll-gone")).ede, 9)
-        self.assertIsNone(sentences.first_reason(told_by()))
+    def test_the_reasons(self):
+        self.assertEqual([said.ede for said in sentences.reasons(told_of("expired-www-a"))], [7, 7])
+        self.assertEqual(sentences.reasons(told_by()), [])
 
     @unittest.skipIf(jsonschema is None, "needs python3-jsonschema")
     def test_the_samples_have_the_schema(self):

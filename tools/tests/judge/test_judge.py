@@ -11,7 +11,7 @@ from .helper import ANCHORS, EXAMPLES, JUDGE, NOON, Judging, capture_of, needs_d
 WWW, NOSUCH, CUT = map(capture_of, ("bind-www-a", "bind-nosuch", "bind-cut-www"))
 BAD_NAMES = ("a b", "it's", "*", "a;touch X", "$(touch X)", "`touch X`", "back\\slash", "two\nlines", "-x", "tab\tbed",
              'quo"ted', "esc\x1b[2J", os.fsdecode(b"octet\xff"))
-MISSING = "the capture has no such record, and no proof by bind.test. that there is none"
+MISSING = "nobody asked for it, or its answer was lost or truncated"
 
 
 @needs_dns
@@ -66,16 +66,17 @@ class Lines(Judging):
 
     def test_tables(self):
         status, lines, _ = self.noon("--tsv", NOSUCH, WWW, "nosuch.bind.test/A")
-        head = "capture\tmoment\tname\ttype\tstatus\tverdict\tevidence\tuntil\treason\tede"
+        head = "capture\tmoment\tname\ttype\tstatus\tverdict\tevidence\tuntil\treason\tede\treasons"
         row = (f"{NOSUCH}\t{NOON}\tnosuch.bind.test.\tA\t0\tSecureNoName\trecord nodatalias.bind.test. NSEC; record bind.test. NSEC"
-               "\t1803859200\t\t")
-        bogus = f"{WWW}\t{NOON}\tnosuch.bind.test.\tA\t5\tBogus\t\t\tnosuch.bind.test. A: {MISSING}\t12"
+               "\t1803859200\t\t\t")
+        said = f"nosuch.bind.test. A: {MISSING}"
+        bogus = f"{WWW}\t{NOON}\tnosuch.bind.test.\tA\t5\tBogus\t\t\t{said}\t12\t{said} [EDE 12]"
         self.assertEqual((status, lines), (5, [head, row, bogus]))
         _, lines, _ = self.noon("--jsonl", WWW, "www.bind.test/A")
         carried = {"rrset": 6, "signature": 1, "signer": "bind.test.", "key": 11133}
         self.assertEqual(json.loads(lines[0]), {"capture": str(WWW), "moment": int(NOON), "name": "www.bind.test.", "type": "A",
                                                 "status": 0, "verdict": "SecureAnswer", "evidence": carried,
-                                                "until": 1803859200, "reason": None, "ede": None})
+                                                "until": 1803859200, "reason": None, "ede": None, "reasons": []})
 
     def test_several_at_once_give_the_same(self):
         for number in range(7):
@@ -170,7 +171,7 @@ class Words(Judging):
         for words, count in (((WWW, "--questions", questions), len(asked)), ((self.room, "www.bind.test/A"), len(BAD_NAMES))):
             status, lines, errors = self.noon("--tsv", *words)
             self.assertEqual((status in (0, 5, 7), errors, len(lines)), (True, "", 1 + count))
-            self.assertTrue(all(line.count("\t") == 9 and line.replace("\t", "").isprintable() for line in lines))
+            self.assertTrue(all(line.count("\t") == 10 and line.replace("\t", "").isprintable() for line in lines))
         told = {os.fsencode(json.loads(line)["capture"]) for line in self.noon("--jsonl", self.room, "www.bind.test/A")[1]}
         self.assertEqual(told, {os.fsencode(self.room / f"{name}.cap") for name in BAD_NAMES})
         self.assertFalse((self.room / "X").exists() or os.path.exists("X"))
@@ -211,7 +212,7 @@ class Ends(Judging):
         path.symlink_to(self.room / "nowhere")
         status, lines, _ = self.noon("--tsv", path, WWW, "www.bind.test/A")
         self.assertEqual((status, len(lines)), (1, 3))
-        self.assertEqual(lines[1], f"{path}\t{NOON}\twww.bind.test.\tA\t1\tfault\t811 capture\t\t\t")
+        self.assertEqual(lines[1], f"{path}\t{NOON}\twww.bind.test.\tA\t1\tfault\t811 capture\t\t\t\t")
 
     def test_a_read_that_fails(self):
         """A file that opens and can't be read where it begins, by its name and as the standard input."""

@@ -5,7 +5,7 @@ import tempfile
 import unittest
 
 from dnssec_check_tools.asking.questions import Question
-from dnssec_check_tools.judging.text import Lines, json_line, tsv_line
+from dnssec_check_tools.judging.text import Lines, json_line, tsv_head, tsv_line
 from dnssec_check_tools.judging.work import Common, judged
 from dnssec_check_tools.program import Program
 from tool import DATA
@@ -46,11 +46,15 @@ class Why(unittest.TestCase):
         self.assertEqual(lines, ["www.bind.test. A: Indeterminate",
                                  "  FAIL www.bind.test.: no trust anchor is at or above it [EDE 5]"])
 
-    def test_tables_have_the_first_reason(self):
-        row, text = self.row("roll-gone"), "shop.example.test. DNSKEY: the DS names key 43646; the zone has 29000 and 45316"
+    def test_tables_have_the_first_reason_and_all(self):
+        row, by = self.row("expired-www-a"), "the signature by key 53641"
+        end = "expired on 2026-10-01 (52 days ago)"
+        said = [f"expired.test. DNSKEY: {by} {end}", f"www.expired.test. A: {by} of expired.test. {end}"]
         value = json.loads(json_line("x.cap", row))
-        self.assertEqual([value[name] for name in ("until", "reason", "ede")], [None, text, 9])
-        self.assertEqual(tsv_line("x.cap", row).split("\t")[7:], ["", text, "9"])
+        self.assertEqual([value[name] for name in ("until", "reason", "ede")], [None, said[0], 7])
+        self.assertEqual(value["reasons"], [{"reason": text, "ede": 7} for text in said])
+        self.assertEqual(tsv_line("x.cap", row).split("\t")[7:], ["", said[0], "7", f"{said[0]} [EDE 7] | {said[1]} [EDE 7]"])
+        self.assertEqual(len(tsv_head().split("\t")), len(tsv_line("x.cap", row).split("\t")))
 
 
 if __name__ == "__main__":
