@@ -7,15 +7,17 @@ from tool import PACKAGE, TOOLS
 
 SCRIPTS = (
     "pages", "faults", "examples", "as-json", "cases.py", "check", "packages", "lint", "does-not-compile", "wrong-bodies",
-    "fuzz"
+    "fuzz", "incidents"
 )
-FOLDERS = (PACKAGE, *(TOOLS / name for name in ("failing", "as_json", "checking", "wrong_bodies", "fuzzing")))
+FOLDERS = (PACKAGE, *(TOOLS / name for name in ("failing", "as_json", "checking", "wrong_bodies", "fuzzing", "breaking")))
 NAMES = [*SCRIPTS, *(str(path.relative_to(TOOLS)) for folder in FOLDERS for path in sorted(folder.rglob("*.py")))]
 # What each part imports besides itself; dnspython (`dns`), distributed and rich only where they're needed.
 PARTS = {
     "pages": {"dnssec_check_tools"},
     "faults": {"cases", "dnssec_check_tools", "failing"},
     "failing": {"cases", "dnssec_check_tools", "messages", "zones"},  # the last two of rows
+    "incidents": {"breaking", "dnssec_check_tools"},
+    "breaking": {"dns"},
     "fuzz": {"dnssec_check_tools", "fuzzing"},
     "fuzzing": {"dnssec_check_tools"},
     "fuzzing/targets": {"cryptography", "dns", "dnssec_check_tools"},

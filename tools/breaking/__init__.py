@@ -1,0 +1,1 @@
+"""The zones that tools/incidents breaks on loopback, what serves them, and what programs say of them."""

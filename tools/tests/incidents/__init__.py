@@ -1,0 +1,2 @@
+"""Tests of tools/incidents."""
+import tool  # noqa: F401
