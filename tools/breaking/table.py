@@ -13,7 +13,7 @@ from .ways import WAYS, judged
 
 MARKS = ("FAIL", "WHY")
 HEAD = ("Incident", "`dnssec_check-judge`", *(f"`{name}`" for name in OTHERS))
-# What changes from run to run: moments, and numbers but for those of extended DNS errors and within words and addresses.
+# What changes from run to run: moments, and numbers but for extended DNS errors and those within words and addresses.
 DATE = r"\d{4}-\d\d-\d\d(?:T[\d:]+Z| [\d:]+\+00:00)?"
 VARYING = re.compile(rf"{DATE}|(?<!EDE )(?<![\w.-])\d+(?![\w.-]*\w)")
 BASE64 = re.compile(r"[A-Za-z0-9+/]{40,}=*")

@@ -15,12 +15,14 @@ fragments and of every encapsulation that it knows. A file of --dnsviz is the ou
 servers' answers to a question the first is kept that is whole, without an error, and to a query with the flag DO; else
 one that lacks the last of these, or the last two.
 
-Dropped, each with a line on the standard error that says which and why, are queries, responses to what is no question
-(NOTIFY, UPDATE), truncated answers (the flag TC), repeats (only the identifier differs from an earlier message), what
-is too short or too long for a message, and what a packet capture doesn't have whole. Packets of other ports than those
-of --port, and of what isn't UDP or TCP straight over IP, are passed over, and a line counts and names them. Notes tell
-what the answers lack: signatures, or the DNSKEY records of a signer; and which are SERVFAIL, as a resolver that
-validates answers where a name is Bogus: with the flag CD (`delv +cd`) it hands out what it has.
+Dropped, each with a line on the standard error that says which and why, are responses to what is no question (NOTIFY,
+UPDATE), truncated answers (the flag TC), repeats (only the identifier differs from an earlier message), what is too
+short or too long for a message, and what a packet capture doesn't have whole. Queries are dropped too, and counted in
+one line. Packets of other ports than those of --port, and of what isn't UDP or TCP straight over IP, are passed over,
+and a line counts and names them. Last come the notes, of what costs a verdict: answers that are truncated and weren't
+asked again by TCP; signatures, or the DNSKEY records of a signer, that aren't there; and which answers are SERVFAIL, as
+a resolver that validates answers where a name is Bogus: with the flag CD (`delv +cd`) it hands out what it has. With
+--quiet nothing but notes and refusals is told.
 
 With --macs, what `dnssec_check check --macs` reads is written too: for each message of the capture file a line with the
 MAC of the request that it answers (TSIG, RFC 8945), in hex, or `-` where the request wasn't signed. The request is the
@@ -42,86 +44,16 @@ SIGHUP.
 """
 import argparse
 import itertools
-from typing import Any, Dict, Iterable, Iterator, List, Optional, Tuple
+from typing import Any, Iterable, List, Optional
 
-from .capturing.entries import Entry, Message, Omission, PassedOver, Place, Refusal
-from .capturing.frames import MESSAGES_MOST, framed
-from .capturing.messages import HEADER_SIZE, MESSAGE_SIZE_MOST, is_query, is_truncated, opcode_of, question_text
+from .capturing.answers import Answers, macs_of
+from .capturing.entries import PassedOver, Refusal
+from .capturing.frames import framed
 from .capturing.notes import notes_of
-from .capturing.requests import Requests
 from .capturing.sources import entries_of
 from .capturing.splitting import write_captures
 from .command import parser_of, run, shown, tell, write
 from .outputs import is_same_output, overwritten
-
-MAC_SIZE = 32
-QUERY = 0  # the opcode (RFC 1035 4.1.1)
-
-
-# Messages
-
-
-def reason_against(octets: bytes, mac: Optional[bytes], earlier: Dict[bytes, Place]) -> Optional[str]:
-    """Why a message is no part of the capture file, None where it is one."""
-    if len(octets) < HEADER_SIZE:
-        return "too short for a message"
-    if len(octets) > MESSAGE_SIZE_MOST:
-        return "too long for a message"
-    question = question_text(octets)
-    if is_query(octets):
-        return f"a query: {question}"
-    if opcode_of(octets) != QUERY:
-        return f"a response of opcode {opcode_of(octets)}, which answers no question: {question}"
-    if is_truncated(octets):
-        return f"truncated: {question}"
-    if mac is None:
-        return f"its request isn't among the messages before it: {question}"
-    if octets[2:] in earlier:
-        return f"repeats {earlier[octets[2:]]}: {question}"
-    return None
-
-
-def macs_of(entries: List[Entry]) -> Iterator[Optional[bytes]]:
-    """For each entry the MAC of the request that it answers, None where none before it is that request."""
-    requests = Requests()
-    for each in entries:
-        mac = None
-        if isinstance(each, Message) and len(each.octets) >= HEADER_SIZE:
-            if is_query(each.octets):
-                requests.keep(each)
-            else:
-                mac = requests.mac_for(each)
-        yield mac
-
-
-def refuse_excess(message: Message, mac: bytes, count: int) -> None:
-    """Refuses what a capture file, or a file of MACs, can't have."""
-    question = question_text(message.octets)
-    if count == MESSAGES_MOST:
-        raise Refusal(
-            f"{message.place} is message {MESSAGES_MOST + 1}, and a capture has at most {MESSAGES_MOST} "
-            f"(see --split): identifier {message.octets[:2].hex()}, {question}"
-        )
-    if mac and len(mac) != MAC_SIZE:
-        raise Refusal(
-            f"{message.place}: the MAC of its request has {len(mac)} octets, and that of hmac-sha256 has "
-            f"{MAC_SIZE}: {question}"
-        )
-
-
-def answers_of(entries: List[Entry], macs: Iterable[Optional[bytes]], is_limited: bool) -> List[Tuple[bytes, bytes]]:
-    """The messages that are kept, with the MACs of their requests; each other one is told."""
-    answers: List[Tuple[bytes, bytes]] = []
-    earlier: Dict[bytes, Place] = {}
-    for each, mac in zip(entries, macs):
-        why = each.why if isinstance(each, Omission) else reason_against(each.octets, mac, earlier)
-        if isinstance(each, Omission) or mac is None or why:
-            tell(f"dropped {each.place}: {why}")
-        else:
-            refuse_excess(each, mac, len(answers) if is_limited else 0)
-            answers.append((each.octets, mac))
-            earlier[each.octets[2:]] = each.place
-    return answers
 
 
 def passed_over_text(entry: PassedOver) -> str:
@@ -138,6 +70,9 @@ def port(text: str) -> int:
     raise argparse.ArgumentTypeError(f"{text!r} is no number from 1 to 65535")
 
 
+WITHOUT_VALUE = ("--help", "--version", "--quiet")
+
+
 class Source(argparse.Action):
     """Keeps the files of all kinds in the order of the command line."""
 
@@ -148,7 +83,7 @@ class Source(argparse.Action):
 
 
 def with_options(words: List[str]) -> List[str]:
-    """The words with an option at each file that is named alone; each option but --help and --version has a value."""
+    """The words with an option at each file that is named alone; each option but some has a value."""
     given: List[str] = []
     left = iter(words)
     for word in left:
@@ -156,7 +91,7 @@ def with_options(words: List[str]) -> List[str]:
             return given + [f"--file={name}" for name in left]
         is_file = word == "-" or not word.startswith("-")
         given.append(f"--file={word}" if is_file else word)
-        if word.startswith("--") and "=" not in word and word not in ("--help", "--version"):
+        if word.startswith("--") and "=" not in word and word not in WITHOUT_VALUE:
             given += itertools.islice(left, 1)
     return given
 
@@ -174,6 +109,7 @@ def command_line() -> argparse.ArgumentParser:
     parser.add_argument("--output", metavar="FILE", help="the capture file; else the standard output")
     parser.add_argument("--macs", metavar="FILE", help="also write the MACs of the requests, a line for each message")
     parser.add_argument("--split", metavar="FOLDER", help="write a capture for each question into a new folder")
+    parser.add_argument("--quiet", action="store_true", help="tell only what costs a verdict, and what is refused")
     parser.set_defaults(sources=[])
     return parser
 
@@ -197,28 +133,39 @@ def fault_of(options: argparse.Namespace) -> Optional[str]:
     return clash and shown(clash)
 
 
-def make(options: argparse.Namespace) -> str:
-    """Reads, tells and writes; answers what was kept."""
-    ports = set(options.port or [53])
+def silent(_: str) -> None:
+    """What is told of what costs no verdict, where --quiet is given."""
+
+
+def make(options: argparse.Namespace) -> Optional[str]:
+    """Reads, tells and writes; answers what was kept, None where that isn't told."""
+    ports, say = set(options.port or [53]), silent if options.quiet else tell
     found = [each for kind, path in options.sources for each in entries_of(kind, path, ports)]
     entries = [each for each in found if not isinstance(each, PassedOver)]
     macs: Iterable[Optional[bytes]] = itertools.repeat(b"") if options.macs is None else macs_of(entries)
-    answers = answers_of(entries, macs, options.split is None)
+    answers = Answers(options.split is None, say)
+    answers.take_all(entries, macs)
     for each in found:
         if isinstance(each, PassedOver):
-            tell(passed_over_text(each))
-    if not answers:
-        raise Refusal("no answer was left")
-    messages = [octets for octets, _ in answers]
-    for text in notes_of(messages):
+            say(passed_over_text(each))
+    messages = [octets for octets, _ in answers.kept]
+    for text in notes_of(messages, answers.truncated):
         tell(f"note: {text}")
-    kept = f"kept {len(answers)} of {len(entries)}"
+    if not messages:
+        raise Refusal("no answer was left")
+    kept = f"kept {len(messages)} of {len(entries)}" + written(options, answers)
+    return None if options.quiet else kept
+
+
+def written(options: argparse.Namespace, answers: Answers) -> str:
+    """Writes the captures; answers what is to be said of that behind what was kept."""
+    messages = [octets for octets, _ in answers.kept]
     if options.split is not None:
-        return kept + f", in {write_captures(options.split, messages)} captures"
+        return f", in {write_captures(options.split, messages)} captures"
     write(output_of(options), framed(messages))
     if options.macs is not None:
-        write(options.macs, "".join((mac.hex() or "-") + "\n" for _, mac in answers).encode())
-    return kept
+        write(options.macs, "".join((mac.hex() or "-") + "\n" for _, mac in answers.kept).encode())
+    return ""
 
 
 def main(words: List[str]) -> int:
@@ -229,7 +176,9 @@ def main(words: List[str]) -> int:
         parser.error(fault)
 
     try:
-        tell(make(options))
+        kept = make(options)
+        if kept:
+            tell(kept)
     except (Refusal, OSError) as fault:
         tell(f"refused: {fault}")
         return 1

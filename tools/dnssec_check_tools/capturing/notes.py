@@ -7,11 +7,13 @@ from .messages import (
     TYPE_DS,
     TYPE_RRSIG,
     Labels,
+    is_with_do,
     lower,
     name_at,
     name_text,
     names_above,
     question_of,
+    question_text,
     rcode_of,
     records_of,
     remedy_of,
@@ -49,6 +51,12 @@ class Zones:
         return [zone for zone in dict.fromkeys(self.signers + on_the_way) if zone not in self.with_keys]
 
 
+def asked_text(octets: bytes) -> str:
+    """The first question, for people to know the message by, with its type by mnemonic."""
+    name, _, kind = question_text(octets).rpartition(" type ")
+    return f"{name} {word_of(int(kind))}" if kind.isdigit() else "no question"
+
+
 def failure_of(octets: bytes) -> Optional[str]:
     """What is to be said of an answer that tells of the server's failure."""
     question = question_of(octets)
@@ -59,7 +67,30 @@ def failure_of(octets: bytes) -> Optional[str]:
     return f"{said}: {remedy}" if remedy else said
 
 
-def notes_of(messages: Sequence[bytes]) -> List[str]:
+def without_signatures(messages: Sequence[bytes]) -> str:
+    """What is said where no answer has one; each repeats the flag DO of its query (RFC 3225 3)."""
+    lacking = "no answer has a signature (RRSIG)"
+    if any(map(is_asked_with_do, messages)):
+        return f"{lacking}, though they were asked with the flag DO: no zone is signed, or a server left signatures out"
+    return f"{lacking}: were they asked without the flag DO (dig +dnssec)?"
+
+
+def is_asked_with_do(octets: bytes) -> bool:
+    try:
+        return is_with_do(octets)
+    except Incomplete:
+        return False
+
+
+def truncated_of(messages: Sequence[bytes], truncated: Sequence[bytes]) -> List[str]:
+    """What is said of truncated answers to questions that no message answers as a whole."""
+    whole = {question_of(octets) for octets in messages}
+    asked = [asked_text(octets) for octets in truncated if question_of(octets) not in whole]
+    return [f"the answer for {text} is truncated, and wasn't asked again by TCP" for text in dict.fromkeys(asked)]
+
+
+def notes_of(messages: Sequence[bytes], truncated: Sequence[bytes] = ()) -> List[str]:
+    """Of these messages, and of truncated answers that were dropped."""
     zones, failures = Zones(), []
     for octets in messages:
         try:
@@ -69,6 +100,7 @@ def notes_of(messages: Sequence[bytes]) -> List[str]:
             pass
     missing = [name_text(zone) for zone in zones.without_keys()]
     notes = [f"no answer has the DNSKEY records of {zone}, a zone on the way" for zone in missing]
-    if not zones.signers and not (failures and all(failures)):
-        notes.append("no answer has a signature (RRSIG): were they asked without the flag DO?")
-    return notes + list(dict.fromkeys(failure for failure in failures if failure))
+    if messages and not zones.signers and not (failures and all(failures)):
+        notes.append(without_signatures(messages))
+    notes += dict.fromkeys(failure for failure in failures if failure)
+    return notes + truncated_of(messages, truncated)

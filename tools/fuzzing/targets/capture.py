@@ -6,9 +6,9 @@ import gzip
 import itertools
 from typing import Iterable, Optional, Sequence
 
-from dnssec_check_tools import capture
 from dnssec_check_tools.asking.questions import Question, question_of_line
 from dnssec_check_tools.capturing import packed, tshark
+from dnssec_check_tools.capturing.answers import MAC_SIZE, Answers, macs_of
 from dnssec_check_tools.capturing.entries import Entry, Found, Message, PassedOver, Refusal
 from dnssec_check_tools.capturing.frames import MESSAGES_MOST, framed, frames_of
 from dnssec_check_tools.capturing.messages import is_query, is_truncated, name_text, opcode_of
@@ -16,6 +16,7 @@ from dnssec_check_tools.capturing.notes import notes_of
 from dnssec_check_tools.capturing.pcap import is_packet_capture
 from dnssec_check_tools.capturing.sources import entries_of
 from dnssec_check_tools.capturing.splitting import RECORDS_MOST, Parts, file_name, part_of
+from dnssec_check_tools.command import tell
 
 from ..changes import Draw, lines_of
 from ..target import DATA, EXAMPLES, Desk, Ended, Target, given, kind_of, must, refused
@@ -93,18 +94,19 @@ def ended_of(octets: bytes, kind: Optional[str], desk: Desk) -> Ended:
 
 def kept_of(entries: list[Entry]) -> list[list[bytes]]:
     """The messages that are kept of a file as it is, and where the MACs of the requests are asked for."""
-    return [answers_of(entries, itertools.repeat(b"")), answers_of(entries, capture.macs_of(entries))]
+    return [answers_of(entries, itertools.repeat(b"")), answers_of(entries, macs_of(entries))]
 
 
 def answers_of(entries: list[Entry], macs: Iterable[Optional[bytes]]) -> list[bytes]:
+    answers = Answers(False, tell)
     try:
-        answers = capture.answers_of(entries, macs, False)
+        answers.take_all(entries, macs)
     except Refusal as refusal:
         must("has " in str(refusal), f"a refusal of answers: {refusal}")
         return []
-    must(all(len(mac) in (0, capture.MAC_SIZE) for _, mac in answers), "a MAC of another length")
-    messages = [octets for octets, _ in answers]
-    for note in notes_of(messages):
+    must(all(len(mac) in (0, MAC_SIZE) for _, mac in answers.kept), "a MAC of another length")
+    messages = [octets for octets, _ in answers.kept]
+    for note in notes_of(messages, answers.truncated):
         must(note.isprintable(), f"a note that can't be shown: {note!r}")
     return messages
 

@@ -19,19 +19,20 @@ class Selection(Case):
         self.takes(framed(ONE, TWO, THREE), [ONE, TWO, THREE])
 
     def test_queries_are_dropped(self):
-        self.takes(framed(QUERY, ONE, QUERY), [ONE], "message 1 of -: a query: www.example. type 1", "message 3")
+        self.takes(framed(QUERY, ONE, QUERY), [ONE], "dropped 2 queries")
+        self.takes(framed(QUERY, ONE), [ONE], "dropped 1 query")
 
     def test_responses_that_answer_no_question_are_dropped(self):
         for opcode in range(1, 16):
             for flags in (0x8000, 0x8400, 0x8600):
-                told = f"message 1 of -: a response of opcode {opcode}, which answers no question: www.example. type 1"
+                told = f"message 1 of -: a response of opcode {opcode}, which answers no question: www.example. A"
                 self.takes(framed(message(flags=flags | opcode << 11), ONE), [ONE], told)
 
     def test_truncated_answers_are_dropped(self):
-        self.takes(framed(message(flags=0x8600), ONE), [ONE], "message 1 of -: truncated: www.example. type 1")
+        self.takes(framed(message(flags=0x8600), ONE), [ONE], "message 1 of -: truncated: www.example. A")
 
     def test_repeats_are_dropped_whatever_their_identifier(self):
-        told = "message 3 of -: repeats message 1 of -: one. type 1"
+        told = "message 3 of -: repeats message 1 of -: one. A"
         self.takes(framed(ONE, TWO, b"\xff\xff" + ONE[2:]), [ONE, TWO], told)
         self.takes(framed(ONE, message(1, "ONE.")), [ONE, message(1, "ONE.")])
         self.takes(framed(ONE, message(1, "one.", flags=0x8500)), [ONE, message(1, "one.", flags=0x8500)])
@@ -50,22 +51,22 @@ class Selection(Case):
         self.takes(lines.encode(), [longest, ONE], *told, kind="--hex")
 
     def test_a_message_without_a_question_is_told_too(self):
-        self.takes(framed(QUERY[:12], ONE), [ONE], "a query: no question")
-        self.takes(framed(QUERY[:15], ONE), [ONE], "a query: no question")
+        for octets in (message(flags=0x8600)[:12], message(flags=0x8600)[:15]):
+            self.takes(framed(octets, ONE), [ONE], "truncated: no question")
 
     def test_names_are_told_as_the_program_writes_them(self):
-        odd = QUERY[:12] + b"\x05a.\\ \xff\x00\x00\x01\x00\x01"
-        self.takes(framed(odd, ONE), [ONE], "a query: a\\.\\\\\\032\\255. type 1")
+        odd = message(flags=0x8600)[:12] + b"\x05a.\\ \xff\x00\x00\x01\x00\x01"
+        self.takes(framed(odd, ONE), [ONE], "truncated: a\\.\\\\\\032\\255. A")
 
     def test_64_messages_are_kept_and_the_next_is_refused_by_name(self):
         many = [message(number, f"n{number}.") for number in range(64)]
-        self.takes(framed(*many, many[5], QUERY), many, "repeats message 6", "a query")
-        self.refuses(framed(*many, ONE), "message 65 of - is message 65", "identifier 0001, one. type 1")
-        self.refuses(framed(QUERY, *many, ONE), "message 66 of - is message 65", "one. type 1")
+        self.takes(framed(*many, many[5], QUERY), many, "repeats message 6", "1 query")
+        self.refuses(framed(*many, ONE), "message 65 of - is message 65", "identifier 0001, one. A")
+        self.refuses(framed(QUERY, *many, ONE), "message 66 of - is message 65", "one. A")
 
     def test_no_answer_is_refused(self):
         self.refuses(b"", "no answer was left\n")
-        self.refuses(framed(QUERY), "a query", "no answer was left")
+        self.refuses(framed(QUERY), "1 query", "no answer was left")
 
     def test_files_come_in_the_order_of_the_command_line(self):
         with tempfile.TemporaryDirectory() as room:
@@ -96,7 +97,7 @@ class Streams(Case):
 class Hex(Case):
     def test_a_message_a_line(self):
         text = f"# a note\n; another\n\n {ONE.hex()}\n{TWO.hex().upper()}\r\n{THREE.hex(':')}\n{QUERY.hex(' ')}"
-        self.takes(text.encode(), [ONE, TWO, THREE], "line 7 of -: a query", kind="--hex")
+        self.takes(text.encode(), [ONE, TWO, THREE], "dropped 1 query", kind="--hex")
 
     def test_a_line_that_is_not_hex_is_refused(self):
         for line in ("0", "0g", "é", ONE.hex() + ".", "0 1"):
@@ -124,7 +125,7 @@ class CommandLine(Case):
     def test_the_program_itself(self):
         done = run_program(TOOLS / "capture", "--stream", "-", given=framed(QUERY, ONE))
         self.assertEqual(done[:2], (0, framed(ONE)))
-        self.assertIn("capture: dropped message 1 of -: a query", done[2])
+        self.assertIn("capture: dropped 1 query\n", done[2])
         self.assertEqual(run_program(TOOLS / "capture", "--stream", "-")[0], 1)
 
     def test_a_write_that_fails(self):

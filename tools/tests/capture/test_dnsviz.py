@@ -84,7 +84,7 @@ class Probe(unittest.TestCase):
         self.takes(probe(("two.", lost, {"message": "!"}, TRUNCATED), ("one.", ONE)), [ONE],
                    "dropped the answer of 192.0.2.1 to two. A of -: there is none: TIMEOUT",
                    "dropped the answer of 192.0.2.2 to two. A of -: it isn't base64",
-                   "dropped the answer of 192.0.2.3 to two. A of -: truncated: one. type 1")
+                   "dropped the answer of 192.0.2.3 to two. A of -: truncated: one. A")
         self.takes(probe(("two.", FAILED, lost), ("one.", ONE)), [FAILED, ONE], "passed over")
 
     def test_what_a_terminal_would_obey_is_escaped(self):

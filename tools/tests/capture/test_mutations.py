@@ -3,7 +3,8 @@ import random
 import unittest
 from unittest import mock
 
-from dnssec_check_tools.capturing.entries import Refusal
+from dnssec_check_tools.capturing.answers import Answers, macs_of
+from dnssec_check_tools.capturing.entries import PassedOver, Refusal
 from dnssec_check_tools.capturing.messages import TYPE_DNSKEY, TYPE_DS, TYPE_RRSIG
 from dnssec_check_tools.capturing.notes import notes_of
 from dnssec_check_tools.capturing.sources import entries_of_pcap
@@ -43,15 +44,15 @@ def changed(octets, chance):
 class Mutations(unittest.TestCase):
     def make(self, octets):
         """All that the tool does with a packet capture but for the writing; how many answers it has."""
-        tool = load("capture")
+        answers = Answers(True, lambda _: None)
         try:
             entries = entries_of_pcap(octets, "file", {53, 5300})
-            entries = [each for each in entries if not isinstance(each, tool.PassedOver)]
-            answers = tool.answers_of(entries, tool.macs_of(entries), True)
+            entries = [each for each in entries if not isinstance(each, PassedOver)]
+            answers.take_all(entries, macs_of(entries))
         except Refusal:
             return 0
-        messages = [answer for answer, _ in answers]
-        for text in notes_of(messages):
+        messages = [answer for answer, _ in answers.kept]
+        for text in notes_of(messages, answers.truncated):
             self.assertTrue(text)
         self.assertEqual({octets for _, part, _ in Parts(messages).captures() for octets in part}, set(messages))
         return len(messages)

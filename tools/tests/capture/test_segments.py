@@ -160,4 +160,4 @@ class Segments(PacketCase):
                   tcp(framed(THREE)[9:], 11, server)]
         packets = [tcp(framed(QUERY), 501, CLIENT, SERVER), tcp(framed(ONE)[:9], 1001),
                    tcp(framed(TWO), 71, SERVER, other), tcp(framed(ONE)[9:], 1010)]
-        self.takes_of(begins + packets, [THREE, TWO, ONE], "packet 7 of -: a query")
+        self.takes_of(begins + packets, [THREE, TWO, ONE], "dropped 1 query")

@@ -5,8 +5,10 @@ import time
 import unittest
 from unittest import mock
 
+from dnssec_check_tools import wire
 from dnssec_check_tools.asking import kinds
 from dnssec_check_tools.asking.faults import Failure
+from dnssec_check_tools.capturing.messages import DO, TYPE_OPT
 from dnssec_check_tools.capturing.notes import notes_of
 from dnssec_check_tools.capturing.splitting import Parts
 from tool import PROGRAM, DATA, run, run_program
@@ -65,7 +67,7 @@ class Split(Room):
             "0001-www.zone.test.-1.cap": framed(first, root, zone_ds, top, root_ds, zone, again),
             "0002-other.test.-16.cap": framed(root, top, other, root_ds, second, other_ds)})
         self.assertEqual(listed, "0001-www.zone.test.-1 www.zone.test. 1\n0002-other.test.-16 other.test. 16\n")
-        self.assertIn("a query", errors)
+        self.assertIn("1 query", errors)
         self.assertIn("capture: kept 10 of 11, in 2 captures\n", errors)
 
     def test_more_than_64_messages_are_split(self):
@@ -202,11 +204,36 @@ class Notes(unittest.TestCase):
         return [line.removeprefix("capture: note: ") for line in errors.splitlines() if "note:" in line]
 
     def test_answers_without_signatures(self):
-        unsigned = "no answer has a signature (RRSIG): were they asked without the flag DO?"
+        unsigned = "no answer has a signature (RRSIG): were they asked without the flag DO (dig +dnssec)?"
         self.assertEqual(self.told(plain("www.test.")), [unsigned])
         self.assertEqual(self.told(plain("www.test."), key("test.")), [])
         query = answer("www.test.", "A", ("www.test.", "RRSIG", bytes(18) + b"\x00"), flags=0x0100)
         self.assertEqual(self.told(query, plain("www.test.")), [unsigned])
+
+    def test_answers_without_signatures_though_they_were_asked_for(self):
+        edns = wire.record(b"\x00", TYPE_OPT, b"", DO, 1232)
+        asked = wire.header(1, (1, 0, 0, 1)) + wire.question(wire.name_octets("www.test."), 1) + edns
+        told = notes_of([asked])
+        self.assertEqual(told, ["no answer has a signature (RRSIG), though they were asked with the flag DO: no zone is signed, or "
+                                "a server left signatures out"])
+
+    def test_a_truncated_answer_that_was_not_asked_again(self):
+        short = answer("big.test.", "DNSKEY", flags=0x8600)
+        said = "the answer for big.test. DNSKEY is truncated, and wasn't asked again by TCP"
+        whole = [key("big.test."), plain("www.test.")]
+        self.assertEqual(self.told(whole[1], short, short, key("test."))[-1:], [said])
+        for messages in ([short, *whole], [*whole, short]):
+            self.assertEqual(self.told(*messages), [])
+        status, _, errors = run("capture", "--stream", "-", given=framed(short))
+        self.assertEqual((status, errors.splitlines()[1:]), (1, [f"capture: note: {said}", "capture: refused: no answer was left"]))
+
+    def test_quiet_tells_notes_alone(self):
+        short, query = answer("big.test.", "DNSKEY", flags=0x8600), answer("www.test.", "A", flags=0x0100)
+        status, output, errors = run("capture", "--stream", "-", "--quiet", given=framed(query, short, key("test.")))
+        self.assertEqual((status, output), (0, framed(key("test."))))
+        self.assertEqual(errors, "capture: note: the answer for big.test. DNSKEY is truncated, and wasn't asked again by TCP\n")
+        status, output, errors = run("capture", "--quiet", "--stream", "-", given=framed(query))
+        self.assertEqual((status, output, errors), (1, b"", "capture: refused: no answer was left\n"))
 
     def test_a_zone_on_the_way_without_its_keys(self):
         signed = plain("www.test.", "A", ("www.test.", "RRSIG", bytes(18) + b"\x01z\x04TEST\x00"))
@@ -222,7 +249,7 @@ class Notes(unittest.TestCase):
         failed = answer("www.stale.test.", "A", flags=0x8182)
         self.assertEqual(self.told(failed), [f"{said}: ask with CD (delv +cd)"])
         self.assertEqual(self.told(failed, answer("www.stale.test.", "A", flags=0x8183)),
-                         ["no answer has a signature (RRSIG): were they asked without the flag DO?",
+                         ["no answer has a signature (RRSIG): were they asked without the flag DO (dig +dnssec)?",
                           f"{said}: ask with CD (delv +cd)"])
         self.assertEqual(self.told(failed, answer("www.Stale.test.", "A", flags=0x8582)), [f"{said}: ask with CD (delv +cd)"])
 

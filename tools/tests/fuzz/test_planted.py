@@ -3,9 +3,8 @@ import re
 import unittest
 from unittest import mock
 
-from dnssec_check_tools import capture
 from dnssec_check_tools.asking import anchors, questions, zone_file
-from dnssec_check_tools.capturing import dnsviz, packets, sources, splitting
+from dnssec_check_tools.capturing import answers, dnsviz, packets, sources, splitting
 from dnssec_check_tools.judging import evidence
 from dnssec_check_tools.verifying import entries, rsa
 from fuzzing import loop
@@ -34,16 +33,16 @@ def words_without_the_last(self, made=zone_file.ZoneFile.words):
     return made(self)[:-1] + ["00" * 20]
 
 
-def reason_without_repeats(octets, mac, _, made=capture.reason_against):
+def reason_without_repeats(octets, mac, _, made=answers.reason_against):
     return made(octets, mac, {})
 
 
 # By target: what is patched, what stands in its place, and what the fault says.
 PLANTED = {
     "a name of a file that is a path": ("capture", splitting, "quote", lambda label, safe: label.decode("latin-1"), "the name of a file"),
-    "queries that are kept": ("capture", capture, "is_query", lambda _: False, "it answers no question"),
-    "repeats that are kept": ("capture", capture, "reason_against", reason_without_repeats, "one is there twice"),
-    "a MAC of any length": ("capture", capture, "refuse_excess", lambda *_: None, "a MAC of another length"),
+    "queries that are kept": ("capture", answers, "is_query", lambda _: False, "it answers no question"),
+    "repeats that are kept": ("capture", answers, "reason_against", reason_without_repeats, "one is there twice"),
+    "a MAC of any length": ("capture", answers, "refuse_excess", lambda *_: None, "a MAC of another length"),
     "a server's name as it is": ("capture", dnsviz, "shown", str, "can't be shown"),
     "hex that isn't looked at": ("capture", sources, "octets_of_line", lambda line, _: bytes.fromhex(line), "ValueError"),
     "packets whose end isn't looked at": ("capture", packets, "number_at", lambda octets, place, _: octets[place], "IndexError"),
