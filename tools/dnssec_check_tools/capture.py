@@ -2,8 +2,9 @@
 
 A capture file has DNS messages, each behind its length in two octets, as TCP carries them (RFC 1035 4.2.2). The
 answers are taken in the order of the command line and of each file; `-` is the standard input. Of a file that is named
-alone the octets tell the kind: a packet capture, the JSON of dnsviz, text in hex, else a stream. What gzip packed is
-unpacked, and what zstd packed where Python has a library for it, but for a file of --stream.
+alone the octets tell the kind: a packet capture, the JSON of dnsviz or of RIPE Atlas, what dig prints, text in hex,
+else a stream. What gzip packed is unpacked, and what zstd packed where Python has a library for it, but for a file of
+--stream.
 
 A file of --stream has what a server sent over TCP, octet by octet. A file of --pcap is a pcap or a pcapng of DNS over
 UDP and TCP; segments of TCP are put in order, and those that were sent again are taken once. Behind a gap the messages
@@ -13,7 +14,11 @@ are passed over, and so are lines that are empty or begin with `#` or `;`.
 A file of --tshark is any packet capture that tshark reads; tshark takes the messages out, and so also those of
 fragments and of every encapsulation that it knows. A file of --dnsviz is the output of `dnsviz probe`; of several
 servers' answers to a question the first is kept that is whole, without an error, and to a query with the flag DO; else
-one that lacks the last of these, or the last two.
+one that lacks the last of these, or the last two. A file of --atlas has results of RIPE Atlas, with `abuf`.
+
+A file of --dig is what dig, kdig or drill printed with its head (`->>HEADER<<-`), of one answer or of several. Messages
+are written anew from it, which a note says: with the same records, and in other octets than those of the server. It
+needs the package dnspython (Debian: python3-dnspython).
 
 Dropped, each with a line on the standard error that says which and why, are responses to what is no question (NOTIFY,
 UPDATE), truncated answers (the flag TC), repeats (only the identifier differs from an earlier message), what is too
@@ -47,7 +52,7 @@ import itertools
 from typing import Any, Iterable, List, Optional
 
 from .capturing.answers import Answers, macs_of
-from .capturing.entries import PassedOver, Refusal
+from .capturing.entries import Note, PassedOver, Refusal, of_messages
 from .capturing.frames import framed
 from .capturing.notes import notes_of
 from .capturing.sources import entries_of
@@ -105,6 +110,8 @@ def command_line() -> argparse.ArgumentParser:
     parser.add_argument("--hex", action=Source, metavar="FILE", help="a message a line")
     parser.add_argument("--tshark", action=Source, metavar="FILE", help="packets, as tshark reads them")
     parser.add_argument("--dnsviz", action=Source, metavar="FILE", help="the output of `dnsviz probe`")
+    parser.add_argument("--dig", action=Source, metavar="FILE", help="text, as dig, kdig and drill print it")
+    parser.add_argument("--atlas", action=Source, metavar="FILE", help="results of RIPE Atlas")
     parser.add_argument("--port", action="append", type=port, metavar="N", help="a port of DNS; 53 where none is given")
     parser.add_argument("--output", metavar="FILE", help="the capture file; else the standard output")
     parser.add_argument("--macs", metavar="FILE", help="also write the MACs of the requests, a line for each message")
@@ -141,7 +148,7 @@ def make(options: argparse.Namespace) -> Optional[str]:
     """Reads, tells and writes; answers what was kept, None where that isn't told."""
     ports, say = set(options.port or [53]), silent if options.quiet else tell
     found = [each for kind, path in options.sources for each in entries_of(kind, path, ports)]
-    entries = [each for each in found if not isinstance(each, PassedOver)]
+    entries = of_messages(found)
     macs: Iterable[Optional[bytes]] = itertools.repeat(b"") if options.macs is None else macs_of(entries)
     answers = Answers(options.split is None, say)
     answers.take_all(entries, macs)
@@ -149,7 +156,7 @@ def make(options: argparse.Namespace) -> Optional[str]:
         if isinstance(each, PassedOver):
             say(passed_over_text(each))
     messages = [octets for octets, _ in answers.kept]
-    for text in notes_of(messages, answers.truncated):
+    for text in [each.text for each in found if isinstance(each, Note)] + notes_of(messages, answers.truncated):
         tell(f"note: {text}")
     if not messages:
         raise Refusal("no answer was left")

@@ -1,5 +1,5 @@
 """What a file gives: messages, what of it is dropped, and what is passed over."""
-from typing import Any, Counter, NamedTuple, Union
+from typing import Any, Counter, Iterable, List, NamedTuple, Union
 
 
 class InPacket(NamedTuple):
@@ -37,8 +37,19 @@ class PassedOver(NamedTuple):
     counts: Counter[str]
 
 
+class Note(NamedTuple):
+    """What is to be known of messages that are taken."""
+
+    text: str
+
+
 Entry = Union[Message, Omission]
-Found = Union[Message, Omission, PassedOver]
+Found = Union[Message, Omission, PassedOver, Note]
+
+
+def of_messages(found: Iterable[Found]) -> List[Entry]:
+    """The messages, and what is dropped of them."""
+    return [each for each in found if isinstance(each, (Message, Omission))]
 
 
 class Refusal(Exception):

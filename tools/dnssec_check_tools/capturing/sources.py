@@ -3,6 +3,7 @@ from typing import Callable, Counter, Dict, List, Optional, Sequence, Set
 
 from ..command import read, shown
 
+from .atlas import entries_of_atlas, is_atlas
 from .dnsviz import entries_of_dnsviz
 from .entries import Entry, Found, InPacket, Message, Omission, PassedOver, Refusal
 from .frames import frames_of
@@ -10,6 +11,7 @@ from .octets import Incomplete
 from .packed import unpacked
 from .packets import BadPacket, Datagram, Other, Segment, payload_of
 from .pcap import Packet, TornFile, is_packet_capture, packets_of
+from .printed import MARK, entries_of_printed
 from .streams import Streams
 from .tshark import entries_of_tshark
 
@@ -87,13 +89,19 @@ def kind_of(octets: bytes) -> str:
         return "pcap"
     if b"\x00" in octets:
         return "stream"
-    return "dnsviz" if octets.lstrip()[:1] == b"{" else "hex"
+    if MARK in octets:
+        return "dig"
+    if octets.lstrip()[:1] in (b"{", b"["):
+        return "atlas" if is_atlas(octets) else "dnsviz"
+    return "hex"
 
 
 READERS: Dict[str, Callable[[bytes, str], Sequence[Found]]] = {
     "stream": entries_of_stream,
     "hex": entries_of_hex,
     "dnsviz": entries_of_dnsviz,
+    "dig": entries_of_printed,
+    "atlas": entries_of_atlas,
 }
 
 

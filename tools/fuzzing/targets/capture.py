@@ -9,7 +9,7 @@ from typing import Iterable, Optional, Sequence
 from dnssec_check_tools.asking.questions import Question, question_of_line
 from dnssec_check_tools.capturing import packed, tshark
 from dnssec_check_tools.capturing.answers import MAC_SIZE, Answers, macs_of
-from dnssec_check_tools.capturing.entries import Entry, Found, Message, PassedOver, Refusal
+from dnssec_check_tools.capturing.entries import Entry, Found, Message, Refusal, of_messages
 from dnssec_check_tools.capturing.frames import MESSAGES_MOST, framed, frames_of
 from dnssec_check_tools.capturing.messages import is_query, is_truncated, name_text, opcode_of
 from dnssec_check_tools.capturing.notes import notes_of
@@ -22,7 +22,7 @@ from ..changes import Draw, lines_of
 from ..target import DATA, EXAMPLES, Desk, Ended, Target, given, kind_of, must, refused
 
 PORTS = {53, 5300, 5391, 15301}
-KINDS = (None, "stream", "hex", "dnsviz", "pcap")
+KINDS = (None, "stream", "hex", "dnsviz", "pcap", "dig", "atlas")
 UNPACKED_MOST = 1 << 20  # in place of a GiB
 NAME_MOST = 255  # octets of a file's name
 WRONG_FRAMES = (208, 209)
@@ -80,7 +80,7 @@ def ended_of(octets: bytes, kind: Optional[str], desk: Desk) -> Ended:
     with given(octets) as told:
         try:
             found = found_in(octets, kind)
-            kept = kept_of([each for each in found if not isinstance(each, PassedOver)])
+            kept = kept_of(of_messages(found))
         except Refusal as refusal:
             return refused(refusal)
     for messages in kept:
@@ -158,6 +158,8 @@ def corpus() -> list[bytes]:
         *sorted((DATA / "packets").glob("*.*")),
         *sorted(DATA.glob("signed.*")),
         DATA / "dnsviz" / "probe.json",
+        *sorted((DATA / "dig").glob("*.txt")),
+        DATA / "atlas" / "results.json",
         *sorted(EXAMPLES.glob("*/capture")),
     ]
     return [path.read_bytes() for path in paths if path.is_file() and path.stat().st_size < 30_000]
@@ -165,6 +167,16 @@ def corpus() -> list[bytes]:
 
 WORDS = (
     *(b'"queries"', b'"qname"', b'"qtype"', b'"responses"', b'"message"', b'"error"', b"null", b"true", b"[]", b"{}"),
+    *(b'"resultset"', b'"result"', b'"abuf"', b'"prb_id"', b'"dst_addr"', b";; ->>HEADER<<- opcode: QUERY, status: "),
+    *(
+        b"NXDOMAIN",
+        b"BADVERS",
+        b";; ANSWER SECTION:",
+        b";; flags: qr aa; QUERY: 1",
+        b"IN",
+        b"TYPE65280 \\# 2 0102",
+        b"(",
+    ),
     *(b'"_source"', b'"layers"', b'"frame"', b'"dns"', b'"dns_raw"', b'"udp"', b'"tcp"', b'"ip"', b'"frame.number"'),
     *(b"NaN", b"[" * 2000, b'{"a":' * 2000, b'"\\ud800"', b'"\\u0000"', b"0000", b"c00c", b"c0ff", b": ", b"#", b";"),
     *(

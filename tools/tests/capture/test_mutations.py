@@ -4,7 +4,7 @@ import unittest
 from unittest import mock
 
 from dnssec_check_tools.capturing.answers import Answers, macs_of
-from dnssec_check_tools.capturing.entries import PassedOver, Refusal
+from dnssec_check_tools.capturing.entries import Refusal, of_messages
 from dnssec_check_tools.capturing.messages import TYPE_DNSKEY, TYPE_DS, TYPE_RRSIG
 from dnssec_check_tools.capturing.notes import notes_of
 from dnssec_check_tools.capturing.sources import entries_of_pcap
@@ -47,7 +47,7 @@ class Mutations(unittest.TestCase):
         answers = Answers(True, lambda _: None)
         try:
             entries = entries_of_pcap(octets, "file", {53, 5300})
-            entries = [each for each in entries if not isinstance(each, PassedOver)]
+            entries = of_messages(entries)
             answers.take_all(entries, macs_of(entries))
         except Refusal:
             return 0
