@@ -1,8 +1,9 @@
 """What isn't there, and what is there and proves something else."""
 from typing import Optional
 
+from ..asking.hashes import nsec3_hash
 from .explanation import DNSKEY, DS, Asked, Explanation, Line
-from .replies import Reply
+from .replies import NO_NAME, Reply
 from .said import Words
 from .values import all_of, key_name, owned
 
@@ -25,6 +26,13 @@ def is_unasked(told: Explanation, line: Line) -> bool:
     """Whether a reason is there for nobody asked: that isn't what is wrong where something else is."""
     asked = asked_of(told, line)
     return asked is not None and told.is_unasked(*asked)
+
+
+def is_beside_no_name(told: Explanation, line: Line) -> bool:
+    """Whether a reason is that no record is at a name of which the server says that there is none: with one, the name
+    would be there."""
+    reply = told.reply(*told.denied) if told.denied and line["word"] == "match-missing" else None
+    return reply is not None and reply.rcode == NO_NAME and reply.name == line["name"]
 
 
 def asked_of(told: Explanation, line: Line) -> Optional[Asked]:
@@ -118,7 +126,14 @@ def type_held(_told: Explanation, line: Line) -> Words:
 
 
 def match_missing(_told: Explanation, line: Line) -> Words:
-    return line["name"], f"no {source(line)} is at it"
+    return line["name"], f"no {source(line)} is at it{hashed(line)}"
+
+
+def hashed(line: Line) -> str:
+    """By which hash the record of the name would stand, where it's one by hashes."""
+    if "salt" not in line:
+        return ""
+    return f": its hash is {nsec3_hash(line['name'], line['salt'], line['iterations'])}"
 
 
 def encloser_missing(_told: Explanation, line: Line) -> Words:
@@ -126,7 +141,7 @@ def encloser_missing(_told: Explanation, line: Line) -> Words:
 
 
 def cover_missing(_told: Explanation, line: Line) -> Words:
-    return line["name"], f"no {source(line)} proves that it isn't there ({ROLES[line['role']]})"
+    return line["name"], f"no {source(line)} proves that it isn't there ({ROLES[line['role']]}){hashed(line)}"
 
 
 def answer_missing(told: Explanation, line: Line) -> Words:

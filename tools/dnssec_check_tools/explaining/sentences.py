@@ -3,7 +3,7 @@ follows, and how far it holds. All of it is from one JSON object of `explain`.""
 from typing import Dict, List, Optional
 from .explanation import DNSKEY, Explanation, Line
 from . import holding
-from .missing import is_unasked
+from .missing import is_beside_no_name, is_unasked
 from .reasons import follows, reason
 from .said import HOLDS, Said
 from .values import counted, owned, until
@@ -48,7 +48,8 @@ def holds_until(told: Explanation) -> Optional[int]:
 def reasons(told: Explanation) -> List[Said]:
     """The facts that fail, each once: RRsets that came several times may have equal sentences. What is only lacking
     since nobody asked for it stands behind what the evidence shows to be wrong."""
-    lines = sorted(told.of("reason"), key=lambda line: is_unasked(told, line))
+    lines = [line for line in told.of("reason") if not is_beside_no_name(told, line)]
+    lines.sort(key=lambda line: is_unasked(told, line))
     return list(dict.fromkeys(reason(told, line) for line in lines))
 
 

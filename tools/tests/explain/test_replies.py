@@ -153,6 +153,14 @@ class Sentences(unittest.TestCase):
                          "FAIL www.example. A: message 1 answers NXDOMAIN; what example. says doesn't prove that there is none "
                          "[EDE 12]")
 
+    def test_no_record_at_a_name_of_which_there_is_none_is_not_lacking(self):
+        gap = reason("cover-missing", kind="nsec", zone="example.", role="next-closer", name="www.example.")
+        at_it = reason("match-missing", kind="nsec", zone="example.", name="www.example.")
+        for rcode, count in ((NXDOMAIN, 2), (NOERROR, 3)):
+            replies = replies_of([message("www.example.", A, rcode, authority=[soa("example.")])])
+            self.assertEqual(len(sentences.reasons(told_by(gap, at_it, self.DENIAL, replies=replies))), count)
+        self.assertEqual(len(sentences.reasons(told_by(gap, at_it, self.DENIAL))), 3)
+
     def test_where_nothing_is_known_of_the_messages(self):
         told = told_by(self.KEYS, self.ANSWER, self.DENIAL)
         self.assertEqual([each.text for each in sentences.reasons(told)], [

@@ -13,6 +13,9 @@ except ImportError:
     jsonschema = None
 
 
+HASH = "anga5g3h0nlcirm9cjmhh1qjg0qsdehh"  # ldns-nsec3-hash -a 1 -t 5 -s abcd other-name.ldns.test.
+
+
 def texts(told):
     return [str(each) for each in sentences.why(told)]
 
@@ -118,8 +121,8 @@ class Samples(unittest.TestCase):
     def test_a_denial_with_a_record_left_out(self):
         self.assertEqual(texts(told_of("denial3-of-another")), [
             "FAIL other-name.ldns.test.: no NSEC3 of ldns.test. (iterations 5, salt abcd) proves that it isn't there "
-            "(next closer name) [EDE 12]",
-            "FAIL other-name.ldns.test.: no NSEC3 of ldns.test. (iterations 5, salt abcd) is at it [EDE 12]",
+            f"(next closer name): its hash is {HASH} [EDE 12]",
+            f"FAIL other-name.ldns.test.: no NSEC3 of ldns.test. (iterations 5, salt abcd) is at it: its hash is {HASH} [EDE 12]",
             "FAIL other-name.ldns.test. A: what ldns.test. says doesn't prove that there is none [EDE 12]",
             "HOLDS ldns.test. DNSKEY: the chain holds down to here, from anchor 1 of . on"])
 
