@@ -2,9 +2,9 @@
 
 Each WORD is a question, a capture or a folder. A question is NAME/TYPE, as www.example.com/AAAA: what is behind its
 last `/` is a type, by mnemonic or by number, it doesn't begin with `/`, and there is no file of that name. Every other
-word is a capture file, `-` for the standard input, or a folder: its files that are called `capture` or end with `.cap`,
-and those of all folders in it. A missing last dot of a name is added; no other search is made. Behind `--` a word may
-begin with `-`.
+word is a capture file, or what dnssec_check-capture makes one of; `-` for the standard input; or a folder: its files
+that are called `capture` or end with `.cap`, and those of all folders in it. A missing last dot of a name is added; no
+other search is made. Behind `--` a word may begin with `-`.
 
 Each question is put to each capture, at each moment; signatures are verified once for a capture. Where no question is
 given, each capture of a folder that `dnssec_check-capture --split` wrote is asked its own.
@@ -42,7 +42,7 @@ from contextlib import closing
 from typing import Any, Dict, Iterable, Iterator, List, Optional, Tuple
 
 from .asking.anchors import ROOT, anchors_of
-from .asking.captures import all_of, captures_of, octets_of, shown_of, told_apart
+from .asking.captures import Unmade, all_of, captures_of, octets_of, shown_of, told_apart
 from .asking.faults import Failure, Refusal, WrongLine, escaped
 from .asking.questions import LIST, Question
 from .asking.kinds import table
@@ -152,7 +152,7 @@ def tasks_of(asked: Asked, page: Optional[Page], is_read_here: bool) -> Iterator
             continue
         try:
             task = task._replace(octets=octets_of(path))
-        except OSError as fault:
+        except (OSError, Unmade) as fault:
             yield task._replace(fault=fault)
             continue
         if page:

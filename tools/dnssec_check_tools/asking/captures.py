@@ -1,11 +1,16 @@
 """The captures and questions that the words of a command line name."""
 import functools
+import itertools
 import os
 import stat
 import sys
 from typing import BinaryIO, List, NamedTuple, Optional, Tuple
 
+from ..capturing.answers import Answers
+from ..capturing.entries import Note, of_messages
+from ..capturing.entries import Refusal as Unmakable
 from ..capturing.frames import FRAME_SIZE_MOST, MESSAGES_MOST, framed, frames_of
+from ..capturing.sources import entries_in, other_kind_of
 from ..command import shown, tell
 
 from .faults import Refusal, WrongLine, escaped
@@ -13,8 +18,14 @@ from .questions import Question, question_of_word, questions_of_file, questions_
 
 # Octets of a file that are read: all of a capture, and one message more, by which the program refuses it.
 SIZE_MOST = (MESSAGES_MOST + 1) * FRAME_SIZE_MOST
+# Octets of a file of another kind, of which a capture is made: packets, text or JSON.
+OTHER_MOST, PORTS = 64_000_000, {53}
 # What a read may wait for, or never end with; who means one names it.
 UNREAD_KINDS = {stat.S_IFIFO: "a FIFO", stat.S_IFSOCK: "a socket", stat.S_IFCHR: "a device", stat.S_IFBLK: "a device"}
+
+
+class Unmade(Refusal):
+    """A file of another kind of which no capture can be made."""
 
 
 class Capture(NamedTuple):
@@ -111,25 +122,52 @@ def all_of(words: List[str], question_files: List[str]) -> List[Tuple[str, List[
 
 def octets_of(path: str) -> bytes:
     """What the file has; of more than a capture may have, its messages up to the one that is too many."""
-    octets = beginning_of(path)
-    messages = frames_of(octets)[0] if len(octets) == SIZE_MOST else []
+    octets, is_other = taken(path)
+    messages = frames_of(octets)[0] if len(octets) == SIZE_MOST and not is_other else []
     return framed(messages[: MESSAGES_MOST + 1]) if len(messages) > MESSAGES_MOST else octets
 
 
-def beginning_of(path: str) -> bytes:
-    """As much of the file as is read of any."""
+def taken(path: str) -> Tuple[bytes, bool]:
+    """As much of a capture as is read of any, or the capture that is made of a file of another kind; which of these."""
     if path != "-":
         with open(path, "rb") as file:
-            return read_most(file)
+            return taken_of(file, path)
     if sys.stdin is None:
         raise OSError("the standard input is closed")
-    return read_most(sys.stdin.buffer)
+    return taken_of(sys.stdin.buffer, path)
+
+
+def taken_of(file: BinaryIO, path: str) -> Tuple[bytes, bool]:
+    octets = read_most(file)
+    kind = other_kind_of(octets)
+    if kind is None:
+        return octets, False
+    octets += file.read(OTHER_MOST + 1 - len(octets)) if len(octets) == SIZE_MOST else b""
+    if len(octets) > OTHER_MOST:
+        raise Unmade(f"it is no capture, and has more than {OTHER_MOST:,} octets; dnssec_check-capture makes one of it")
+    return capture_of(octets, kind, path), True
+
+
+def capture_of(octets: bytes, kind: str, path: str) -> bytes:
+    """The capture that is made of packets, text or JSON, as dnssec_check-capture makes it."""
+    try:
+        found = entries_in(octets, kind, shown(path), PORTS)
+        answers = Answers(True, lambda _: None)
+        answers.take_all(of_messages(found), itertools.repeat(b""))
+    except Unmakable as fault:
+        raise Unmade(str(fault)) from fault
+    if not answers.kept:
+        raise Unmade("no answer is in it; dnssec_check-capture says what else is")
+    for each in found:
+        if isinstance(each, Note):
+            tell(f"{escaped(path)}: {each.text}")
+    return framed(octets for octets, _ in answers.kept)
 
 
 def shown_of(path: str) -> bytes:
     """The octets of a capture whose records are shown; where there are more than one may have, that's told."""
-    octets = beginning_of(path)
-    if len(octets) == SIZE_MOST:
+    octets, is_other = taken(path)
+    if len(octets) == SIZE_MOST and not is_other:
         tell(f"{escaped(path)}: more than a capture may have; of what is behind {SIZE_MOST:,} octets nothing is shown")
     return octets
 

@@ -28,6 +28,10 @@ class Unpacker:
             self.member = None if is_end else self.member
 
 
+def is_packed(octets: bytes) -> bool:
+    return octets.startswith((GZIP_MAGIC, ZSTD_MAGIC))
+
+
 def zstd_library() -> Any:
     """Python's own since 3.14, or the package zstandard; None where there is neither."""
     for name in ("compression.zstd", "zstandard"):

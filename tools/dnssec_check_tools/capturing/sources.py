@@ -1,4 +1,5 @@
 """What the files that are named have in them: their kind, and the messages of each kind."""
+import re
 from typing import Callable, Counter, Dict, List, Optional, Sequence, Set
 
 from ..command import read, shown
@@ -8,7 +9,7 @@ from .dnsviz import entries_of_dnsviz
 from .entries import Entry, Found, InPacket, Message, Omission, PassedOver, Refusal
 from .frames import frames_of
 from .octets import Incomplete
-from .packed import unpacked
+from .packed import is_packed, unpacked
 from .packets import BadPacket, Datagram, Other, Segment, payload_of
 from .pcap import Packet, TornFile, is_packet_capture, packets_of
 from .printed import MARK, entries_of_printed
@@ -82,6 +83,10 @@ def entries_of_pcap(octets: bytes, path: str, ports: Set[int]) -> List[Found]:
 
 # All kinds
 
+PACKED = "packed"  # what has a kind once it is unpacked, or has it as it is
+# A list in hex begins with notes, and then with a header at least: other text is none.
+LISTED = re.compile(rb"(?:[ \t]*(?:[#;][^\n]*)?\r?\n)*[ \t]*(?:[0-9A-Fa-f]{2}[ :]*){12}")
+
 
 def kind_of(octets: bytes) -> str:
     """The kind of a file that is named alone. Text has no octet 0, and each message has some."""
@@ -105,16 +110,30 @@ READERS: Dict[str, Callable[[bytes, str], Sequence[Found]]] = {
 }
 
 
+def other_kind_of(octets: bytes) -> Optional[str]:
+    """The kind of a file that is no stream of messages, by its beginning: packed, packets or text; None of a stream,
+    which may be torn."""
+    if not octets or frames_of(octets)[1] == len(octets):
+        return None
+    if is_packed(octets):
+        return PACKED
+    kind = kind_of(octets)
+    return None if kind == "stream" or (kind == "hex" and not LISTED.match(octets)) else kind
+
+
+def entries_in(octets: bytes, kind: str, name: str, ports: Set[int]) -> Sequence[Found]:
+    """The entries of octets of this kind."""
+    octets, torn = unpacked(octets, name)
+    kind = kind_of(octets) if kind == PACKED else kind
+    if kind == "pcap":
+        return [*entries_of_pcap(octets, name, ports), *torn]
+    return [*READERS[kind](octets, name), *torn]
+
+
 def entries_of(kind: Optional[str], path: str, ports: Set[int]) -> Sequence[Found]:
     """The entries of a file of this kind, None where that has to be found out."""
     name = shown(path)
     if kind == "tshark":
         return entries_of_tshark(path, name, ports)
     octets = read(path)
-    if kind == "stream":
-        return entries_of_stream(octets, name)
-    octets, torn = unpacked(octets, name)
-    kind = kind or kind_of(octets)
-    if kind == "pcap":
-        return [*entries_of_pcap(octets, name, ports), *torn]
-    return [*READERS[kind](octets, name), *torn]
+    return entries_of_stream(octets, name) if kind == "stream" else entries_in(octets, kind or PACKED, name, ports)

@@ -3,12 +3,12 @@ import functools
 import os
 from typing import Generator, Iterable, Iterator, List, NamedTuple, Optional, Set, Tuple, Union
 
-from ..asking.captures import octets_of
+from ..asking.captures import Unmade, octets_of
 from ..asking.faults import Failure
 from ..asking.questions import Question
-from ..program import Program
+from ..program import REFUSED, Program
 
-from .work import Common, Judged, judged, without_verdicts
+from .work import Common, Judged, Row, judged, without_verdicts
 from .workers import Lost, Workers
 
 MEMORY_OUT, OPEN_FAILED, READ_FAILED = 90, 811, 210
@@ -16,6 +16,7 @@ MEMORY_OUT, OPEN_FAILED, READ_FAILED = 90, 811, 210
 Result = Tuple[int, Judged]  # by the number of the capture
 Results = Generator[Result, None, None]
 Answer = Union[Judged, Failure]
+Fault = Union[OSError, Unmade]
 
 
 class Task(NamedTuple):
@@ -25,14 +26,22 @@ class Task(NamedTuple):
     number: int
     path: str
     octets: Optional[bytes]
-    fault: Optional[OSError]
+    fault: Optional[Fault]
     questions: List[Question]
 
 
-def of_unread(task: Task, fault: OSError, common: Common) -> Judged:
-    """The verdicts of a capture that can't be read."""
+def of_unread(task: Task, fault: Fault, common: Common) -> Judged:
+    """The verdicts of a capture that can't be read, or that can't be made of a file of another kind."""
+    if isinstance(fault, Unmade):
+        return of_unmade(task, fault, common)
     number = READ_FAILED if is_of_read(fault) else OPEN_FAILED
     return without_verdicts(task.questions, common, {"number": number, "file": "capture"})
+
+
+def of_unmade(task: Task, fault: Unmade, common: Common) -> Judged:
+    """The rows of a file of another kind of which no capture can be made."""
+    asked = [(moment, question) for moment in common.moments for question in task.questions]
+    return Judged([Row(*each, REFUSED, "refused", {"said": str(fault)}, None) for each in asked], [])
 
 
 def is_of_read(fault: OSError) -> bool:
@@ -49,7 +58,7 @@ def judged_task(task: Task, common: Common, program: Program, place: Optional[st
     """The verdicts of a capture, which is read where it wasn't."""
     try:
         octets = octets_of(task.path) if task.octets is None else task.octets
-    except OSError as fault:
+    except (OSError, Unmade) as fault:
         return of_unread(task, fault, common)
     return judged(octets, task.questions, common, program, place)
 
