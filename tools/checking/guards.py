@@ -29,6 +29,7 @@ OF_TESTS = (
     "python3-distributed",
     "python3-jinja2",
     "python3-jsonschema",
+    "python3-protobuf",
     "python3-rich",
     "python3-zstandard",
     "tshark",
@@ -81,7 +82,9 @@ def of_fuzz(target: str) -> Guard:
     """A reader of the tools, tried on the inputs that one seed makes."""
     seconds = FUZZ_SECONDS // 3 if target in OF_FEW_LINES else FUZZ_SECONDS
     words = ("tools/fuzz", target, "--seconds", str(seconds), "--seed", FUZZ_SEED)
-    return Guard(f"fuzz/{target}", words, packages=(*OF_TOOLS, "python3-zstandard"), built=(PROGRAM,))
+    return Guard(
+        f"fuzz/{target}", words, packages=(*OF_TOOLS, "python3-protobuf", "python3-zstandard"), built=(PROGRAM,)
+    )
 
 
 def guards() -> list[Guard]:

@@ -2,9 +2,9 @@
 
 A capture file has DNS messages, each behind its length in two octets, as TCP carries them (RFC 1035 4.2.2). The
 answers are taken in the order of the command line and of each file; `-` is the standard input. Of a file that is named
-alone the octets tell the kind: a packet capture, the JSON of dnsviz or of RIPE Atlas, what dig prints, text in hex,
-else a stream. What gzip packed is unpacked, and what zstd packed where Python has a library for it, but for a file of
---stream.
+alone the octets tell the kind: a packet capture, dnstap, the JSON of dnsviz or of RIPE Atlas, what dig prints, text in
+hex, else a stream. What gzip packed is unpacked, and what zstd packed where Python has a library for it, but for a file
+of --stream.
 
 A file of --stream has what a server sent over TCP, octet by octet. A file of --pcap is a pcap or a pcapng of DNS over
 UDP and TCP; segments of TCP are put in order, and those that were sent again are taken once. Behind a gap the messages
@@ -15,6 +15,8 @@ A file of --tshark is any packet capture that tshark reads; tshark takes the mes
 fragments and of every encapsulation that it knows. A file of --dnsviz is the output of `dnsviz probe`; of several
 servers' answers to a question the first is kept that is whole, without an error, and to a query with the flag DO; else
 one that lacks the last of these, or the last two. A file of --atlas has results of RIPE Atlas, with `abuf`.
+A file of --dnstap is a frame stream, as servers and `kdig -E` write it; it needs the package protobuf (Debian:
+python3-protobuf).
 
 A file of --dig is what dig, kdig or drill printed with its head (`->>HEADER<<-`), of one answer or of several. Messages
 are written anew from it, which a note says: with the same records, and in other octets than those of the server. It
@@ -112,6 +114,7 @@ def command_line() -> argparse.ArgumentParser:
     parser.add_argument("--dnsviz", action=Source, metavar="FILE", help="the output of `dnsviz probe`")
     parser.add_argument("--dig", action=Source, metavar="FILE", help="text, as dig, kdig and drill print it")
     parser.add_argument("--atlas", action=Source, metavar="FILE", help="results of RIPE Atlas")
+    parser.add_argument("--dnstap", action=Source, metavar="FILE", help="a frame stream of dnstap")
     parser.add_argument("--port", action="append", type=port, metavar="N", help="a port of DNS; 53 where none is given")
     parser.add_argument("--output", metavar="FILE", help="the capture file; else the standard output")
     parser.add_argument("--macs", metavar="FILE", help="also write the MACs of the requests, a line for each message")

@@ -38,6 +38,7 @@ PARTS = {
     "dnssec_check_tools/verifying/curves.py": {"cryptography"},
     "dnssec_check_tools/capturing": {"command"},
     "dnssec_check_tools/capturing/notes.py": {"asking"},
+    "dnssec_check_tools/capturing/dnstap.py": {"asking", "google"},
     "dnssec_check_tools/capturing/printed.py": {"asking", "dns", "wire"},
     "dnssec_check_tools/asking": {"command", "capturing", "dns"},
     "dnssec_check_tools/explaining": {"asking"},

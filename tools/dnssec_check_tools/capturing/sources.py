@@ -5,6 +5,7 @@ from typing import Callable, Counter, Dict, List, Optional, Sequence, Set
 from ..command import read, shown
 
 from .atlas import entries_of_atlas, is_atlas
+from .dnstap import entries_of_dnstap, is_dnstap
 from .dnsviz import entries_of_dnsviz
 from .entries import Entry, Found, InPacket, Message, Omission, PassedOver, Refusal
 from .frames import frames_of
@@ -92,6 +93,8 @@ def kind_of(octets: bytes) -> str:
     """The kind of a file that is named alone. Text has no octet 0, and each message has some."""
     if is_packet_capture(octets):
         return "pcap"
+    if is_dnstap(octets):
+        return "dnstap"
     if b"\x00" in octets:
         return "stream"
     if MARK in octets:
@@ -107,6 +110,7 @@ READERS: Dict[str, Callable[[bytes, str], Sequence[Found]]] = {
     "dnsviz": entries_of_dnsviz,
     "dig": entries_of_printed,
     "atlas": entries_of_atlas,
+    "dnstap": entries_of_dnstap,
 }
 
 

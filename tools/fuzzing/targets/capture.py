@@ -22,7 +22,7 @@ from ..changes import Draw, lines_of
 from ..target import DATA, EXAMPLES, Desk, Ended, Target, given, kind_of, must, refused
 
 PORTS = {53, 5300, 5391, 15301}
-KINDS = (None, "stream", "hex", "dnsviz", "pcap", "dig", "atlas")
+KINDS = (None, "stream", "hex", "dnsviz", "pcap", "dig", "atlas", "dnstap")
 UNPACKED_MOST = 1 << 20  # in place of a GiB
 NAME_MOST = 255  # octets of a file's name
 WRONG_FRAMES = (208, 209)
@@ -159,6 +159,7 @@ def corpus() -> list[bytes]:
         *sorted(DATA.glob("signed.*")),
         DATA / "dnsviz" / "probe.json",
         *sorted((DATA / "dig").glob("*.txt")),
+        *sorted((DATA / "dnstap").glob("*.tap")),
         DATA / "atlas" / "results.json",
         *sorted(EXAMPLES.glob("*/capture")),
     ]
