@@ -8,6 +8,7 @@ from ..asking.moments import moment_text
 from ..explaining.said import Said
 from ..explaining.sentences import holds_until, reasons, verdict, why
 from ..program import Json
+from .colours import coloured
 from .numbers import fault_text
 from .work import Row
 
@@ -84,7 +85,7 @@ class Lines:
         at = f" at {moment_text(row.moment)}" if self.has_moments else ""
         question = f"{row.question.name} {mnemonic_of(row.question.kind)}"
         lines = [f"{front}{question}{at}: {self.said(capture, row)}", *(f"{INDENT}{each}" for each in reasons_of(row))]
-        return "\n".join(map(escaped, lines))
+        return coloured("\n".join(map(escaped, lines)))
 
     def said(self, capture: str, row: Row) -> str:
         told = row.told()
