@@ -12,6 +12,30 @@ FROM_WORST = (FAILS, MISSING, HOLDS, PLAIN, FOLLOWS, UNDER)
 
 Key = Tuple[Any, ...]
 
+# What stands beside an edge, in place of the program's word.
+SHORT = {
+    "algorithm": "algorithm not supported",
+    "bad": "bad",
+    "delegation": "a delegation",
+    "digest-differs": "another digest",
+    "digest-ignored": "a stronger digest counts",
+    "digest-type": "digest type not supported",
+    "dname": "DNAME, not followed",
+    "expanded": "from a wildcard",
+    "key-algorithm": "of another algorithm",
+    "key-missing": "no such key",
+    "key-untrusted": "key not trusted",
+    "labels": "more labels than the name",
+    "no-closer": "not proved: no",
+    "not-self-signed": "doesn't sign the keys",
+    "not-zone-key": "no zone key",
+    "nsec3-iterations": "too many iterations",
+    "nsec3-unusable": "not usable",
+    "signer": "of a zone that can't sign it",
+    "type-held": "has the type",
+    "unanswered": "not verified",
+}
+
 
 class Box(NamedTuple):
     """`zone` is the name of the frame that it stands in, None for what stands in none; `lines` is its text."""

@@ -1,7 +1,7 @@
 """The boxes and edges that each line of an explanation puts into the picture of the chain."""
 from typing import Dict, List, Set, Tuple
 from .explanation import DNSKEY, DS, Explanation, Line
-from .chain import FAILS, FOLLOWS, HOLDS, MISSING, PLAIN, UNDER
+from .chain import FAILS, FOLLOWS, HOLDS, MISSING, PLAIN, SHORT, UNDER
 from .chain import Chain, Key, anchor_box, ds_box, key_box, keys_box, rrset_box
 from .holding import UNUSABLE
 from .missing import DNAME, ROLES, is_unasked
@@ -171,7 +171,7 @@ def signature_text(told: Explanation, line: Line) -> str:
         return f"expired {date(told.now - line['by'], told.now)}"
     if line["word"] == "not-yet":
         return f"from {date(told.now + line['by'], told.now)}"
-    return f"{line['word']} {line['name']}" if line["word"] == "no-closer" else line["word"]
+    return f"{SHORT[line['word']]} {line['name']}" if line["word"] == "no-closer" else SHORT[line["word"]]
 
 
 def of_voucher(scene: Scene, line: Line) -> None:
@@ -184,12 +184,13 @@ def of_voucher(scene: Scene, line: Line) -> None:
     known = {(each["tag"], each["algorithm"]) for each in scene.told.keys(zone)}
     is_there = (line["tag"], line["algorithm"]) in known
     head = key_box(scene.chain, zone, line, PLAIN if is_there else MISSING)
-    scene.chain.join(tail, head, MISSING, line["word"])
+    scene.chain.join(tail, head, MISSING, SHORT[line["word"]])
 
 
 def not_self_signed(scene: Scene, line: Line) -> None:
     box = key_box(scene.chain, line["zone"], line, PLAIN)
-    scene.chain.join(box, keys_box(scene.chain, line["zone"], line["rrset"], PLAIN), MISSING, line["word"])
+    keys = keys_box(scene.chain, line["zone"], line["rrset"], PLAIN)
+    scene.chain.join(box, keys, MISSING, SHORT[line["word"]])
 
 
 def unsigned(scene: Scene, line: Line) -> None:
@@ -228,12 +229,12 @@ def record(scene: Scene, line: Line) -> None:
     box = scene.chain.add(
         ("record", line["rrset"], line["record"]), zone, (f"{kind}, record {line['record']}", name), FAILS
     )
-    scene.lead(box, FAILS, line["word"])
+    scene.lead(box, FAILS, SHORT[line["word"]])
 
 
 def dname(scene: Scene, line: Line) -> None:
     box = rrset_box(scene.chain, None, line["rrset"], line["name"], DNAME, FAILS)
-    scene.lead(box, FAILS, line["word"])
+    scene.lead(box, FAILS, SHORT[line["word"]])
 
 
 def question(scene: Scene, line: Line) -> None:

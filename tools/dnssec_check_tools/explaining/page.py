@@ -8,11 +8,12 @@ from ..asking.faults import escaped, lacking
 from ..asking.moments import moment_text
 from .drawn import chain_of
 from .explanation import Explanation
-from .picture import svg_of
+from .picture import svgs_of
 from .said import Said
 from .sentences import sentence, why
 
 PAGE, TEMPLATES = "page.html", "templates"
+HEAD, MANY = "Verdicts of DNSSEC", 20  # questions, from which on a page has its contents in front
 SVG = "<svg "  # what a picture begins with, behind which the template names it
 
 
@@ -85,13 +86,30 @@ def page_of(entries: Sequence[Entry], captures: Sequence[Tuple[str, List[str]]])
         keep_trailing_newline=True,
     )
     listed = [(name, markup("\n").join(map(shown, lines))) for name, lines in captures]
-    verdicts = [verdict_of(each) for each in entries]
-    return environment.get_template(PAGE).render(verdicts=verdicts, captures=listed)
+    verdicts = verdicts_of(entries)
+    return environment.get_template(PAGE).render(
+        title=title_of(entries), verdicts=verdicts, captures=listed, has_contents=len(entries) >= MANY
+    )
 
 
-def verdict_of(entry: Entry) -> Verdict:
+def title_of(entries: Sequence[Entry]) -> str:
+    """The first question and its capture, by which a page is known among others."""
+    if not entries:
+        return HEAD
+    more = f" and {len(entries) - 1} more" if len(entries) > 1 else ""
+    return f"{entries[0].question} of {entries[0].capture}{more}: {HEAD}"
+
+
+def verdicts_of(entries: Sequence[Entry]) -> List[Verdict]:
+    """The verdicts with their pictures, which are laid out at once."""
+    told = [entry.told for entry in entries if entry.told]
+    pictures = iter(svgs_of([chain_of(each) for each in told]))
+    return [verdict_of(entry, next(pictures) if entry.told else "") for entry in entries]
+
+
+def verdict_of(entry: Entry, picture: str) -> Verdict:
     chain = None
     if entry.told:
-        picture = markup(svg_of(chain_of(entry.told))[len(SVG) :])
-        chain = Chain(why(entry.told), picture, [sentence(entry.told, line) for line in entry.told.lines])
+        lines = [sentence(entry.told, line) for line in entry.told.lines]
+        chain = Chain(why(entry.told), markup(picture[len(SVG) :]), lines)
     return Verdict(entry.question, entry.said, entry.capture, moment_text(entry.moment), chain)

@@ -2,7 +2,7 @@
 import re
 import shutil
 import subprocess
-from typing import Dict, Iterable, List
+from typing import Dict, Iterable, List, Sequence
 
 from ..asking.faults import Failure
 
@@ -25,9 +25,10 @@ edge [arrowsize=0.7 fontname="Helvetica" fontsize=10]
 FRAME = "class=zone; style=rounded; margin=8"
 # A frame's name is a box without lines in it, beside which edges have to pass.
 NAMED = 'shape=plaintext margin=0 fontname="Helvetica-Bold" fontsize=12 class=name'
-# What Graphviz writes besides the picture: what is before it, comments, titles, which would be numbers of nodes, and
-# ids, which each picture of a page would have again.
-BESIDES = re.compile(r"\A.*?(?=<svg)|<!--.*?-->\n?|<title>.*?</title>\n?|(?<=<g) id=\"[^\"]*\"", re.DOTALL)
+PICTURE = re.compile(r"<svg .*?</svg>\n?", re.DOTALL)
+# What Graphviz writes besides: comments, titles, which would be numbers of nodes, and ids, which each picture of a page
+# would have again.
+BESIDES = re.compile(r"<!--.*?-->\n?|<title>.*?</title>\n?|(?<=<g) id=\"[^\"]*\"", re.DOTALL)
 WIDE = 26  # a longer name is broken at a dot
 NO_BREAK = "\u00a0"  # a blank that stays beside the text of an edge
 
@@ -81,9 +82,13 @@ def program() -> str:
     return path
 
 
-def svg_of(chain: Chain) -> str:
-    """The picture, as an element of HTML."""
-    done = subprocess.run([program(), "-Tsvg"], input=dot_of(chain).encode(), capture_output=True, check=False)
-    if done.returncode:
-        raise Failure(f"{DOT}: {done.stderr.decode(errors='replace').strip()}")
-    return BESIDES.sub("", done.stdout.decode())
+def svgs_of(chains: Sequence[Chain]) -> List[str]:
+    """The pictures, each as an element of HTML; Graphviz is begun once for all."""
+    if not chains:
+        return []
+    text = "".join(map(dot_of, chains))
+    done = subprocess.run([program(), "-Tsvg"], input=text.encode(), capture_output=True, check=False)
+    pictures = PICTURE.findall(done.stdout.decode())
+    if done.returncode or len(pictures) != len(chains):
+        raise Failure(f"{DOT}: {done.stderr.decode(errors='replace').strip() or 'a picture lacks'}")
+    return [BESIDES.sub("", each) for each in pictures]

@@ -1,5 +1,6 @@
 """Tests of the picture of a chain, and of the page that it stands in."""
 import html.parser
+import itertools
 import shutil
 import sys
 import unittest
@@ -48,7 +49,7 @@ class Drawn(unittest.TestCase):
         boxes, edges = states_of(told_of("roll-gone"))
         ds, key = "shop.example.test. DS record 1 key 43646 SHA-256", "key 43646 ECDSAP256SHA256"
         self.assertEqual((boxes[ds], boxes[key]), (chain.FAILS, chain.MISSING))
-        self.assertEqual(edges[ds, key], (chain.MISSING, "key-missing"))
+        self.assertEqual(edges[ds, key], (chain.MISSING, "no such key"))
         self.assertEqual(edges["anchor 1 example.test. SHA-256", "key 15877 ECDSAP256SHA256"], (chain.HOLDS, ""))
         self.assertEqual(edges["key 2053 ECDSAP256SHA256", ds], (chain.HOLDS, ""))
         self.assertEqual(edges["key 45316 ECDSAP256SHA256 ZONE", "www.shop.example.test. A"], (chain.FOLLOWS, ""))
@@ -74,6 +75,14 @@ class Drawn(unittest.TestCase):
             for line, text in zip(lines, texts):
                 boxes, _ = states_of(told_by(line, replies=replies))
                 self.assertIn(f"{text.removesuffix(' b.a.')}{behind}{' b.a.' * text.endswith(' b.a.')}", boxes)
+
+    def test_words_of_the_program_are_said_in_plain_english(self):
+        words = {line["word"] for form in FORMS for line in [next(lines_of(form))] if "word" in line}
+        self.assertLessEqual(set(chain.SHORT), words)
+        for form in FORMS:
+            for line in itertools.islice(lines_of(form), 1):
+                _, edges = states_of(told_by(line))
+                self.assertFalse({text for _, text in edges.values()} & set(chain.SHORT) - {"bad"}, line)
 
     def test_the_text_for_graphviz_quotes_what_strangers_wrote(self):
         self.assertEqual(picture.quoted(['a"b', "\\000&lt;", "{|}"]), r'"a\"b\n\\000&amp;lt;\n{|}"')
@@ -116,6 +125,31 @@ class Pages(unittest.TestCase):
                      "message 1 record 1", "Helvetica" if "style" not in read.tags else "key 43646"):
             self.assertIn(part, words)
         self.assertIn("svg", read.tags)
+
+    def test_its_title_is_the_first_question_and_its_capture(self):
+        told = told_of("roll-gone")
+        entry = page.Entry("www.shop.example.test. A", "Bogus", "a.cap", told.now, told)
+        for count, title in ((1, "www.shop.example.test. A of a.cap: "), (3, "www.shop.example.test. A of a.cap and 2 more: ")):
+            self.assertIn(f"<title>{title}Verdicts of DNSSEC</title>", page.page_of([entry] * count, []))
+        self.assertIn("<title>Verdicts of DNSSEC</title>", page.page_of([], []))
+
+    def test_from_twenty_questions_on_there_are_contents(self):
+        told = told_by(verdict="SecureAnswer")
+        entries = [page.Entry(f"n{number}. A", "SecureAnswer", "a.cap", told.now, None) for number in range(20)]
+        self.assertNotIn("<nav", page.page_of(entries[1:], []))
+        text = page.page_of(entries, [])
+        self.assertEqual(text.count('<li><a href="#v'), 20)
+        self.assertIn('<li><a href="#v20">n19. A: SecureAnswer</a></li>', text)
+        self.assertIn('<h2 id="v20">n19. A: SecureAnswer</h2>', text)
+
+    def test_pictures_are_laid_out_at_once_and_stay_in_their_order(self):
+        entries = [page.Entry(name, "Bogus", "a.cap", told_of(name).now, told_of(name)) for name in ("roll-gone", "expired-www-a")]
+        entries.insert(1, page.Entry("refused", "refused 401", "a.cap", entries[0].moment, None))
+        with mock.patch.object(picture.subprocess, "run", wraps=picture.subprocess.run) as runs:
+            first, none, second = page.verdicts_of(entries)
+        self.assertEqual((runs.call_count, none.chain), (1, None))
+        self.assertIn("key 43646", first.chain.picture_markup)
+        self.assertIn("expired 2026&#45;10&#45;01", second.chain.picture_markup)
 
     def test_it_loads_nothing(self):
         text = self.page(told_of("roll-gone"))
