@@ -57,7 +57,7 @@ from .judging.text import Lines, json_line, tsv_head, tsv_line
 from .judging.work import Common, Judged, Row
 from .outputs import is_same_output, overwritten
 from .program import FAILED, FROM_BEST, NAME, REFUSED, WRONG, program_of
-from .verifying.verifier import Budget, add_budget, add_budget_octets
+from .verifying.verifier import Budget, add_budget, add_budget_octets, add_budget_questions
 
 INPUTS = ("anchors", "keys", "macs", "questions")  # the options that name a file to read
 
@@ -108,6 +108,7 @@ def command_line() -> argparse.ArgumentParser:
     parser.add_argument("--records", action="store_true", help="print the records of the captures, with their numbers")
     add_budget(parser, "of a capture")
     add_budget_octets(parser, "of a capture")
+    add_budget_questions(parser, "of a capture")
     parser.add_argument("--jobs", type=whole_number, metavar="N", help="captures at once; else as many as processors")
     parser.add_argument("--scheduler", action="append", metavar="ADDRESS", help="the address of a Dask scheduler")
     parser.add_argument(
@@ -216,7 +217,7 @@ def judge(options: argparse.Namespace) -> int:
         raise WrongLine("--macs is of one capture, and there are more")
     moments = list(dict.fromkeys(map(seconds_of, options.at or ["now"])))
     keys, macs = (read(path[0]) if path else None for path in (options.keys, options.macs))
-    budget = Budget(options.budget, options.budget_octets)
+    budget = Budget(options.budget, options.budget_octets, options.budget_questions)
     common = Common(anchors_of(once(options.anchors), moments), keys, macs, moments, budget)
     page = Page(paths_of(options)) if options.html else None
     report = Report(options, asked, common, page)

@@ -1,15 +1,17 @@
 """The program `dnssec_check`, and the one way in which the tools ask it: where it is, the words that it's called with,
 its statuses, and the JSON that it prints."""
+import itertools
 import json
 import os
 import pathlib
 import shutil
 import signal
 from dataclasses import dataclass
-from typing import Any, Dict, List, NamedTuple, Optional
+from typing import Any, Dict, Iterator, List, NamedTuple, Optional
 
+from .asked import Asked, Time
 from .asking.faults import Failure
-from .asking.questions import Question
+from .asking.questions import Question, spelled
 from .listed import Listed
 from .started import Process, content_of, nameless
 
@@ -19,11 +21,13 @@ BUILT = os.path.join("crates", NAME, "out", NAME)
 # Characters of a name that the program gets. No name has more, its 255 octets at four each: by these a longer one is
 # refused as by all of it, which may be more than a system takes for an argument.
 NAME_MOST = 4096
+QUESTIONS_MOST = 1 << 20  # that a file of questions may have
 SECURE, INSECURE, PENDING, BOGUS, INDETERMINATE, REFUSED, FAILED, WRONG = 0, 3, 4, 5, 6, 7, 1, 2
 VERDICTS = (SECURE, INSECURE, PENDING, BOGUS, INDETERMINATE)
 FROM_BEST = (*VERDICTS, REFUSED, FAILED)
 LIST, CHECK, EXPLAIN = "list", "check", "explain"
 
+MORE_TIME = "--budget-questions SECONDS gives more"
 OPEN = "/proc/self/fd"  # where a process finds the files that it has open
 
 Json = Dict[str, Any]
@@ -31,11 +35,12 @@ Files = Dict[str, int]
 
 
 class Run(NamedTuple):
-    """The exit status, and the output and errors as text."""
+    """The exit status, the output and errors as text, and how many seconds of a processor it took."""
 
     status: int
     output: str
     errors: str
+    seconds: float = 0
 
 
 class Told(NamedTuple):
@@ -46,6 +51,10 @@ class Told(NamedTuple):
     word: str
     value: Optional[Json]
     said: str
+
+
+class OtherAnswer(Exception):
+    """The program answers another question than the one that was asked."""
 
 
 class Unlisted(Exception):
@@ -73,29 +82,103 @@ class Program:
         with nameless() as output, nameless() as errors:
             with Process(command, output.fileno(), errors.fileno(), files.values()) as process:
                 status = process.wait()
-            return Run(status, content_of(output).decode(), content_of(errors).decode("utf-8", "replace"))
+            texts = content_of(output).decode(), content_of(errors).decode("utf-8", "replace")
+            return Run(status, *texts, process.seconds)
 
     def listed(self, capture: int, moment: int, most: int) -> Listed:
         """The lines that a verifier has to answer at the moment, of which so many octets are read."""
         return Listed([self.path, LIST, *named({"capture": capture}), f"--moment={moment}"], capture, most)
 
-    def told(self, subcommand: str, files: Files, moment: int, question: Question) -> Told:
-        """What CHECK or EXPLAIN says of the question."""
-        name, kind = f"--name={question.name[:NAME_MOST]}", f"--type={question.kind}"
-        words = [subcommand, *named(files), f"--moment={moment}", name, kind, "--json"]
-        return told_by(self.run(words, files), subcommand)
+    def told(self, subcommand: str, files: Files, moment: int, questions: List[Question], left: Time) -> Iterator[Told]:
+        """What CHECK or EXPLAIN says of each question, in their order, while there is time. One run answers all, but
+        for those whose names no file of questions can have."""
+        asking = Asking(self, [subcommand, *named(files), f"--moment={moment}", "--json"], list(files.values()), left)
+        together = list(map(spelled, questions))
+        answers = asking.together([each for each in together if each])
+        for question, each in zip(questions, together):
+            yield from itertools.islice(answers, 1) if each else [asking.alone(question)]
+
+
+class Asking(NamedTuple):
+    """How questions are asked: the words of each run, and the files that it keeps open."""
+
+    program: Program
+    words: List[str]
+    kept: List[int]
+    left: Time
+
+    def alone(self, question: Question) -> Told:
+        if self.left.left <= 0:
+            return of_late(self.left)
+        words = [*self.words, f"--name={question.name[:NAME_MOST]}", f"--type={question.kind}"]
+        done = self.program.run(words, {str(number): number for number in self.kept})
+        self.left.spend(done.seconds)
+        if done.status in VERDICTS and done.output:
+            return told_by(json.loads(done.output))
+        return told_without_verdict(done, self.words[0])
+
+    def together(self, questions: List[Question]) -> Iterator[Told]:
+        for first in range(0, len(questions), QUESTIONS_MOST):
+            yield from self.of_file(questions[first : first + QUESTIONS_MOST])
+
+    def of_file(self, questions: List[Question]) -> Iterator[Told]:
+        """Where a run ends before its last answer, how it ended is told of the next question, and another run begins
+        behind that; what is refused, or too late, is so for all that are left."""
+        while questions:
+            count = 0
+            with nameless("".join(map(line_of, questions)).encode()) as file:
+                run = self.run(file.fileno())
+                for line in run.lines():
+                    yield told_of(questions[count], json.loads(line))
+                    count += 1
+            questions = questions[count:]
+            end = self.end_of(run)
+            ended = questions if run.is_over or end.status == REFUSED else questions[:1]
+            yield from (end for _ in ended)
+            questions = questions[len(ended) :]
+
+    def run(self, questions: int) -> Asked:
+        words = [self.program.path, *self.words, *named({"questions": questions})]
+        return Asked(words, [*self.kept, questions], self.left)
+
+    def end_of(self, run: Asked) -> Told:
+        """What is told of a question that the run didn't answer."""
+        if run.is_over:
+            return of_late(self.left)
+        return told_without_verdict(Run(run.status, "", run.errors), self.words[0])
+
+
+def line_of(question: Question) -> str:
+    """Its line in a file of questions, where a line that begins with `#` is a comment."""
+    front = "\\" if question.name.startswith("#") else ""
+    return f"{front}{question.name} {question.kind}\n"
 
 
 def named(files: Files) -> List[str]:
     return [f"--{option}={OPEN}/{number}" for option, number in files.items()]
 
 
-def told_by(done: Run, subcommand: str) -> Told:
-    """What a run with `--json` says."""
-    if done.status in VERDICTS and done.output:
-        value = json.loads(done.output)
-        return Told(done.status, value["verdict"], value, "")
-    return told_without_verdict(done, subcommand)
+def told_of(question: Question, value: Json) -> Told:
+    """What an object says of the question; it's the answer to this one, or none."""
+    if (value["name"], value["type"]) != question:
+        raise OtherAnswer(f"{value['name']} {value['type']} in place of {question.name} {question.kind}")
+    if "refused" in value:
+        return Told(REFUSED, "refused", None, str(value["refused"]))
+    return told_by(value)
+
+
+def told_by(value: Json) -> Told:
+    """What an object says that has a verdict. Of what is to be verified only the count is kept, since each question
+    has all of it again."""
+    if "todo" in value:
+        value["todo"] = [None] * len(value["todo"])
+    return Told(value["status"], value["verdict"], value, "")
+
+
+def of_late(left: Time) -> Told:
+    """What is told of a question behind the end of the time."""
+    said = f"not asked: the {left.seconds} seconds for the questions of a capture are over; {MORE_TIME}"
+    return Told(FAILED, "fault", None, f"- {said}")
 
 
 def told_without_verdict(done: Run, subcommand: str) -> Told:

@@ -60,6 +60,7 @@ class Process:
         ]
         self.status: Optional[int] = None  # below 0 where a signal ended it
         self.memory = 0  # octets that it had at most
+        self.seconds = 0.0  # of a processor
         self.pid = os.posix_spawn(command[0], command, environment(), file_actions=actions, setsigdef=DEFAULT)
 
     def wait(self) -> int:
@@ -67,15 +68,20 @@ class Process:
         if self.status is None:
             _, status, usage = os.wait4(self.pid, 0)
             self.status, self.memory = os.waitstatus_to_exitcode(status), usage.ru_maxrss * 1024
+            self.seconds = usage.ru_utime + usage.ru_stime
         return self.status
+
+    def end(self) -> None:
+        """Ends it, where it hasn't ended."""
+        if self.status is None:
+            os.kill(self.pid, signal.SIGKILL)
+            self.wait()
 
     def __enter__(self) -> "Process":
         return self
 
     def __exit__(self, *_: object) -> None:
-        if self.status is None:
-            os.kill(self.pid, signal.SIGKILL)
-            self.wait()
+        self.end()
 
 
 @contextlib.contextmanager

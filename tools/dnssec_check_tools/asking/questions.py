@@ -3,10 +3,12 @@ import os
 import re
 from typing import Dict, List, NamedTuple, Optional, Tuple
 
+from ..capturing.messages import name_text
 from ..command import read, shown
 
 from .faults import Refusal, WrongLine
 from .kinds import type_of
+from .names import labels_of
 
 LIST = "questions"  # the file beside the captures of `capture --split` that lists what each may be asked
 LINE = re.compile(r"(.*)(?:/|[ \t])[ \t]*(\S+)", re.DOTALL)
@@ -15,6 +17,12 @@ LINE = re.compile(r"(.*)(?:/|[ \t])[ \t]*(\S+)", re.DOTALL)
 class Question(NamedTuple):
     name: str
     kind: int
+
+
+def spelled(question: Question) -> Optional[Question]:
+    """The question with its name as the program writes it, None where the program refuses the name."""
+    labels = labels_of(question.name)
+    return None if labels is None else Question(name_text(labels), question.kind)
 
 
 def name_of(text: str) -> str:

@@ -2,12 +2,13 @@
 import contextlib
 from typing import Dict, List, NamedTuple, Optional, Tuple
 
+from ..asked import Time
 from ..asking.questions import Question
 from ..capturing.frames import frames_of
 from ..explaining.explanation import Explanation
 from ..explaining.replies import Reply
 from ..explaining.sentences import FAILING
-from ..program import EXPLAIN, FAILED, Files, Json, Program, Told, Unlisted
+from ..program import EXPLAIN, FAILED, Json, Program, Told, Unlisted
 from ..started import nameless
 from ..verifying.verifier import Budget
 
@@ -68,18 +69,13 @@ def judged(
         except Unlisted as fault:
             return without_verdicts(questions, common, of_fault(fault.said))
         files[STATEMENTS] = stack.enter_context(statements).fileno()
-        rows, view = [], View(octets)
+        rows, view, left = [], View(octets), Time(common.budget.questions)
         for moment in common.moments:
-            rows += rows_at(moment, questions, view, files, common, program)
+            with nameless(common.anchors[moment]) as anchors:
+                opened = {**files, "anchors": anchors.fileno()}
+                told = program.told(EXPLAIN, opened, moment, questions, left)
+                rows += [view.row(moment, question, each) for each, question in zip(told, questions)]
     return Judged(rows, notes)
-
-
-def rows_at(
-    moment: int, questions: List[Question], view: "View", files: Files, common: Common, program: Program
-) -> List[Row]:
-    with nameless(common.anchors[moment]) as anchors:
-        opened = {**files, "anchors": anchors.fileno()}
-        return [view.row(moment, each, program.told(EXPLAIN, opened, moment, each)) for each in questions]
 
 
 class View:

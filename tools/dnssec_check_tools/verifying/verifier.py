@@ -8,14 +8,17 @@ from typing import Callable, Dict, NamedTuple, Optional
 from .entries import entry_of, is_verified_good
 
 SECONDS, OCTETS = 10, 64_000_000
+SECONDS_TO_ASK = 60
 KEPT_MOST = 1 << 16  # some 10 MB
 
 
 class Budget(NamedTuple):
-    """The most for a capture: seconds of a processor that verify, and octets that are listed to be verified."""
+    """The most for a capture: seconds of a processor that verify, octets that are listed to be verified, and seconds
+    of a processor in which its questions are asked."""
 
     seconds: int = SECONDS
     octets: int = OCTETS
+    questions: int = SECONDS_TO_ASK
 
 
 def digest_of(line: str) -> bytes:
@@ -88,4 +91,15 @@ def add_budget_octets(parser: argparse.ArgumentParser, of: str) -> None:
         default=OCTETS,
         metavar="OCTETS",
         help=f"how many octets of what is to be verified {of} are read, {OCTETS} by default",
+    )
+
+
+def add_budget_questions(parser: argparse.ArgumentParser, of: str) -> None:
+    """The option of the time that asking may take of a processor."""
+    parser.add_argument(
+        "--budget-questions",
+        type=whole,
+        default=SECONDS_TO_ASK,
+        metavar="SECONDS",
+        help=f"processor time in which the questions {of} are asked, {SECONDS_TO_ASK} by default",
     )

@@ -78,7 +78,7 @@ class Aliases(unittest.TestCase):
         self.assertEqual(evidence_words(row.evidence), ALIAS)
 
     def test_several_are_told_in_their_order(self):
-        row = self.row(0, "SecureAnswer a. 1", ALIAS, "alias b.test. rrset 99 signature 1", "rrset 7 signature 1")
+        row = self.row(0, "SecureAnswer alias.bind.test. 1", ALIAS, "alias b.test. rrset 99 signature 1", "rrset 7 signature 1")
         self.assertEqual(row.evidence["aliases"][1], {"name": "b.test.", "rrset": 99, "signature": 1})
         self.assertIn("; by way of the aliases to www.bind.test. (RRset 6), ? (RRset 99)", self.said(row))
 
