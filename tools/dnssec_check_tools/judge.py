@@ -7,7 +7,8 @@ that are called `capture` or end with `.cap`, and those of all folders in it. A 
 other search is made. Behind `--` a word may begin with `-`.
 
 Each question is put to each capture, at each moment; signatures are verified once for a capture. Where no question is
-given, each capture of a folder that `dnssec_check-capture --split` wrote is asked its own.
+given, each capture of a folder that `dnssec_check-capture --split` wrote is asked its own. With --every each capture is
+asked for all that it has, and a line counts the verdicts, above the lines of those that aren't secure.
 
 Without options a line is printed for each question, with the verdict, until when the signatures that carry it are
 valid, and what the aliases on the way lead to, or what is refused and what to do. Below it, where it isn't secure,
@@ -42,9 +43,9 @@ from contextlib import closing
 from typing import Any, Dict, Iterable, Iterator, List, Optional, Tuple
 
 from .asking.anchors import ROOT, anchors_of
-from .asking.captures import Unmade, all_of, captures_of, octets_of, shown_of, told_apart
+from .asking.captures import Unmade, all_of, captures_of, octets_of, shown_of, told_apart, without_questions
 from .asking.faults import Failure, Refusal, WrongLine, escaped
-from .asking.questions import LIST, Question
+from .asking.questions import LIST, Questions
 from .asking.kinds import table
 from .asking.moments import seconds_of
 from .command import parser_of, read, run, tell, write
@@ -52,17 +53,18 @@ from .judging.cluster import WAIT_SECONDS, by_workers
 from .judging.page import Page
 from .judging.progress import progress
 from .judging.records import lines_of
+from .judging.report import Report, Text
 from .judging.spread import Results, Task, in_processes, of_unread, processors
-from .judging.text import Lines, json_line, tsv_head, tsv_line
-from .judging.work import Common, Judged, Row
+from .judging.text import Lines, Sums, json_line, rows_text, tsv_head, tsv_line
+from .judging.work import Common
 from .outputs import is_same_output, overwritten
-from .program import FAILED, FROM_BEST, NAME, REFUSED, WRONG, program_of
+from .program import FAILED, NAME, REFUSED, WRONG, program_of
 from .verifying.verifier import Budget, add_budget, add_budget_octets, add_budget_questions
 
 INPUTS = ("anchors", "keys", "macs", "questions")  # the options that name a file to read
 
 
-Asked = List[Tuple[str, List[Question]]]  # captures with their questions
+Asked = List[Tuple[str, Questions]]  # captures with their questions
 
 
 def whole_number(text: str) -> int:
@@ -96,6 +98,9 @@ def command_line() -> argparse.ArgumentParser:
         default=[],
         metavar="FILE",
         help="a question a line, NAME/TYPE or NAME TYPE; what is behind # is passed over",
+    )
+    parser.add_argument(
+        "--every", action="store_true", help="ask each capture for all that it has, and sum up; without questions"
     )
     parser.add_argument("--tsv", action="store_true", help="a table, its fields parted by tabs")
     parser.add_argument("--jsonl", action="store_true", help="an object of JSON for each question")
@@ -161,7 +166,7 @@ def tasks_of(asked: Asked, page: Optional[Page], is_read_here: bool) -> Iterator
         yield task
 
 
-def readable(tasks: Iterable[Task], report: "Report", common: Common) -> Iterator[Task]:
+def readable(tasks: Iterable[Task], report: Report, common: Common) -> Iterator[Task]:
     """The tasks that can be judged; of the others the fault is reported."""
     for task in tasks:
         if task.fault is None:
@@ -170,36 +175,17 @@ def readable(tasks: Iterable[Task], report: "Report", common: Common) -> Iterato
             report.take(task.number, of_unread(task, task.fault, common))
 
 
-class Report:
-    """Writes the verdicts in the order of the captures, and keeps the worst status; a page gets them too."""
-
-    def __init__(self, options: argparse.Namespace, asked: Asked, common: Common, page: Optional[Page]) -> None:
-        self.asked, self.worst, self.next, self.page = asked, 0, 0, page
-        self.waiting: Dict[int, Judged] = {}
-        lines = Lines(len(asked) > 1, len(common.moments) > 1, paths_of(options))
-        self.line = json_line if options.jsonl else tsv_line if options.tsv else lines.line
-
-    def take(self, number: int, judged: Judged) -> None:
-        self.waiting[number] = judged
-        while self.next in self.waiting:
-            path, found = self.asked[self.next][0], self.waiting.pop(self.next)
-            for note in found.notes:
-                tell(f"{escaped(path)}: {note}")
-            self.worst = max([self.worst, *(row.status for row in found.rows)], key=FROM_BEST.index)
-            write("-", "".join(self.line(path, row) + "\n" for row in found.rows).encode())
-            for row in found.rows:
-                self.add(path, row)
-            self.next += 1
-
-    def add(self, path: str, row: Row) -> None:
-        if self.page:
-            self.page.add(path, row)
-
-
 def paths_of(options: argparse.Namespace) -> Dict[str, str]:
     """The files that are the same for all captures, by the names of their options."""
     paths = {"anchors": once(options.anchors) or ROOT, "keys": once(options.keys), "macs": once(options.macs)}
     return {name: path for name, path in paths.items() if path}
+
+
+def text_of(options: argparse.Namespace, has_captures: bool, has_moments: bool) -> Text:
+    if options.jsonl or options.tsv:
+        return rows_text(json_line if options.jsonl else tsv_line)
+    kind = Sums if options.every else Lines
+    return kind(has_captures, has_moments, paths_of(options)).text
 
 
 def results_of(tasks: Iterable[Task], common: Common, options: argparse.Namespace, count: int) -> Results:
@@ -212,15 +198,16 @@ def results_of(tasks: Iterable[Task], common: Common, options: argparse.Namespac
 def judge(options: argparse.Namespace) -> int:
     """Judges all, and answers the worst status."""
     table()  # each line has a type: without dnspython, that's told before anything is judged
-    asked = all_of(options.words, options.questions)
+    given = options.words, options.questions
+    asked = without_questions(*given, "--every") if options.every else all_of(*given)
     if options.macs and len(asked) > 1:
         raise WrongLine("--macs is of one capture, and there are more")
     moments = list(dict.fromkeys(map(seconds_of, options.at or ["now"])))
     keys, macs = (read(path[0]) if path else None for path in (options.keys, options.macs))
     budget = Budget(options.budget, options.budget_octets, options.budget_questions)
-    common = Common(anchors_of(once(options.anchors), moments), keys, macs, moments, budget)
+    common = Common(anchors_of(once(options.anchors), moments), keys, macs, moments, budget, bool(options.html))
     page = Page(paths_of(options)) if options.html else None
-    report = Report(options, asked, common, page)
+    report = Report(text_of(options, len(asked) > 1, len(moments) > 1), [path for path, _ in asked], page)
     if options.tsv:
         write("-", (tsv_head() + "\n").encode())
     tasks = readable(tasks_of(asked, page, bool(options.scheduler)), report, common)

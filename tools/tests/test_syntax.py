@@ -46,6 +46,7 @@ PARTS = {
     "dnssec_check_tools/explaining/page.py": {"asking", "jinja2", "markupsafe"},
     "dnssec_check_tools/wire.py": {"dns"},
     "dnssec_check_tools/judging": {"asked", "asking", "capturing", "explaining", "program", "started", "verifying", "dns"},
+    "dnssec_check_tools/judging/report.py": {"asking", "command", "program"},
     "dnssec_check_tools/judging/cluster.py": {"asking", "distributed", "program"},
     "dnssec_check_tools/judging/workers.py": {"command", "program"},
     "dnssec_check_tools/judging/progress.py": {"rich"},

@@ -14,7 +14,7 @@ from ..capturing.sources import entries_in, other_kind_of
 from ..command import shown, tell
 
 from .faults import Refusal, WrongLine, escaped
-from .questions import Question, question_of_word, questions_of_file, questions_of_split, wrong_word
+from .questions import Question, Questions, question_of_word, questions_of_file, questions_of_split, wrong_word
 
 # Octets of a file that are read: all of a capture, and one message more, by which the program refuses it.
 SIZE_MOST = (MESSAGES_MOST + 1) * FRAME_SIZE_MOST
@@ -97,7 +97,17 @@ def captures_of(paths: List[str], are_own_asked: bool = False) -> List[Capture]:
     return captures
 
 
-def all_of(words: List[str], question_files: List[str]) -> List[Tuple[str, List[Question]]]:
+def without_questions(words: List[str], question_files: List[str], option: str) -> List[Tuple[str, Questions]]:
+    """The captures, for an option that asks what they have, and so goes without questions."""
+    paths, questions = told_apart(words)
+    if questions or question_files:
+        raise WrongLine(f"{option} asks what captures have, and goes without questions")
+    if not paths:
+        raise WrongLine("no capture is named")
+    return [(capture.path, None) for capture in captures_of(paths)]
+
+
+def all_of(words: List[str], question_files: List[str]) -> List[Tuple[str, Questions]]:
     """The captures, each with its questions."""
     paths, questions = told_apart(words)
     for path in question_files:
@@ -110,7 +120,7 @@ def all_of(words: List[str], question_files: List[str]) -> List[Tuple[str, List[
     captures = captures_of(paths, not is_asked)
     if is_asked:
         return [(capture.path, questions) for capture in captures]
-    asked = [(capture.path, capture.own) for capture in captures if capture.own]
+    asked: List[Tuple[str, Questions]] = [(capture.path, capture.own) for capture in captures if capture.own]
     alone = [path for path in paths if not os.path.isdir(path)]  # a list of questions is a folder's
     if alone or not asked:
         raise WrongLine(

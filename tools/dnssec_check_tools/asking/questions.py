@@ -19,6 +19,9 @@ class Question(NamedTuple):
     kind: int
 
 
+Questions = Optional[List[Question]]  # None, all that a capture has
+
+
 def spelled(question: Question) -> Optional[Question]:
     """The question with its name as the program writes it, None where the program refuses the name."""
     labels = labels_of(question.name)

@@ -7,10 +7,10 @@ import shutil
 import tempfile
 import time
 import zipfile
-from typing import Any, Iterable, Iterator, List
+from typing import Any, Iterable, Iterator
 
 from ..asking.faults import Failure, lacking
-from ..asking.questions import Question
+from ..asking.questions import Questions
 from ..program import NAME, PACKAGE, Program
 
 from .handed_out import LOOK_SECONDS, HandedOut
@@ -42,7 +42,7 @@ def modules() -> bytes:
     return octets.getvalue()
 
 
-def at_worker(octets: bytes, questions: List[Question], common: Common) -> Answer:
+def at_worker(octets: bytes, questions: Questions, common: Common) -> Answer:
     """The verdicts on a capture, by the program on the worker's own path. Dask clears the folder of a worker that is
     lost."""
     path = shutil.which(NAME)

@@ -1,11 +1,10 @@
 """The page of HTML that --html writes."""
 from typing import Dict, List, Tuple
-from ..asking.kinds import mnemonic_of
 from ..explaining.page import Entry, library, page_of
 from ..explaining.picture import program
 
 from .records import lines_of
-from .text import Lines
+from .text import Lines, asked_text
 from .work import Row
 
 
@@ -23,10 +22,11 @@ class Page:
         """The capture with this number."""
         self.records[number] = path, list(lines_of(octets))
 
-    def add(self, path: str, row: Row) -> None:
-        """A verdict."""
-        question = f"{row.question.name} {mnemonic_of(row.question.kind)}"
-        self.entries.append(Entry(question, self.lines.said(path, row), path, row.moment, row.told()))
+    def take(self, path: str, rows: List[Row]) -> None:
+        """The verdicts on a capture."""
+        for row in rows:
+            question = asked_text(row.question) or "-"
+            self.entries.append(Entry(question, self.lines.said(path, row), path, row.moment, row.told()))
 
     def octets(self) -> bytes:
         captures = [self.records[number] for number in sorted(self.records)]

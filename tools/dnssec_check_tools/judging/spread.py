@@ -1,11 +1,11 @@
 """Captures judged several at once on this machine, each by a process of its own."""
 import functools
 import os
-from typing import Generator, Iterable, Iterator, List, NamedTuple, Optional, Set, Tuple, Union
+from typing import Generator, Iterable, Iterator, NamedTuple, Optional, Set, Tuple, Union
 
 from ..asking.captures import Unmade, octets_of
 from ..asking.faults import Failure
-from ..asking.questions import Question
+from ..asking.questions import Questions
 from ..program import REFUSED, Program
 
 from .work import Common, Judged, Row, judged, without_verdicts
@@ -27,7 +27,7 @@ class Task(NamedTuple):
     path: str
     octets: Optional[bytes]
     fault: Optional[Fault]
-    questions: List[Question]
+    questions: Questions
 
 
 def of_unread(task: Task, fault: Fault, common: Common) -> Judged:

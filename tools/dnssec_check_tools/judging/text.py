@@ -1,13 +1,17 @@
 """Verdicts in words, with why they stand, and as the rows of tables."""
+import itertools
 import json
-from typing import Dict, List, Optional, Tuple
+from collections import Counter
+from typing import Callable, Dict, List, Optional, Tuple
 
 from ..asking.faults import escaped
 from ..asking.kinds import mnemonic_of
 from ..asking.moments import moment_text
+from ..asking.questions import Question
 from ..explaining.said import Said
 from ..explaining.sentences import holds_until, reasons, verdict, why
-from ..program import Json
+from ..explaining.values import counted
+from ..program import FROM_BEST, SECURE, Json
 from .colours import coloured
 from .numbers import fault_text
 from .work import Row
@@ -20,9 +24,14 @@ BETWEEN = " | "  # two reasons of a table
 
 def fields_of(capture: str, row: Row) -> Json:
     """The values of a row, by column."""
-    kind = mnemonic_of(row.question.kind)
-    values = (capture, row.moment, row.question.name, kind, row.status, row.word, row.evidence, *why_fields(row))
+    name, kind = (row.question.name, mnemonic_of(row.question.kind)) if row.question else (None, None)
+    values = (capture, row.moment, name, kind, row.status, row.word, row.evidence, *why_fields(row))
     return dict(zip(COLUMNS, values))
+
+
+def asked_text(question: Optional[Question]) -> str:
+    """The question; nothing where it's of a capture as a whole that something is told."""
+    return f"{question.name} {mnemonic_of(question.kind)}" if question else ""
 
 
 def why_fields(row: Row) -> Tuple[Optional[int], Optional[str], Optional[int], List[Json]]:
@@ -80,18 +89,56 @@ class Lines:
     def __init__(self, has_captures: bool, has_moments: bool, paths: Dict[str, str]) -> None:
         self.has_captures, self.has_moments, self.paths = has_captures, has_moments, paths
 
+    def text(self, capture: str, rows: List[Row]) -> str:
+        return "".join(self.line(capture, row) + "\n" for row in rows)
+
     def line(self, capture: str, row: Row) -> str:
-        front = f"{capture}: " if self.has_captures else ""
-        at = f" at {moment_text(row.moment)}" if self.has_moments else ""
-        question = f"{row.question.name} {mnemonic_of(row.question.kind)}"
-        lines = [f"{front}{question}{at}: {self.said(capture, row)}", *(f"{INDENT}{each}" for each in reasons_of(row))]
-        return coloured("\n".join(map(escaped, lines)))
+        about = asked_text(row.question)
+        front = f"{capture}: " if self.has_captures and about else ""
+        line = f"{front}{about or capture}{self.at(row)}: {self.said(capture, row)}"
+        return coloured("\n".join(map(escaped, [line, *(f"{INDENT}{each}" for each in reasons_of(row))])))
+
+    def at(self, row: Row) -> str:
+        return f" at {moment_text(row.moment)}" if self.has_moments else ""
 
     def said(self, capture: str, row: Row) -> str:
         told = row.told()
         if told is None:
             return f"{row.word} " + fault_text(row.evidence, {**self.paths, "capture": capture})
         return "; ".join([verdict(told), *aliases_texts(row.evidence)])
+
+
+class Sums(Lines):
+    """A line that counts the verdicts of a capture at a moment, and the lines of those that aren't secure."""
+
+    def text(self, capture: str, rows: List[Row]) -> str:
+        if not rows:
+            return escaped(f"{capture}: nothing to ask for") + "\n"
+        moments = itertools.groupby(rows, key=lambda row: row.moment)
+        return "".join(self.of_moment(capture, list(group)) for _, group in moments)
+
+    def of_moment(self, capture: str, rows: List[Row]) -> str:
+        asked = [row for row in rows if row.question]
+        others = super().text(capture, [row for row in rows if row.status != SECURE])
+        if not asked:
+            return others
+        head = escaped(f"{capture}: {counted(len(asked), 'question')}{self.at(asked[0])}: {counts_text(asked)}")
+        return f"{head}\n{others}"
+
+
+def counts_text(rows: List[Row]) -> str:
+    """How many are secure, and how many there are of each other verdict, from the best to the worst."""
+    words = ["secure" if row.status == SECURE else row.word for row in sorted(rows, key=rank_of)]
+    return ", ".join(f"{count} {word}" for word, count in Counter(words).items())
+
+
+def rank_of(row: Row) -> int:
+    return FROM_BEST.index(row.status)
+
+
+def rows_text(line: Callable[[str, Row], str]) -> Callable[[str, List[Row]], str]:
+    """All rows as a table has them."""
+    return lambda capture, rows: "".join(line(capture, row) + "\n" for row in rows)
 
 
 def reasons_of(row: Row) -> List[Said]:

@@ -1,40 +1,45 @@
 """A capture judged: verified once, and asked each question at each moment. All that it reads is octets."""
 import contextlib
+import json
 from typing import Dict, List, NamedTuple, Optional, Tuple
 
 from ..asked import Time
-from ..asking.questions import Question
+from ..asking.questions import Question, Questions
 from ..capturing.frames import frames_of
 from ..explaining.explanation import Explanation
 from ..explaining.replies import Reply
 from ..explaining.sentences import FAILING
-from ..program import EXPLAIN, FAILED, Json, Program, Told, Unlisted
+from ..program import EXPLAIN, FAILED, SECURE, Json, Program, Told, Unlisted
 from ..started import nameless
 from ..verifying.verifier import Budget
 
+from .every import NOTHING, every_question
 from .evidence import Evidence
 from .replies import replies_of
 from .statements import STATEMENTS, statements_on
 
 DENYING = {47: "NSEC", 50: "NSEC3"}
+HOLDS = "holds"  # all that is said of what is secure, but on a page: rows of many questions are to fit into memory
 
 
 class Common(NamedTuple):
-    """What is the same for all captures; `anchors` has octets by moment."""
+    """What is the same for all captures; `anchors` has octets by moment. A page wants explanations whole."""
 
     anchors: Dict[int, bytes]
     keys: Optional[bytes]
     macs: Optional[bytes]
     moments: List[int]
     budget: Budget = Budget()
+    is_page: bool = False
 
 
 class Row(NamedTuple):
     """A verdict: its word, what carries it by name, and the object that says why, None where there is none; where it
-    isn't secure, with how the messages of the capture answer what was asked."""
+    isn't secure, with how the messages of the capture answer what was asked. Without a question it's what is told of
+    the capture as a whole."""
 
     moment: int
-    question: Question
+    question: Optional[Question]
     status: int
     word: str
     evidence: Json
@@ -53,10 +58,12 @@ class Judged(NamedTuple):
 
 
 def judged(
-    octets: bytes, questions: List[Question], common: Common, program: Program, place: Optional[str] = None
+    octets: bytes, questions: Questions, common: Common, program: Program, place: Optional[str] = None
 ) -> Judged:
     """The verdicts on the questions, by moment. What is too long to be kept in memory is at the place for a time, where
     one is told. Keys of TSIG never are."""
+    view = View(octets, common.is_page)
+    asked = every_question(view.evidence) if questions is None else questions
     with contextlib.ExitStack() as stack:
         given = {"capture": octets, "macs": common.macs, "keys": common.keys}
         files = {
@@ -69,20 +76,30 @@ def judged(
         except Unlisted as fault:
             return without_verdicts(questions, common, of_fault(fault.said))
         files[STATEMENTS] = stack.enter_context(statements).fileno()
-        rows, view, left = [], View(octets), Time(common.budget.questions)
+        rows, left = [], Time(common.budget.questions)
         for moment in common.moments:
             with nameless(common.anchors[moment]) as anchors:
                 opened = {**files, "anchors": anchors.fileno()}
-                told = program.told(EXPLAIN, opened, moment, questions, left)
-                rows += [view.row(moment, question, each) for each, question in zip(told, questions)]
+                told = program.told(EXPLAIN, opened, moment, asked or [NOTHING], left)
+                found = [view.row(moment, question, each) for each, question in zip(told, asked or [NOTHING])]
+                rows += as_one(found, bool(asked)) if questions is None else found
     return Judged(rows, notes)
+
+
+def as_one(rows: List[Row], is_asked: bool) -> List[Row]:
+    """The rows of what a capture has; what is refused of all of them, and so of the capture, in one. Where nothing was
+    to be asked for, no verdict counts."""
+    said = {(row.status, row.word, json.dumps(row.evidence)) for row in rows if row.explained is None}
+    if len(said) == 1 and all(row.explained is None for row in rows):
+        return [rows[0]._replace(question=None)]
+    return rows if is_asked else []
 
 
 class View:
     """What the records of a capture say of verdicts."""
 
-    def __init__(self, octets: bytes) -> None:
-        self.octets = octets
+    def __init__(self, octets: bytes, is_whole: bool = False) -> None:
+        self.octets, self.is_whole = octets, is_whole
         self.kept: Optional[Evidence] = None
         self.kept_replies: Optional[Tuple[Reply, ...]] = None
 
@@ -106,6 +123,8 @@ class View:
         aliases = told.value["aliases"]
         evidence = {"aliases": [self.of_alias(each) for each in aliases]} if aliases else {}
         evidence.update(self.evidence_of(told.value))
+        if told.status == SECURE and not self.is_whole:
+            told.value["why"] = [line for line in told.value["why"] if line["line"] == HOLDS]
         replies = self.replies if told.word in FAILING else None
         return Row(moment, question, told.status, told.word, evidence, told.value, replies)
 
@@ -132,12 +151,11 @@ class View:
         return {**found, "target": target} if target else found
 
 
-def without_verdicts(questions: List[Question], common: Common, evidence: Json) -> Judged:
+def without_verdicts(questions: Questions, common: Common, evidence: Json) -> Judged:
     """The rows of a capture that a fault, which the evidence tells, leaves without verdicts."""
-    return Judged(
-        [Row(moment, question, FAILED, "fault", evidence, None) for moment in common.moments for question in questions],
-        [],
-    )
+    row = Row(0, None, FAILED, "fault", evidence, None)
+    asked = [row] if questions is None else [row._replace(question=each) for each in questions]
+    return Judged([each._replace(moment=moment) for moment in common.moments for each in asked], [])
 
 
 def of_fault(line: str) -> Json:

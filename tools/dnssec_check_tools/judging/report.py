@@ -1,0 +1,34 @@
+"""What is judged, written as it comes, in the order of the captures."""
+from typing import Callable, Dict, List, Optional
+
+from ..asking.faults import escaped
+from ..command import tell, write
+from ..program import FROM_BEST
+
+from .page import Page
+from .work import Judged, Row
+
+Text = Callable[[str, List[Row]], str]  # of the rows of a capture, by its path
+
+
+class Report:
+    """Writes the verdicts, and keeps the worst status; a page gets them too."""
+
+    def __init__(self, text: Text, paths: List[str], page: Optional[Page]) -> None:
+        self.text, self.paths, self.page = text, paths, page
+        self.worst, self.next = 0, 0
+        self.waiting: Dict[int, Judged] = {}
+
+    def take(self, number: int, judged: Judged) -> None:
+        self.waiting[number] = judged
+        while self.next in self.waiting:
+            self.say(self.paths[self.next], self.waiting.pop(self.next))
+            self.next += 1
+
+    def say(self, path: str, found: Judged) -> None:
+        for note in found.notes:
+            tell(f"{escaped(path)}: {note}")
+        self.worst = max([self.worst, *(row.status for row in found.rows)], key=FROM_BEST.index)
+        write("-", self.text(path, found.rows).encode())
+        if self.page:
+            self.page.take(path, found.rows)
