@@ -15,6 +15,7 @@ from .helper import ANCHORS, JUDGE, NOON, Judging, capture_of, examples, needs_d
 WWW = capture_of("bind-www-a")
 AT_ONCE = 8
 LIMIT = 120  # seconds, for whatever takes a moment where nothing else is done
+TO_END = 30  # seconds, for what takes two
 # Tells its process and that of whoever runs it, and waits; that is a process of its own.
 WAITS = """echo $PPID > at_work/$$.new
 mv at_work/$$.new at_work/$$
@@ -30,9 +31,9 @@ def is_there(process):
     return text.rpartition(")")[2].split()[0] not in "ZX"
 
 
-def wait_for(condition):
+def wait_for(condition, seconds=LIMIT):
     """What the condition gives, once it's true."""
-    last = time.monotonic() + LIMIT
+    last = time.monotonic() + seconds
     while time.monotonic() < last:
         found = condition()
         if found:
@@ -71,16 +72,23 @@ class Ends(Judging):
 
     def nothing_is_left(self):
         processes = [process for pair in self.at_work().items() for process in pair]
-        wait_for(lambda: not any(map(is_there, processes)))
+        wait_for(lambda: not any(map(is_there, processes)), TO_END)
         self.assertEqual(list((self.room / "temporary").iterdir()), [])
+
+    def ended(self, judge):
+        """The status, the output and the errors of the tool, which is to end by itself."""
+        try:
+            output, errors = judge.communicate(timeout=TO_END)
+        except subprocess.TimeoutExpired:
+            self.fail(f"it hasn't ended within {TO_END} seconds")
+        return judge.returncode, output, errors
 
     def test_signals_end_all(self):
         for number, told in ((signal.SIGINT, "interrupted"), (signal.SIGTERM, "terminated"), (signal.SIGHUP, "hung up")):
             with self.subTest(number):
                 judge = self.start()
                 judge.send_signal(number)
-                output, errors = judge.communicate(timeout=LIMIT)
-                self.assertEqual((judge.returncode, output, errors), (128 + number, "", f"judge: {told}\n"))
+                self.assertEqual(self.ended(judge), (128 + number, "", f"judge: {told}\n"))
                 self.nothing_is_left()
                 shutil.rmtree(self.room / "at_work")
                 (self.room / "at_work").mkdir()
@@ -90,7 +98,7 @@ class Ends(Judging):
         for worker in self.at_work().values():
             os.kill(worker, signal.SIGSTOP)
         judge.send_signal(signal.SIGTERM)
-        self.assertEqual(judge.communicate(timeout=LIMIT), ("", "judge: terminated\n"))
+        self.assertEqual(self.ended(judge), (128 + signal.SIGTERM, "", "judge: terminated\n"))
         self.nothing_is_left()
 
     def test_one_that_is_killed_leaves_nothing_and_the_others_go_on(self):
@@ -98,7 +106,7 @@ class Ends(Judging):
         program, worker = sorted(self.at_work().items())[0]
         os.kill(worker, signal.SIGKILL)
         wait_for(lambda: len(self.at_work()) == AT_ONCE + 1)
-        wait_for(lambda: not is_there(program))
+        wait_for(lambda: not is_there(program), TO_END)
         (self.room / "go").touch()
         output, errors = judge.communicate(timeout=LIMIT)
         self.assertEqual((judge.returncode, output.count(": SecureAnswer"), errors), (0, AT_ONCE, ""))
@@ -109,9 +117,23 @@ class Ends(Judging):
         judge.kill()
         judge.wait()
         (self.room / "go").touch()
-        wait_for(lambda: not any(map(is_there, self.at_work().values())))
+        wait_for(lambda: not any(map(is_there, self.at_work().values())), TO_END)
         left, = (self.room / "temporary").iterdir()
         self.assertEqual(list(left.iterdir()), [])
+
+
+# Looks for the secret in all that the process of the tool, and that which runs the program, have open, and below the
+# folder for what is there for a time; and says what the file of the keys is.
+LOOKS = """grep -rqsF SECRET "$TMPDIR" && touch ROOM/found
+for word; do
+  case $word in --keys=*) readlink "${word#--keys=}" >> ROOM/keys;; esac
+done
+for file in /proc/$PPID/fd/*; do
+  case $(readlink "$file") in
+    /memfd:* | pipe:* | socket:* | /dev/null | *.keys | */keys) ;;
+    /*) grep -qsF SECRET "$file" && touch ROOM/found;;
+  esac
+done"""
 
 
 @needs_dns
@@ -122,12 +144,14 @@ class Keys(Judging):
         files = {name: example.options[name] for name in ("anchors", "keys", "macs")}
         temporary, secret = self.room / "temporary", files["keys"].read_text().split()[-1]
         temporary.mkdir()
-        self.program = self.stand_in(f'grep -rqF {secret} "$TMPDIR" || touch {self.room}/$1')
+        self.program = self.stand_in(LOOKS.replace("SECRET", secret).replace("ROOM", str(self.room)))
         with mock.patch.dict(os.environ, TMPDIR=str(temporary)):
             words = [word for name, path in files.items() for word in (f"--{name}", path)]
             status, lines, _ = self.judge("--at", NOON, *words, example.options["capture"], "nosuch.bind.test/A")
         self.assertEqual((status, len(lines)), (0, 1))
-        self.assertTrue((self.room / "explain").exists())
+        self.assertFalse((self.room / "found").exists())
+        links = (self.room / "keys").read_text().splitlines()
+        self.assertTrue(links and all(link.startswith("/memfd:") for link in links), links)
 
 
 if __name__ == "__main__":
