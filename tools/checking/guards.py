@@ -24,6 +24,7 @@ OF_TESTS = (
     "dpkg-dev",
     "gcc",
     "graphviz",
+    "ldnsutils",
     "libc6-dev",
     "mandoc",
     "python3-distributed",

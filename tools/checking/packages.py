@@ -37,6 +37,7 @@ PACKAGES = (
     Package("dpkg-dev", command="dpkg-buildpackage"),
     Package("gcc", command="cc"),
     Package("graphviz", command="dot"),
+    Package("ldnsutils", command="ldns-signzone"),
     Package("libc6-dev", file="/usr/include/stdio.h"),
     Package("mandoc", command="mandoc"),
     Package("mypy", module="mypy"),

@@ -8,7 +8,8 @@ other search is made. Behind `--` a word may begin with `-`.
 
 Each question is put to each capture, at each moment; signatures are verified once for a capture. Where no question is
 given, each capture of a folder that `dnssec_check-capture --split` wrote is asked its own. With --every each capture is
-asked for all that it has, and a line counts the verdicts, above the lines of those that aren't secure.
+asked for all that it has, and a line counts the verdicts, above the lines of those that aren't secure. With --zone the
+files have the transfer of a zone (AXFR), which is asked for all that it has and denies.
 
 Without options a line is printed for each question, with the verdict, until when the signatures that carry it are
 valid, and what the aliases on the way lead to, or what is refused and what to do. Below it, where it isn't secure,
@@ -40,12 +41,12 @@ import argparse
 import os
 import sys
 from contextlib import closing
-from typing import Any, Dict, Iterable, Iterator, List, Optional, Tuple
+from typing import Any, Dict, Iterable, List, Optional
 
 from .asking.anchors import ROOT, anchors_of
-from .asking.captures import Unmade, all_of, captures_of, octets_of, shown_of, told_apart, without_questions
+from .asking.captures import all_of, captures_of, shown_of, told_apart, without_questions
 from .asking.faults import Failure, Refusal, WrongLine, escaped
-from .asking.questions import LIST, Questions
+from .asking.questions import LIST
 from .asking.kinds import table
 from .asking.moments import seconds_of
 from .command import parser_of, read, run, tell, write
@@ -54,17 +55,17 @@ from .judging.page import Page
 from .judging.progress import progress
 from .judging.records import lines_of
 from .judging.report import Report, Text
-from .judging.spread import Results, Task, in_processes, of_unread, processors
+from .judging.spread import Results, Task, in_processes, processors
+from .judging.tasks import readable, tasks_of
 from .judging.text import Lines, Sums, json_line, rows_text, tsv_head, tsv_line
 from .judging.work import Common
 from .outputs import is_same_output, overwritten
-from .program import FAILED, NAME, REFUSED, WRONG, program_of
+from .program import FAILED, FROM_BEST, NAME, REFUSED, WRONG, program_of
 from .verifying.verifier import Budget, add_budget, add_budget_octets, add_budget_questions
+from .zones.audit import audit_of, port
+from .zones.told import ZoneText
 
 INPUTS = ("anchors", "keys", "macs", "questions")  # the options that name a file to read
-
-
-Asked = List[Tuple[str, Questions]]  # captures with their questions
 
 
 def whole_number(text: str) -> int:
@@ -101,6 +102,12 @@ def command_line() -> argparse.ArgumentParser:
     )
     parser.add_argument(
         "--every", action="store_true", help="ask each capture for all that it has, and sum up; without questions"
+    )
+    parser.add_argument(
+        "--zone", action="store_true", help="ask of a zone whose transfer is in the files all that it has and denies"
+    )
+    parser.add_argument(
+        "--port", action="append", type=port, metavar="N", help="of --zone: a port of DNS in packets; 53"
     )
     parser.add_argument("--tsv", action="store_true", help="a table, its fields parted by tabs")
     parser.add_argument("--jsonl", action="store_true", help="an object of JSON for each question")
@@ -142,37 +149,15 @@ def fault_of(options: argparse.Namespace) -> Optional[str]:
         return "--scheduler goes without --program and --jobs: its workers have their own"
     if options.wait and not options.scheduler:
         return "--wait goes with --scheduler"
+    if options.port and not options.zone:
+        return "--port goes with --zone"
+    if options.zone and (options.every or options.keys or options.html):
+        return "--zone goes without --every, --keys and --html"
     return None
 
 
 def once(values: Optional[List[Any]]) -> Any:
     return values[0] if values else None
-
-
-def tasks_of(asked: Asked, page: Optional[Page], is_read_here: bool) -> Iterator[Task]:
-    """A task for each capture, read when it's its turn: by whoever judges it, or here, as is what is no file."""
-    for number, (path, questions) in enumerate(asked):
-        task = Task(number, path, None, None, questions)
-        if not (page or is_read_here) and path != "-" and os.path.isfile(path):
-            yield task
-            continue
-        try:
-            task = task._replace(octets=octets_of(path))
-        except (OSError, Unmade) as fault:
-            yield task._replace(fault=fault)
-            continue
-        if page:
-            page.read(number, path, task.octets or b"")
-        yield task
-
-
-def readable(tasks: Iterable[Task], report: Report, common: Common) -> Iterator[Task]:
-    """The tasks that can be judged; of the others the fault is reported."""
-    for task in tasks:
-        if task.fault is None:
-            yield task
-        else:
-            report.take(task.number, of_unread(task, task.fault, common))
 
 
 def paths_of(options: argparse.Namespace) -> Dict[str, str]:
@@ -182,10 +167,13 @@ def paths_of(options: argparse.Namespace) -> Dict[str, str]:
 
 
 def text_of(options: argparse.Namespace, has_captures: bool, has_moments: bool) -> Text:
-    if options.jsonl or options.tsv:
-        return rows_text(json_line if options.jsonl else tsv_line)
     kind = Sums if options.every else Lines
-    return kind(has_captures, has_moments, paths_of(options)).text
+    return table_text(options) or kind(has_captures, has_moments, paths_of(options)).text
+
+
+def table_text(options: argparse.Namespace) -> Optional[Text]:
+    """The rows of a table, where one is asked for."""
+    return rows_text(json_line if options.jsonl else tsv_line) if options.jsonl or options.tsv else None
 
 
 def results_of(tasks: Iterable[Task], common: Common, options: argparse.Namespace, count: int) -> Results:
@@ -198,26 +186,51 @@ def results_of(tasks: Iterable[Task], common: Common, options: argparse.Namespac
 def judge(options: argparse.Namespace) -> int:
     """Judges all, and answers the worst status."""
     table()  # each line has a type: without dnspython, that's told before anything is judged
+    if options.zone:
+        return audit(options)
     given = options.words, options.questions
     asked = without_questions(*given, "--every") if options.every else all_of(*given)
     if options.macs and len(asked) > 1:
         raise WrongLine("--macs is of one capture, and there are more")
-    moments = list(dict.fromkeys(map(seconds_of, options.at or ["now"])))
-    keys, macs = (read(path[0]) if path else None for path in (options.keys, options.macs))
-    budget = Budget(options.budget, options.budget_octets, options.budget_questions)
-    common = Common(anchors_of(once(options.anchors), moments), keys, macs, moments, budget, bool(options.html))
+    common = common_of(options)
     page = Page(paths_of(options)) if options.html else None
-    report = Report(text_of(options, len(asked) > 1, len(moments) > 1), [path for path, _ in asked], page)
-    if options.tsv:
-        write("-", (tsv_head() + "\n").encode())
+    text = text_of(options, len(asked) > 1, len(common.moments) > 1)
+    report = Report(text, [path for path, _ in asked], page)
     tasks = readable(tasks_of(asked, page, bool(options.scheduler)), report, common)
-    with progress(len(asked)) as advance, closing(results_of(tasks, common, options, len(asked))) as results:
-        for number, found in results:
-            report.take(number, found)
-            advance()
+    judge_tasks(tasks, report, common, options)
     if page:
         write(once(options.html), page.octets())
     return report.worst
+
+
+def audit(options: argparse.Namespace) -> int:
+    """Judges a zone by its transfer, and answers the worst status."""
+    common = common_of(options)
+    paths = [path for path, _ in without_questions(options.words, options.questions, "--zone")]
+    zone = audit_of(paths, set(options.port or [53]))
+    lines = ZoneText(zone, len(common.moments) > 1, paths_of(options))
+    report = Report(table_text(options) or lines.text, zone.labels, None)
+    judge_tasks(zone.tasks(), report, common, options)
+    if not table_text(options):
+        write("-", lines.sums().encode())
+    return max(report.worst, lines.worst, key=FROM_BEST.index)
+
+
+def common_of(options: argparse.Namespace) -> Common:
+    moments = list(dict.fromkeys(map(seconds_of, options.at or ["now"])))
+    keys, macs = (read(path[0]) if path else None for path in (options.keys, options.macs))
+    budget = Budget(options.budget, options.budget_octets, options.budget_questions)
+    return Common(anchors_of(once(options.anchors), moments), keys, macs, moments, budget, bool(options.html))
+
+
+def judge_tasks(tasks: Iterable[Task], report: Report, common: Common, options: argparse.Namespace) -> None:
+    count = len(report.paths)
+    if options.tsv:
+        write("-", (tsv_head() + "\n").encode())
+    with progress(count) as advance, closing(results_of(tasks, common, options, count)) as results:
+        for number, found in results:
+            report.take(number, found)
+            advance()
 
 
 def inputs_of(options: argparse.Namespace) -> List[str]:

@@ -8,7 +8,7 @@ from ..asking.faults import Failure
 from ..asking.questions import Questions
 from ..program import REFUSED, Program
 
-from .work import Common, Judged, Row, judged, without_verdicts
+from .work import Common, Judged, judged, without_verdicts
 from .workers import Lost, Workers
 
 MEMORY_OUT, OPEN_FAILED, READ_FAILED = 90, 811, 210
@@ -40,8 +40,8 @@ def of_unread(task: Task, fault: Fault, common: Common) -> Judged:
 
 def of_unmade(task: Task, fault: Unmade, common: Common) -> Judged:
     """The rows of a file of another kind of which no capture can be made."""
-    asked = [(moment, question) for moment in common.moments for question in task.questions]
-    return Judged([Row(*each, REFUSED, "refused", {"said": str(fault)}, None) for each in asked], [])
+    failed = without_verdicts(task.questions, common, {"said": str(fault)})
+    return Judged([row._replace(status=REFUSED, word="refused") for row in failed.rows], [])
 
 
 def is_of_read(fault: OSError) -> bool:
