@@ -1,4 +1,5 @@
 """Tests of how tools/judge ends by a signal with eight captures at work: no process and no folder is left."""
+import contextlib
 import os
 import pathlib
 import shutil
@@ -60,6 +61,7 @@ class Ends(Judging):
         judge = subprocess.Popen([str(word) for word in words], stdout=subprocess.PIPE, stderr=subprocess.PIPE, text=True,
                                  preexec_fn=interruptible, env={**os.environ, "TMPDIR": str(self.room / "temporary")})
         self.addCleanup(judge.communicate)
+        self.addCleanup(self.kill_what_is_left)  # which has its output open
         self.addCleanup(judge.kill)
         self.addCleanup((self.room / "go").touch)
         wait_for(lambda: len(self.at_work()) == AT_ONCE)
@@ -69,6 +71,11 @@ class Ends(Judging):
         """The programs that were begun, each with the process that did it."""
         files = [path for path in (self.room / "at_work").iterdir() if path.suffix != ".new"]
         return {int(path.name): int(path.read_text()) for path in files}
+
+    def kill_what_is_left(self):
+        for process in [process for pair in self.at_work().items() for process in pair if is_there(process)]:
+            with contextlib.suppress(ProcessLookupError):
+                os.kill(process, signal.SIGKILL)
 
     def nothing_is_left(self):
         processes = [process for pair in self.at_work().items() for process in pair]
