@@ -3,7 +3,7 @@ import base64
 import bisect
 from typing import Any, Dict, Iterable, Iterator, List, NamedTuple, Optional, Set, Tuple
 
-from ..capturing.messages import TYPE_NSEC, TYPE_NSEC3, Labels, lower
+from ..capturing.messages import TYPE_NS, TYPE_NSEC, TYPE_NSEC3, Labels, lower, name_text
 
 from .contents import Contents
 from .names import WILDCARD, Hashing, above, behind_all_below, is_below, just_behind, order_of, wire_name
@@ -64,20 +64,33 @@ class Chain:
         encloser = next((each for each in asked if each in self.contents.all), name)
         return {(self.at_or_before(each), self.kind) for each in (*asked, (WILDCARD, *encloser))}
 
+    def owner_of(self, name: Labels) -> Optional[Labels]:
+        """The owner of the record that is at the name, if there is one."""
+        return name
+
     def kinds_at(self, name: Labels) -> Set[int]:
         """The types that the chain says the name has."""
-        raise NotImplementedError
+        owner = self.owner_of(name)
+        return set(kinds_of(self.read[owner].windows)) if owner is not None and owner in self.read else set()
 
     def gaps(self) -> Iterator[Gap]:
-        raise NotImplementedError
+        return iter(())
 
     def unmet(self) -> List[Labels]:
         """Names that a record of the chain names as the next, and the zone hasn't."""
         return []
 
     def faults(self) -> List[str]:
-        """What is wrong with it that no question shows, since no name is known for a hash."""
-        return []
+        """What is wrong with it that no question shows: delegations whose NS records aren't there, since what is below
+        an unsigned one may be anything."""
+        lost = [name for name in self.contents.all - self.contents.cuts if self.is_delegation(name)]
+        return [
+            f"the chain has a delegation at {name_text(name)}, and the transfer no NS records" for name in sorted(lost)
+        ]
+
+    def is_delegation(self, name: Labels) -> bool:
+        kinds = self.kinds_at(name)
+        return TYPE_NS in kinds and name != self.contents.apex
 
 
 class ByOrder(Chain):
@@ -93,10 +106,6 @@ class ByOrder(Chain):
 
     def place_of(self, name: Labels) -> Any:
         return order_of(name)
-
-    def kinds_at(self, name: Labels) -> Set[int]:
-        found = self.read.get(name)
-        return set(kinds_of(found.windows)) if found else set()
 
     def following(self, owner: Labels) -> Labels:
         return lower(self.read[owner].next.labels[:-1])
@@ -131,9 +140,8 @@ class ByHash(Chain):
     def place_of(self, name: Labels) -> Any:
         return self.digests.get(name) or self.hashing.digest(name)
 
-    def kinds_at(self, name: Labels) -> Set[int]:
-        owner = self.by_digest.get(self.place_of(name))
-        return set(kinds_of(self.read[owner].windows)) if owner else set()
+    def owner_of(self, name: Labels) -> Optional[Labels]:
+        return self.by_digest.get(self.place_of(name))
 
     def gaps(self) -> Iterator[Gap]:
         """Names are tried until each gap has one, or enough were: of a small gap none may be found."""
@@ -149,9 +157,11 @@ class ByHash(Chain):
         yield from (Gap(owner, found.get(owner), bool(self.read[owner].flags & OPT_OUT)) for owner in self.owners)
 
     def faults(self) -> List[str]:
+        """And, since no name is known for a hash, hashes that nothing has."""
         places, known = set(self.places), set(self.digests.values())
         following = (self.read[owner].next for owner in self.owners)
         return [
+            *super().faults(),
             *(
                 f"no record of the chain has the hash {hex32(each)}, which one has as the next"
                 for each in following

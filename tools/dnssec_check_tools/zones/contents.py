@@ -1,12 +1,12 @@
 """What a zone has: the names that it speaks for, where it delegates, and the names that are there for those below."""
 from typing import Dict, FrozenSet, List, Set
 
-from ..capturing.messages import TYPE_DS, TYPE_NSEC, TYPE_NSEC3, Labels, names_above
+from ..capturing.messages import TYPE_DS, TYPE_NS, TYPE_NSEC, TYPE_NSEC3, Labels, names_above
 
 from .names import above, is_below, order_of
 from .transfer import Rrset, Rrsets, Transfer
 
-TYPE_NS, TYPE_CNAME, TYPE_DNAME = 2, 5, 39
+TYPE_DNAME = 39
 
 
 class Contents:

@@ -3,8 +3,9 @@ import struct
 from typing import Dict, Iterable, Iterator, List, NamedTuple
 
 from ..capturing.frames import MESSAGES_MOST, framed
-from ..capturing.messages import QR, TYPE_DNSKEY, Labels, records_of
+from ..capturing.messages import QR, TYPE_DNSKEY, Labels
 
+from ..judging.evidence import readable_records
 from .names import wire_name
 from .questions import Item
 from .transfer import Key, Rrset, Transfer
@@ -95,8 +96,8 @@ def octets_of(rrset: Rrset) -> int:
 
 
 def count_of(messages: Iterable[bytes]) -> int:
-    """How many records they have."""
-    return sum(sum(1 for _ in records_of(octets)) for octets in messages)
+    """How many records they have that can be read; of one that can't, the program refuses the message."""
+    return sum(len(readable_records(octets)) for octets in messages)
 
 
 def messages_of(rrsets: Dict[Key, Rrset]) -> Iterator[bytes]:

@@ -2,11 +2,11 @@
 from typing import FrozenSet, Iterator, List, NamedTuple, Optional
 
 from ..asking.questions import Question
-from ..capturing.messages import TYPE_DS, Labels, name_text
+from ..capturing.messages import TYPE_CNAME, TYPE_DS, Labels, name_text
 from ..judging.every import can_be_asked
 
 from .chain import Chain
-from .contents import TYPE_CNAME, Contents
+from .contents import Contents
 from .names import WILDCARD
 from .transfer import Key
 
@@ -46,7 +46,7 @@ class Questions:
 
     def of_rrsets(self) -> Iterator[Item]:
         """Those that are there, and those that the chain says are there."""
-        for name in self.contents.names:
+        for name in [*self.contents.names, *self.contents.between]:
             kinds = self.contents.spoken_for(name)
             for kind in sorted(kinds | self.said_of(name)):
                 if can_be_asked(name, kind):

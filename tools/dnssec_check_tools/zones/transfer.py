@@ -5,6 +5,7 @@ from typing import Any, Dict, Iterable, Iterator, List, NamedTuple, Optional, Tu
 from ..asking.faults import Refusal, escaped, lacking
 from ..capturing.messages import (
     ANSWER,
+    HEADER_SIZE,
     TYPE_NSEC,
     TYPE_RRSIG,
     Labels,
@@ -84,7 +85,7 @@ def told_apart(messages: Iterable[bytes]) -> Tuple[List[bytes], List[bytes]]:
     found: List[bytes] = []
     others: List[bytes] = []
     for octets in messages:
-        if is_query(octets) or is_truncated(octets):
+        if len(octets) < HEADER_SIZE or is_query(octets) or is_truncated(octets):
             continue
         question = question_of(octets)
         is_of_it = question.kind == AXFR if question else bool(found)

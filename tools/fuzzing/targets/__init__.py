@@ -3,7 +3,7 @@
 from __future__ import annotations
 
 from ..target import Target
-from . import anchors, capture, questions, records, verify, xml, zone
+from . import anchors, capture, questions, records, transfer, verify, xml, zone
 
-ALL = (capture, records, verify, anchors, zone, xml, questions)
+ALL = (capture, records, verify, anchors, zone, xml, questions, transfer)
 TARGETS: dict[str, Target] = {each.TARGET.name: each.TARGET for each in ALL}

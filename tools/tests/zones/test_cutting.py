@@ -17,10 +17,10 @@ CHAIN = message(record(name_octets("."), 48, b"\x01\x01\x03\x0dkey"), kind=48, n
 
 @unittest.skipUnless(signed.SIGNER, "needs ldnsutils")
 class Parts(unittest.TestCase):
-    def audit(self, options, **limits):
+    def audit(self, options, chain=CHAIN, **limits):
         records, _ = signed.signed(signed.SMALL, options)
         with mock.patch.multiple(cutting, **{"RECORDS_MOST": 4096, **limits}):
-            return Audit(transfer_of([CHAIN, *signed.transfer(records)]))
+            return Audit(transfer_of([chain, *signed.transfer(records)]))
 
     def test_what_fits_is_one_part(self):
         """An RRset is put together with its signatures, which the transfer has in several messages."""
@@ -50,6 +50,10 @@ class Parts(unittest.TestCase):
             made = {(item.name, item.kind) for item in part.items if item.made}
             self.assertEqual(there, wanted | made)
             self.assertTrue(all(each.signatures for each in rrsets if (each.owner, each.kind) != ((), 48)))
+
+    def test_a_torn_message_is_left_to_the_program(self):
+        part, = self.audit(signed.NSEC, CHAIN[:-3]).parts
+        self.assertEqual(frames_of(part.octets)[0][0], CHAIN[:-3])
 
     def test_one_that_has_no_room_has_its_part_nonetheless(self):
         """Which the program refuses, with the number of its limit."""

@@ -42,7 +42,7 @@ class Told(unittest.TestCase):
 
     def test_queries_repeats_and_what_is_truncated_are_none(self):
         query, cut = message(kind=AXFR, flags=QUERY), message(BEGIN, kind=AXFR, flags=TRUNCATED)
-        self.assertEqual(told_apart([query, cut, WHOLE]), ([WHOLE], []))
+        self.assertEqual(told_apart([query, cut, WHOLE, b"", WHOLE[:11]]), ([WHOLE], []))
         self.assertEqual(transfer_of([KEYS, WHOLE, KEYS, WHOLE])[2:], ([KEYS], True))
 
     def test_an_end_that_is_missing(self):
