@@ -1,4 +1,5 @@
 """What the program says of many questions, line by line as it comes, within a time of a processor."""
+import contextlib
 import math
 import resource
 import signal
@@ -68,10 +69,11 @@ class Asked:
 
 
 def limited(process: Process, seconds: float) -> int:
-    """Has the system end the process behind the time, and answers how much that is: in whole seconds, one at least."""
+    """Has the system end the process behind the time, and answers how much that is: in whole seconds, one at least. A
+    limit that is there already and is lower stays, since nobody may raise one."""
     limit = max(1, math.ceil(seconds))
-    try:
-        resource.prlimit(process.pid, resource.RLIMIT_CPU, (limit, limit))
-    except ProcessLookupError:
-        pass  # it has ended
+    with contextlib.suppress(ProcessLookupError):  # it has ended
+        _, most = resource.prlimit(process.pid, resource.RLIMIT_CPU)
+        if most == resource.RLIM_INFINITY or most > limit:
+            resource.prlimit(process.pid, resource.RLIMIT_CPU, (limit, limit))
     return limit

@@ -4,7 +4,7 @@ import tempfile
 import unittest
 from unittest import mock
 
-from dnssec_check_tools import program
+from dnssec_check_tools import asked, program
 from dnssec_check_tools.asked import Time
 from dnssec_check_tools.asking.faults import Failure
 from dnssec_check_tools.asking.names import labels_of
@@ -119,6 +119,15 @@ class Within(Runs):
     def test_a_program_that_needs_more_is_ended_and_its_answers_are_kept(self):
         told = self.told("[ $name = c. ] && while :; do :; done", left=Time(1))
         self.assertEqual(told, ([BOGUS, BOGUS] + [f"- {LATE.format(1)}"] * 3, 1))
+
+    def test_a_lower_limit_stays(self):
+        """It could not be raised by who has no right to."""
+        process, set_to = mock.Mock(pid=7), []
+        for most, given in (((30, 30), []), ((60, 60), []), ((61, 61), [(60, 60)]), ((-1, -1), [(60, 60)])):
+            with mock.patch("resource.prlimit", lambda pid, _, to=None, most=most: set_to.append(to) if to else most):
+                self.assertEqual(asked.limited(process, 59.5), 60)
+            self.assertEqual(set_to, given)
+            set_to.clear()
 
     def test_what_takes_its_answers_counts_too(self):
         times = iter([0.0, 1.0, 1.5, 2.0] + [9.0] * 99)  # when it's made, and whenever it's asked for
