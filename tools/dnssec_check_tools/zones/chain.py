@@ -111,12 +111,16 @@ class ByOrder(Chain):
         return lower(self.read[owner].next.labels[:-1])
 
     def gaps(self) -> Iterator[Gap]:
-        for owner in self.owners:
+        """Behind each name of the zone, since each has such a record, or lacks it."""
+        for owner in self.contents.names:
             is_end = owner in self.contents.ends
             name = behind_all_below(owner) if is_end else just_behind(owner)
-            following = self.following(owner)
-            is_free = name is not None and name != following and not is_below(following, name)
-            yield Gap(owner, name if is_free else None)
+            yield Gap(owner, None if name is None or self.is_met(owner, name) else name)
+
+    def is_met(self, owner: Labels, name: Labels) -> bool:
+        """Whether the name is there, or by the chain the next one, or there for that."""
+        following = self.following(owner) if owner in self.read else self.contents.apex
+        return name in self.contents.all or name == following or is_below(following, name)
 
     def unmet(self) -> List[Labels]:
         following = dict.fromkeys(map(self.following, self.owners))
