@@ -20,7 +20,8 @@ name, type, status, verdict, evidence, until, reason, ede, reasons; --jsonl has 
 is the program's word, or `refused` or `fault`. What can't be shown is `\\xNN`. --html writes a page that loads nothing.
 
 What isn't verified of a capture within --budget and --budget-octets stays Unknown, so that a verdict is Pending that
-hangs on it. A line on the standard error says so, and how to give more.
+hangs on it. A line on the standard error says so, and how to give more. With --skew another says what a verdict is by a
+clock that is so many seconds late, or ahead, where it's another one.
 
 With --scheduler, captures go as octets to the workers of a Dask scheduler. A worker needs Python with the packages
 distributed and cryptography, and `dnssec_check` on its own path; the tools' modules are sent to it. Captures of a
@@ -44,7 +45,7 @@ from contextlib import closing
 from typing import Any, Dict, Iterable, List, Optional
 
 from .asking.anchors import ROOT, anchors_of
-from .asking.captures import all_of, captures_of, shown_of, told_apart, without_questions
+from .asking.captures import all_of, captures_of, told_apart, without_questions
 from .asking.faults import Failure, Refusal, WrongLine, escaped
 from .asking.questions import LIST
 from .asking.kinds import table
@@ -53,8 +54,9 @@ from .command import parser_of, read, run, tell, write
 from .judging.cluster import WAIT_SECONDS, by_workers
 from .judging.page import Page
 from .judging.progress import progress
-from .judging.records import lines_of
+from .judging.records import texts_of
 from .judging.report import Report, Text
+from .judging.skew import around, skew_of
 from .judging.spread import Results, Task, in_processes, processors
 from .judging.tasks import readable, tasks_of
 from .judging.text import Lines, Sums, json_line, rows_text, tsv_head, tsv_line
@@ -85,6 +87,7 @@ def command_line() -> argparse.ArgumentParser:
         help="`now`, seconds since 1970, 2026-11-22T12:00:00Z, or a day, 2026-11-22, for 0:00 in UTC; once for each "
         "moment; now by default",
     )
+    parser.add_argument("--skew", type=skew_of, default=0, metavar="SECONDS", help="say what differs so long around")
     parser.add_argument(
         "--anchors",
         action="append",
@@ -220,7 +223,8 @@ def common_of(options: argparse.Namespace) -> Common:
     moments = list(dict.fromkeys(map(seconds_of, options.at or ["now"])))
     keys, macs = (read(path[0]) if path else None for path in (options.keys, options.macs))
     budget = Budget(options.budget, options.budget_octets, options.budget_questions)
-    return Common(anchors_of(once(options.anchors), moments), keys, macs, moments, budget, bool(options.html))
+    anchors = anchors_of(once(options.anchors), around(moments, options.skew))
+    return Common(anchors, keys, macs, moments, budget, bool(options.html), options.skew)
 
 
 def judge_tasks(tasks: Iterable[Task], report: Report, common: Common, options: argparse.Namespace) -> None:
@@ -253,13 +257,8 @@ def refuse_overwriting(options: argparse.Namespace) -> None:
 
 
 def print_records(options: argparse.Namespace) -> int:
-    paths, questions = told_apart(options.words)
-    if not paths or questions:
-        raise WrongLine("--records is followed by captures, and by no question")
-    captures = captures_of(paths)
-    for capture in captures:
-        front = f"{escaped(capture.path)}: " if len(captures) > 1 else ""
-        write("-", "".join(front + line + "\n" for line in lines_of(shown_of(capture.path))).encode())
+    for text in texts_of(options.words):
+        write("-", text.encode())
     return 0
 
 

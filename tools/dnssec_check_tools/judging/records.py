@@ -1,6 +1,7 @@
 """The records of a capture as people read them, with their numbers."""
 from typing import Any, Iterator, List
-from ..asking.faults import escaped, lacking
+from ..asking.captures import captures_of, shown_of, told_apart
+from ..asking.faults import WrongLine, escaped, lacking
 from ..capturing.messages import Record, key_tag, question_text
 from ..capturing.octets import Incomplete, number_at
 
@@ -23,6 +24,17 @@ def library() -> Any:
     except ImportError as fault:
         raise lacking("dnspython", "--records", fault) from fault
     return dns
+
+
+def texts_of(words: List[str]) -> Iterator[str]:
+    """The lines of each capture; captures alone may be named."""
+    paths, questions = told_apart(words)
+    if not paths or questions:
+        raise WrongLine("--records is followed by captures, and by no question")
+    captures = captures_of(paths)
+    for capture in captures:
+        front = f"{escaped(capture.path)}: " if len(captures) > 1 else ""
+        yield "".join(front + line + "\n" for line in lines_of(shown_of(capture.path)))
 
 
 def lines_of(octets: bytes) -> Iterator[str]:

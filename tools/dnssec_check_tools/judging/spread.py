@@ -8,6 +8,7 @@ from ..asking.faults import Failure
 from ..asking.questions import Questions
 from ..program import REFUSED, Program
 
+from .skew import folded, widened
 from .work import Common, Judged, judged, without_verdicts
 from .workers import Lost, Workers
 
@@ -60,7 +61,7 @@ def judged_task(task: Task, common: Common, program: Program, place: Optional[st
         octets = octets_of(task.path) if task.octets is None else task.octets
     except (OSError, Unmade) as fault:
         return of_unread(task, fault, common)
-    return judged(octets, task.questions, common, program, place)
+    return folded(judged(octets, task.questions, widened(common), program, place), common)
 
 
 def answer(common: Common, program: Program, task: Task, place: Optional[str] = None) -> Answer:

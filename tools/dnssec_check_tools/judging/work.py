@@ -23,7 +23,8 @@ HOLDS = "holds"  # all that is said of what is secure, but on a page: rows of ma
 
 
 class Common(NamedTuple):
-    """What is the same for all captures; `anchors` has octets by moment. A page wants explanations whole."""
+    """What is the same for all captures; `anchors` has octets by moment, of those too that lie the skew around. A page
+    wants explanations whole."""
 
     anchors: Dict[int, bytes]
     keys: Optional[bytes]
@@ -31,6 +32,7 @@ class Common(NamedTuple):
     moments: List[int]
     budget: Budget = Budget()
     is_page: bool = False
+    skew: int = 0
 
 
 class Row(NamedTuple):
