@@ -63,10 +63,12 @@ test-tools:
 	$(PYTHON) -m unittest discover -s tools/tests
 
 # The commands of the pages, against what the pages show, with the program and the tools as they are installed.
-# CAPTURING.md and BREAKS.md need root, and the packages that they name; `check` runs the others.
+# CAPTURING.md and BREAKS.md need root, and the packages that they name; `check` runs the others. So does the table of
+# incidents in BREAKS.md, of which `check` makes three where root has what they need.
 pages: | $(program)
 	tools/pages --installed docs/CAPTURING.md
 	tools/pages --installed docs/BREAKS.md
+	tools/incidents --against docs/BREAKS.md
 	tools/pages --installed docs/AUDITING.md
 	tools/pages --installed examples/README.md
 	tools/pages --installed README.md dnssec_check "To install it" "The program by itself"

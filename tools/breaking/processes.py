@@ -11,7 +11,7 @@ from typing import Iterator
 
 SECONDS = 60  # that a command may take
 SECONDS_TO_BEGIN, SECONDS_TO_END, SECONDS_TO_LOOK = 10.0, 5.0, 0.05
-SOON = 0.3  # behind which a packet that was sent is written
+SOON = 0.5  # behind which a packet that was sent is written
 
 
 class Broken(Exception):

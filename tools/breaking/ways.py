@@ -17,7 +17,7 @@ OF_SERVERS = f"port 53 and not host {RESOLVER}"
 
 def by_delv(incident: Incident, folder: Path, name: str) -> list[str]:
     """What delv asks a resolver with the flag CD."""
-    with resolver(folder), captured(folder / f"{name}.pcap", f"port 53 and host {RESOLVER}"):
+    with captured(folder / f"{name}.pcap", f"port 53 and host {RESOLVER}"), resolver(folder):
         ran(delv(incident, "+cd"), folder, is_checked=False)
     return [f"{name}.pcap"]
 
@@ -28,7 +28,7 @@ def delv(incident: Incident, *options: str) -> list[str]:
 
 def by_resolver(incident: Incident, folder: Path, name: str) -> list[str]:
     """What a validating resolver asks the servers."""
-    with resolver(folder), captured(folder / f"{name}.pcap", OF_SERVERS):
+    with captured(folder / f"{name}.pcap", OF_SERVERS), resolver(folder):
         ran(["dig", f"@{RESOLVER}", "+tries=1", "+time=20", incident.question, "A"], folder, is_checked=False)
     return [f"{name}.pcap"]
 

@@ -41,7 +41,7 @@ OF_LINT = ("black", "mypy", "pylint", *OF_TOOLS, "python3-jinja2", "python3-rich
 FUZZ_SECONDS, FUZZ_SEED = int(os.environ.get("FUZZ_SECONDS", "60")), "1"
 OF_FEW_LINES = ("questions", "records")
 # The tests that take longest.
-LONG = ("tests/judge", "tests/program", "tests/incidents")
+LONG = ("tests/judge", "tests/program")
 
 
 @dataclass(frozen=True)
