@@ -44,9 +44,11 @@ class Contents:
 
 
 def kinds_by_owner(rrsets: Rrsets) -> Dict[Labels, Set[int]]:
-    """Of those owners that have more than signatures."""
+    """Also of owners of which only signatures are there, but for those of NSEC3 records, which are no names."""
     found: Dict[Labels, Set[int]] = {}
     for (owner, kind), rrset in rrsets.items():
         if rrset.records:
             found.setdefault(owner, set()).add(kind)
+        elif kind != TYPE_NSEC3:
+            found.setdefault(owner, set())
     return found

@@ -66,6 +66,14 @@ class Zone(unittest.TestCase):
                     status, lines, _ = self.judged(left, anchor, most=(4096, 40)[number % 2])
                     self.assertEqual(status, 5, lines)
 
+    def test_what_is_taken_out_is_named(self):
+        """Where its signature is left, or its record of the chain by which it has a type."""
+        for options in (signed.NSEC, signed.NSEC3):
+            records, anchor = signed.signed(signed.SMALL, options)
+            left = [each for each in records if (each[0].to_text(), signed.kind_of(each)) != ("mail.example.", "MX")]
+            status, lines, _ = self.judged(left, anchor)
+            self.assertEqual((status, lines[0]), (5, "mail.example. MX: Bogus"))
+
     def test_a_name_that_is_taken_out_is_found(self):
         """With all its records, those of the chain too."""
         for options in (signed.NSEC, signed.NSEC3):
