@@ -4,11 +4,15 @@
 //! ways the cheapest is kept. Nothing finds ways in the evidence yet, and the program doesn't use this crate.
 #![tactic(auto)]
 
+pub use facts::keys::{DnskeyFacts, HeldKey, SelfSignature, VoucherFacts};
+pub use facts::signature::{KeyAnswer, NamedKey, RrsetFacts, SignatureFacts, SignatureFaults};
+pub use facts::zone::{DsFacts, ZoneFacts, ZoneKey};
 pub use laws::{a_sum_is_nothing_where_both_are, the_cheapest_is_the_first_of_the_least};
 pub use mend::{Mend, offer, offer_after};
 pub use price::{Class, Price};
 pub use told::Told;
 
+mod facts;
 mod laws;
 mod mend;
 mod price;
