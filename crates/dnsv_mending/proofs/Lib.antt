@@ -1,2 +1,4 @@
 pub mod Better
 pub mod Cheapest
+pub mod Lines
+pub mod Lists

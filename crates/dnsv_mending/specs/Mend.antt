@@ -32,6 +32,15 @@ fault told = record { price = cost told; chain = []; own = told ∷ [] }
 abbrev pub untold : Class → Mended
 untold class = record { price = price.one class; chain = []; own = [] }
 
+-- what lines cost together, beside what was there
+abbrev pub cost_from : Price → List Told → Price
+cost_from p [] = p
+cost_from p (line ∷ lines) = cost_from (price.add p (cost line)) lines
+
+-- faults that are told
+abbrev pub telling : List Told → Mended
+telling lines = record { price = cost_from price.none lines; chain = []; own = lines }
+
 -- M and N
 abbrev pub both : Mended → Mended → Mended
 both m n = record { price = price.add m.price n.price; chain = m.chain ++ n.chain; own = m.own ++ n.own }
@@ -44,6 +53,27 @@ following m n = record { price = price.add m.price n.price; chain = (m.chain ++ 
 abbrev pub after : Option Mended → Mended → List Mended
 after None n = []
 after (Some m) n = following m n ∷ []
+
+-- there are none
+abbrev pub is_none : {X : Type 0} → List X → Bool
+is_none [] = true
+is_none (x ∷ xs) = false
+
+-- a way that may not be there
+abbrev pub ways_of : Option Mended → List Mended
+ways_of None = []
+ways_of (Some m) = m ∷ []
+
+-- a fault that may not be there, and N
+abbrev pub with_fault : Option Told → Mended → Mended
+with_fault None n = n
+with_fault (Some told) n = both (fault told) n
+
+-- M, then a fault that may not be there and N, where there is a way to M and one to N
+abbrev pub joined : Option Mended → Option Told → Option Mended → List Mended
+joined None told n = []
+joined (Some m) told None = []
+joined (Some m) told (Some n) = following m (with_fault told n) ∷ []
 
 -- a way of the price is the first, or cheaper than the best one so far
 abbrev pub is_better : Price → Option Mended → Bool

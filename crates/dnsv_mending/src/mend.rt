@@ -3,6 +3,7 @@ ghost use Rattle.std.specs.Prelude.{◌≡◌, ◌++◌, [], ◌∷◌, IfOk, On
 ghost use Rattle.std.specs.Option.{option_map};
 ghost use Rattle.dnsv_mending.specs.Mend as mend;
 ghost use Rattle.dnsv_mending.specs.Mend.{Offers, seen};
+ghost use Rattle.dnsv_mending.specs.Price.{none};
 
 use crate::price::{Class, Price};
 use crate::told::Told;
@@ -38,6 +39,17 @@ impl Mend {
         let mut made = Mend::nothing(alloc);
         made.add(told)?;
         Ok(made)
+    }
+
+    /// That of some faults, each of which is told.
+    pub fn telling(alloc: Global, lines: Vec<Told>) -> Mend
+        ensures { seen result ≡ mend.telling lines.items }
+    {
+        Mend {
+            price: cost_of(&lines),
+            chain: Vec::new(alloc),
+            own: lines,
+        }
     }
 
     /// Adds one fault, which is told.
@@ -92,6 +104,17 @@ impl Mend {
     }
 }
 
+/// What the lines cost together.
+fn cost_of(lines: &[Told]) -> Price
+    ensures { result ≡ mend.cost_from none lines.now }
+{
+    let mut price = Price::none();
+    for line in lines {
+        price = price.and(line.cost());
+    }
+    price
+}
+
 /// The lines of both, one behind the other.
 fn joined(alloc: Global, first: &[Told], second: &[Told]) -> Result<Vec<Told>, AllocError>
     ensures { IfOk result (λ lines. lines.items ≡ first.now ++ second.now) }
@@ -131,6 +154,70 @@ pub fn offer_after(
     Ok(())
 }
 
+/// Offers what stands on something else behind a fault that may not be there, where there is a way to both.
+#[tactic(auto, using(crate::proofs::Better::better_kept, crate::proofs::Better::better_taken))]
+pub fn offer_joined(
+    alloc: Global,
+    above: Option<&Mend>,
+    told: Option<Told>,
+    below: Option<&Mend>,
+    best: &mut Option<Mend>,
+) -> Result<(), AllocError>
+    ensures { OnOk result (Offers (mend.joined (option_map (λ m. seen m.now) above.entry) told
+        (option_map (λ m. seen m.now) below.entry)) best.old best.new) }
+{
+    let Some(above) = above else {
+        return Ok(());
+    };
+    let Some(below) = below else {
+        return Ok(());
+    };
+    let price = above.price.and(price_with(told, below));
+    if is_better(price, best) {
+        let own = with_fault(alloc, told, below)?;
+        *best = Some(Mend::following(alloc, above, &own)?);
+    }
+    Ok(())
+}
+
+/// What a fault that may not be there costs, and what is behind it.
+fn price_with(told: Option<Told>, below: &Mend) -> Price
+    ensures { result ≡ (mend.with_fault told (seen below.now)).price }
+{
+    match told {
+        Some(told) => told.cost().and(below.price),
+        None => below.price,
+    }
+}
+
+/// A fault that may not be there, and what is behind it.
+fn with_fault(alloc: Global, told: Option<Told>, below: &Mend) -> Result<Mend, AllocError>
+    ensures { IfOk result (λ m. seen m ≡ mend.with_fault told (seen below.now)) }
+{
+    match told {
+        Some(told) => Mend::both(alloc, &Mend::fault(alloc, told)?, below),
+        None => below.copied(alloc),
+    }
+}
+
+/// Offers what is kept, where there is a way to it.
+#[tactic(auto, using(crate::proofs::Better::better_kept, crate::proofs::Better::better_taken))]
+pub fn offer_kept(
+    alloc: Global,
+    kept: Option<&Mend>,
+    best: &mut Option<Mend>,
+) -> Result<(), AllocError>
+    ensures { OnOk result (Offers (mend.ways_of (option_map (λ m. seen m.now) kept.entry)) best.old best.new) }
+{
+    let Some(kept) = kept else {
+        return Ok(());
+    };
+    if is_better(kept.price, best) {
+        *best = Some(kept.copied(alloc)?);
+    }
+    Ok(())
+}
+
 /// Whether a way of the price is the first, or cheaper than the best one so far.
 fn is_better(price: Price, best: &Option<Mend>) -> bool
     ensures { result ≡ mend.is_better price (option_map seen best.now) }
@@ -139,4 +226,12 @@ fn is_better(price: Price, best: &Option<Mend>) -> bool
         Some(best) => price.is_cheaper(best.price),
         None => true,
     }
+}
+
+/// Whether there are none.
+#[tactic(auto, using(crate::proofs::Lists::none_by_length))]
+pub fn is_none<T>(things: &[T]) -> bool
+    ensures { result ≡ mend.is_none things.now }
+{
+    things.is_empty()
 }

@@ -1,0 +1,10 @@
+use Rattle.std.proofs.Common.{refl}
+use Rattle.dnsv_mending.specs.Level.{seen_level}
+use Rattle.dnsv_mending.specs.Rrset.{held_ways}
+use Rattle.dnsv_mending.proofs.Lists.{offered_next}
+use Rattle.dnsv_mending.proofs.signature.offer_held.Goals as goal
+
+pub loop-key-preserved : goal.loop-key-preserved
+loop-key-preserved c =
+    offered_next (held_ways (seen_level c.args.level.now) c.args.signature.now) c.args.keys.now c.loop-key.key-index _ _ _ _ _
+    c.loop-key-test.true refl c.in_ok-offer_held_key.ensures c.loop-key.invariant
