@@ -1,5 +1,5 @@
 -- Lists of ways, and loops over them.
-use Rattle.std.proofs.Common.{◌≡◌, ℕ, ◌+◌, ◌<◌, ◌==◌, ◌++◌, ◌||◌, Bool, true, false, if◌then◌else◌, List, [], ◌∷◌, Option, Some, None, drop, take, map, length, get_or, refl, sym, ap, ◌∙◌, arith, add-one, flat_map}
+use Rattle.std.proofs.Common.{◌≡◌, ℕ, ◌+◌, ◌<◌, ◌==◌, ◌++◌, ◌||◌, Bool, if◌then◌else◌, List, [], ◌∷◌, Option, Some, drop, take, map, length, get_or, refl, sym, ap, ◌∙◌, arith, add-one, flat_map}
 use Rattle.std.proofs.Math.Seq.{drop-cons}
 use Rattle.std.proofs.lemmas.Bool.Decides.{nat_tests}
 use Rattle.std.proofs.lemmas.List.{map-append, take_more}

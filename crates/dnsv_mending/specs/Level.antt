@@ -1,5 +1,5 @@
 -- What is kept of a zone, for all that stands on it.
-use Rattle.std.specs.Prelude.{List, [], ◌∷◌, Option, Some, None, Bool, if◌then◌else◌, map}
+use Rattle.std.specs.Prelude.{List, [], ◌∷◌, Option, Some, Bool, if◌then◌else◌, map}
 use Rattle.std.specs.Option.{option_map}
 use Rattle.dnsv_mending.specs.Mend.{Mended, nothing, seen}
 use Rattle.dnsv_mending.specs.declared.level.HeldMend.{HeldMend}

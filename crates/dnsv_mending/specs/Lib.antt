@@ -1,8 +1,11 @@
 pub mod Faults
+pub mod Granted
 pub mod Keys
 pub mod Level
 pub mod Mend
 pub mod Price
+pub mod Reasons
 pub mod Rrset
 pub mod Told
+pub mod Ways
 pub mod Zone

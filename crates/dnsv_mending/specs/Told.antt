@@ -1,6 +1,4 @@
 -- Which class of fault a line tells of. Prices are those of `Price`.
-use Rattle.std.specs.Prelude.{ℕ}
-use Rattle.dnsv_canonical.specs.declared.number.SignatureNumber.{SignatureNumber}
 use Rattle.dnsv_lines.specs.declared.line.fault.signature.WhySignature.{WhySignature}
 use Rattle.dnsv_lines.specs.declared.line.fault.signature.WhySignature.TheVariants as signature
 use Rattle.dnsv_lines.specs.declared.line.fault.zone.EntryNumber.{EntryNumber}
