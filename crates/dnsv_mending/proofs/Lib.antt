@@ -5,3 +5,4 @@ pub mod Enough
 pub mod Lines
 pub mod Lists
 pub mod Reasons
+pub mod Standby

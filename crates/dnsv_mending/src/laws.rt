@@ -1,5 +1,10 @@
 //! Laws of prices, of the cheapest way, and of what is kept of zones.
-ghost use Rattle.std.specs.Prelude.{◌≡◌, ℕ, List, [], Option, Some, None, true, false, slice_get};
+ghost use Rattle.std.specs.Prelude.{◌≡◌, ℕ, List, [], ◌∷◌, Option, Some, None, true, false, slice_get};
+ghost use Rattle.std.specs.declared.alloc.Global.{Global};
+ghost use Rattle.dnsv_lines.specs.declared.line.fault.signature.WhySignature.TheVariants as signature;
+ghost use Rattle.dnsv_lines.specs.declared.line.fault.zone.EntryNumber.TheVariants as number;
+ghost use Rattle.dnsv_lines.specs.declared.line.fault.zone.WhyEntry.TheVariants as entry;
+ghost use Rattle.dnsv_mending.specs.Examples.{early, expired, expired_answer, late, record_at, rrset_lines, signature_at, standby, times, zone_lines};
 ghost use Rattle.dnsv_mending.specs.Granted.{AreGranted, IsGranted};
 ghost use Rattle.dnsv_mending.specs.Level.{Leveled};
 ghost use Rattle.dnsv_mending.specs.Mend.{IsFirstOfLeast, Mended, cheapest};
@@ -13,6 +18,7 @@ ghost use Rattle.dnsv_mending.specs.declared.facts.signature.RrsetFacts.{RrsetFa
 ghost use Rattle.dnsv_mending.specs.declared.facts.zone.ZoneFacts.{ZoneFacts};
 ghost use Rattle.dnsv_mending.specs.declared.price.Price.{Price};
 ghost use Rattle.dnsv_mending.specs.declared.told.Told.{Told};
+ghost use Rattle.dnsv_mending.specs.declared.told.Told.TheVariants as told;
 
 /// A law: a sum of prices is that of no faults just where both are.
 pub fn a_sum_is_nothing_where_both_are()
@@ -68,4 +74,22 @@ pub fn who_grants_nothing_has_what_is_trusted()
         → is_zone_trusted z ≡ true }
     ensures rrset { (zones : List ZoneFacts) (r : RrsetFacts) → IsClosed zones → IsClosedRrset zones r → IsGranted zones [] (rrset r)
         → IsSignedRrset r }
+{}
+
+/// A law: what is told of four zones with a break. A key that is rolled over too early doesn't sign; one too late is missing; of
+/// a standby key beside one whose signature is over, the signature is told; and where all signatures are over, that of the
+/// DNSKEY RRset comes before the answer's.
+pub fn the_break_is_told()
+    ensures early { (heap : Global) → zone_lines (early heap) 3 ≡ told.NotSelfSigned (record_at 3 3) ∷ [] }
+    ensures late { (heap : Global) → zone_lines (late heap) 3 ≡ told.Entry entry.KeyMissing (number.Ds (record_at 2 1)) ∷ [] }
+    ensures standby { (heap : Global) → zone_lines (standby heap) 2 ≡ told.Signature (signature.Expired (times 100)) (signature_at 3 1) ∷ [] }
+    ensures expired { (heap : Global) → rrset_lines (expired heap) (expired_answer heap)
+        ≡ told.Signature (signature.Expired (times 100)) (signature_at 5 1) ∷ told.Signature (signature.Expired (times 100)) (signature_at 6 1) ∷ [] }
+{}
+
+/// A law: what the laws on what is kept as trusted ask for can be met where a zone isn't trusted.
+pub fn what_is_asked_of_facts_can_be_met()
+    ensures closed { (heap : Global) → IsClosed (standby heap) }
+    ensures there { (heap : Global) → (level : Leveled) × (m : Mended) × (slice_get (levels_of true (standby heap)) 2 ≡ Some level)
+        × (level.zone ≡ Some m) }
 {}
