@@ -9,4 +9,5 @@ pub mod Reasons
 pub mod Rrset
 pub mod Told
 pub mod Ways
+pub mod Within
 pub mod Zone

@@ -103,7 +103,7 @@ pub fn signature_lines(alloc: Global, signature: &SignatureFacts) -> Result<Vec<
 
 /// Adds what a verifier says of a signature, where nothing else is wrong with it.
 #[tactic(auto, using(crate::proofs::Lines::none_before, crate::proofs::Lines::some_before))]
-fn push_answer(
+pub fn push_answer(
     lines: &mut Vec<Told>,
     number: SignatureNumber,
     answer: KeyAnswer,

@@ -19,6 +19,7 @@ pub use mend::{Mend, offer, offer_after};
 pub use price::{Class, Price};
 pub use rrset::rrset_mend;
 pub use told::Told;
+pub use within::within_mend;
 
 mod facts;
 mod faults;
@@ -31,4 +32,5 @@ mod price;
 mod rrset;
 mod signature;
 mod told;
+mod within;
 mod zone;
