@@ -85,11 +85,11 @@ among_at [] i x h = absurd (none_some x h)
 among_at (y ∷ ys) zero x h = inl (sym (same_Some y x h))
 among_at (y ∷ ys) (suc i) x h = inr (among_at ys i x h)
 
-at_seam : {X : Type 0} (front : List X) (x : X) (rest : List X) → slice_get (front ++ x ∷ rest) (length front) ≡ Some x
+pub at_seam : {X : Type 0} (front : List X) (x : X) (rest : List X) → slice_get (front ++ x ∷ rest) (length front) ≡ Some x
 at_seam [] x rest = refl
 at_seam (y ∷ ys) x rest = at_seam ys x rest
 
-at_end : {X : Type 0} (xs : List X) (x : X) (i : ℕ) (y : X) → slice_get (xs ++ x ∷ []) i ≡ Some y → (slice_get xs i ≡ Some y) ⊎ ((i ≡ length xs) × (y ≡ x))
+pub at_end : {X : Type 0} (xs : List X) (x : X) (i : ℕ) (y : X) → slice_get (xs ++ x ∷ []) i ≡ Some y → (slice_get xs i ≡ Some y) ⊎ ((i ≡ length xs) × (y ≡ x))
 at_end [] x zero y h = inr (refl, sym (same_Some x y h))
 at_end [] x (suc i) y h = absurd (none_some y h)
 at_end (z ∷ xs) x zero y h = inl h

@@ -6,3 +6,4 @@ pub mod Lines
 pub mod Lists
 pub mod Reasons
 pub mod Standby
+pub mod Always

@@ -1,16 +1,20 @@
 -- The facts of a zone with a standby key are whole.
-use Rattle.std.proofs.Common.{◌≡◌, ⊎_elim, ℕ, zero, suc, true, false, [], ◌∷◌, Some, None, refl, sym, ap, ◌∙◌, subst, slice_get}
+use Rattle.std.proofs.Common.{◌≡◌, ⊎_elim, ℕ, zero, suc, true, false, [], ◌∷◌, Some, None, refl, sym, ap, ◌∙◌, subst, slice_get, inl, ◌<◌, arith}
 use Rattle.std.proofs.lemmas.Bool.{false≢true}
 use Rattle.std.proofs.lemmas.Option.{same_Some}
 use Rattle.std.specs.declared.alloc.Global.{Global}
 use Rattle.dnsv_mending.specs.Examples.{delegated, ds_record, key, late_self, none, one, root, signed_by, standby, three, trusted, two, untrusted_key}
 use Rattle.dnsv_mending.specs.Faults.{self_lines}
+use Rattle.dnsv_mending.specs.InPlace.{IsHeld, IsInPlace, IsRrsetInPlace, IsSignerInPlace}
+use Rattle.dnsv_mending.specs.Mend.{is_none}
 use Rattle.dnsv_mending.specs.Reasons.{IsClosed, IsClosedRrset, IsClosedSignature, IsSelfSigned}
 use Rattle.dnsv_mending.specs.Ways.{IsAmong}
 use Rattle.dnsv_mending.specs.declared.facts.keys.DnskeyFacts.{DnskeyFacts}
 use Rattle.dnsv_mending.specs.declared.facts.keys.HeldKey.{HeldKey}
 use Rattle.dnsv_mending.specs.declared.facts.keys.SelfSignature.{SelfSignature}
 use Rattle.dnsv_mending.specs.declared.facts.keys.VoucherFacts.{VoucherFacts}
+use Rattle.dnsv_mending.specs.declared.facts.signature.NamedKey.{NamedKey}
+use Rattle.dnsv_mending.specs.declared.facts.signature.SignatureFacts.{SignatureFacts}
 use Rattle.dnsv_mending.specs.declared.facts.zone.DsFacts.{DsFacts}
 use Rattle.dnsv_mending.specs.declared.facts.zone.ZoneFacts.{ZoneFacts}
 use Rattle.dnsv_mending.specs.declared.facts.zone.ZoneKey.{ZoneKey}
@@ -21,6 +25,9 @@ none_some x h = cc
 -- the one member of a list
 only : {X : Type 0} (P : X → Type 0) (x y : X) → P y → IsAmong x (y ∷ []) → P x
 only P x y holds among = ⊎_elim (λ (e : x ≡ y). subst P (sym e) holds) (λ (h : ⊥). absurd h) among
+
+one_below_two : 1 < 2
+one_below_two = omega arith
 
 module _ (heap : Global) where
   abbrev shop : ZoneFacts
@@ -101,4 +108,47 @@ module _ (heap : Global) where
     anchored = λ n z r v k at among anchor why keyin fit self. by_anchor n z at r among v anchor;
     delegated = λ n z r ds v k at among dsin signed_rrset record_in why keyin fit self. by_ds n z at r ds k among dsin keyin self;
     held = λ n z i h each r at keyin holds stands is. held_keys n z at i h each r keyin stands is;
+  }
+
+  -- ---- in place
+
+  -- what holds of each of the three zones, with its number of labels
+  each_place : (P : ℕ → ZoneFacts → Type 0) → P 0 (root heap) → P 1 (trusted heap) → P 2 shop → (n : ℕ) (z : ZoneFacts)
+      → slice_get (standby heap) n ≡ Some z → P n z
+  each_place P a b c zero z h = subst (P 0) (same_Some (root heap) z h) a
+  each_place P a b c (suc zero) z h = subst (P 1) (same_Some (trusted heap) z h) b
+  each_place P a b c (suc (suc zero)) z h = subst (P 2) (same_Some shop z h) c
+  each_place P a b c (suc (suc (suc n))) z h = absurd (none_some z h)
+
+  abbrev Keyed : ℕ → ZoneFacts → Type 0
+  Keyed n z = (r : DnskeyFacts) → IsAmong r z.dnskeys.items → is_none r.keys.items ≡ false
+
+  abbrev AreHeld : ℕ → ZoneFacts → Type 0
+  AreHeld n z = (each : ZoneKey) → IsAmong each z.keys.items → IsHeld z each
+
+  abbrev ArePlaced : ℕ → ZoneFacts → Type 0
+  ArePlaced n z = (ds : DsFacts) → IsAmong ds z.ds.items → IsRrsetInPlace (standby heap) n ds.rrset
+
+  shop_held : IsHeld shop (untrusted_key heap)
+  shop_held = record { h = 0; r = _; holds = inl refl; stands = refl }
+
+  placed : (s : SignatureFacts) → IsAmong s ((signed_by heap 2 1).signatures.items) → s.faults.signer ≡ false → IsSignerInPlace (standby heap) 2 s
+  placed s among by = only (IsSignerInPlace (standby heap) 2) s _ (record {
+    z = trusted heap;
+    above = one_below_two;
+    is = refl;
+    keys = λ k named. only (λ (each : NamedKey). (own : ZoneKey) × (slice_get ((trusted heap).keys.items) each.key ≡ Some own)) k _ (_, refl) named;
+  }) among
+
+  pub in_place : IsInPlace (standby heap)
+  in_place = record {
+    keyed = λ n z r at. each_place Keyed (λ each among. absurd among) (λ each among. only (λ (d : DnskeyFacts). is_none d.keys.items ≡ false) each _ refl among)
+        (λ each among. only (λ (d : DnskeyFacts). is_none d.keys.items ≡ false) each _ refl among) n z at r;
+    held = λ n z each at. each_place AreHeld (λ k among. absurd among)
+        (λ k among. only (IsHeld (trusted heap)) k _ (record { h = 0; r = _; holds = inl refl; stands = refl }) among)
+        (λ k among. ⊎_elim (λ (e : k ≡ untrusted_key heap). subst (IsHeld shop) (sym e) shop_held)
+        (λ (rest : IsAmong k (untrusted_key heap ∷ untrusted_key heap ∷ [])). ⊎_elim (λ (e : k ≡ untrusted_key heap). subst (IsHeld shop) (sym e) shop_held)
+        (λ (last : IsAmong k (untrusted_key heap ∷ [])). only (IsHeld shop) k (untrusted_key heap) shop_held last) rest) among) n z at each;
+    signed = λ n z ds at. each_place ArePlaced (λ each among. absurd among) (λ each among. absurd among)
+        (λ each among. only (λ (d : DsFacts). IsRrsetInPlace (standby heap) 2 d.rrset) each _ placed among) n z at ds;
   }

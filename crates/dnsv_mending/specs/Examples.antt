@@ -93,13 +93,16 @@ module _ (heap : Global) where
   abbrev pub root : ZoneFacts
   root = record { is_known = false; is_anchored = false; keys = none; dnskeys = none; anchors = none; ds = none }
 
+  abbrev pub trusted_key : HeldKey
+  trusted_key = record { number = record_at 1 1; key = 0; name = name 17908; is_zone_key = true; is_named = true; signatures = one (good_self 1 1) }
+
   -- a zone with a trust anchor, one key and a trusted DNSKEY RRset
   abbrev pub trusted : ZoneFacts
   trusted = record {
     is_known = true;
     is_anchored = true;
     keys = one (record { is_trusted = true; holders = one 0 });
-    dnskeys = one (record { number = 1; is_trusted = true; has_signatures = true; keys = none });
+    dnskeys = one (record { number = 1; is_trusted = true; has_signatures = true; keys = one trusted_key });
     anchors = one (record { number = number.Anchor 1; why = None; name = name 17908; matches = one 0 });
     ds = none;
   }

@@ -1,6 +1,7 @@
 pub mod Examples
 pub mod Faults
 pub mod Granted
+pub mod InPlace
 pub mod Keys
 pub mod Level
 pub mod Mend

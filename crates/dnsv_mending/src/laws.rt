@@ -1,11 +1,12 @@
 //! Laws of prices, of the cheapest way, and of what is kept of zones.
-ghost use Rattle.std.specs.Prelude.{◌≡◌, ℕ, List, [], ◌∷◌, Option, Some, None, true, false, slice_get};
+ghost use Rattle.std.specs.Prelude.{◌≡◌, ℕ, List, [], ◌∷◌, Option, Some, None, true, false, length, slice_get};
 ghost use Rattle.std.specs.declared.alloc.Global.{Global};
 ghost use Rattle.dnsv_lines.specs.declared.line.fault.signature.WhySignature.TheVariants as signature;
 ghost use Rattle.dnsv_lines.specs.declared.line.fault.zone.EntryNumber.TheVariants as number;
 ghost use Rattle.dnsv_lines.specs.declared.line.fault.zone.WhyEntry.TheVariants as entry;
 ghost use Rattle.dnsv_mending.specs.Examples.{early, expired, expired_answer, late, record_at, rrset_lines, signature_at, standby, times, zone_lines};
 ghost use Rattle.dnsv_mending.specs.Granted.{AreGranted, IsGranted};
+ghost use Rattle.dnsv_mending.specs.InPlace.{IsInPlace, IsRrsetInPlace};
 ghost use Rattle.dnsv_mending.specs.Level.{Leveled};
 ghost use Rattle.dnsv_mending.specs.Mend.{IsFirstOfLeast, Mended, cheapest};
 ghost use Rattle.dnsv_mending.specs.Price.{add, none};
@@ -87,9 +88,18 @@ pub fn the_break_is_told()
         ≡ told.Signature (signature.Expired (times 100)) (signature_at 5 1) ∷ told.Signature (signature.Expired (times 100)) (signature_at 6 1) ∷ [] }
 {}
 
-/// A law: what the laws on what is kept as trusted ask for can be met where a zone isn't trusted.
+/// A law: what the laws ask of facts can be met where a zone isn't trusted.
 pub fn what_is_asked_of_facts_can_be_met()
     ensures closed { (heap : Global) → IsClosed (standby heap) }
+    ensures in_place { (heap : Global) → IsInPlace (standby heap) }
     ensures there { (heap : Global) → (level : Leveled) × (m : Mended) × (slice_get (levels_of true (standby heap)) 2 ≡ Some level)
         × (level.zone ≡ Some m) }
+{}
+
+/// A law: where facts are in place, something leads to each zone and to each RRset.
+pub fn something_always_leads_there()
+    ensures zone { (zones : List ZoneFacts) (n : ℕ) (level : Leveled) → IsInPlace zones → slice_get (levels_of true zones) n ≡ Some level
+        → (m : Mended) × (level.zone ≡ Some m) }
+    ensures rrset { (zones : List ZoneFacts) (above : Mended) (r : RrsetFacts) → IsInPlace zones → IsRrsetInPlace zones (length zones) r
+        → (m : Mended) × (cheapest (rrset_ways (levels_of true zones) (Some above) r) ≡ Some m) }
 {}

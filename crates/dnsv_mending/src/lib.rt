@@ -8,8 +8,9 @@ pub use facts::keys::{DnskeyFacts, HeldKey, SelfSignature, VoucherFacts};
 pub use facts::signature::{KeyAnswer, NamedKey, RrsetFacts, SignatureFacts, SignatureFaults};
 pub use facts::zone::{DsFacts, ZoneFacts, ZoneKey};
 pub use laws::{
-    a_sum_is_nothing_where_both_are, the_break_is_told, the_cheapest_is_the_first_of_the_least,
-    what_costs_nothing_is_trusted, what_is_asked_of_facts_can_be_met, what_is_kept_is_a_single_way,
+    a_sum_is_nothing_where_both_are, something_always_leads_there, the_break_is_told,
+    the_cheapest_is_the_first_of_the_least, what_costs_nothing_is_trusted,
+    what_is_asked_of_facts_can_be_met, what_is_kept_is_a_single_way,
     what_is_not_trusted_has_a_reason, what_is_told_is_enough,
     who_grants_nothing_has_what_is_trusted,
 };
