@@ -25,7 +25,8 @@ use Rattle.dnsv_mending.specs.declared.facts.zone.ZoneFacts.{ZoneFacts}
 use Rattle.dnsv_mending.specs.declared.price.Class.TheVariants as class
 use Rattle.dnsv_mending.specs.declared.told.Told.{Told}
 use Rattle.dnsv_mending.specs.declared.told.Told.TheVariants as told
-use Rattle.dnsv_mending.proofs.EachWay.{among_at, rrset_way, zone_way}
+use Rattle.dnsv_mending.proofs.AllWays.{among_at}
+use Rattle.dnsv_mending.proofs.EachWay.{rrset_way, zone_way}
 use Rattle.dnsv_mending.proofs.Reasons.{both_true, none_among, same_zone, signer_first, trusted_by}
 
 all_left : {A : Type 0} (P : A → Type 0) (xs ys : List A) → AllByRecursion P (xs ++ ys) → AllByRecursion P xs

@@ -1,9 +1,12 @@
+pub mod AllWays
+pub mod Always
 pub mod Better
 pub mod Cheapest
+pub mod DearLines
 pub mod EachWay
 pub mod Enough
 pub mod Lines
 pub mod Lists
 pub mod Reasons
+pub mod SomeWays
 pub mod Standby
-pub mod Always
