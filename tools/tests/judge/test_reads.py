@@ -9,7 +9,7 @@ from unittest import mock
 from tool import load, run
 
 from dnssec_check_tools.asking import captures
-from dnssec_check_tools.judging import spread, work
+from dnssec_check_tools.judging import records, spread, work
 
 from .helper import Judging, capture_of, needs_dns, verdicts
 
@@ -44,7 +44,7 @@ class Octets(Room):
     def test_records_of_more_are_told_to_lack(self):
         told = "more than a capture may have; of what is behind 4,259,905 octets nothing is shown"
         path = self.lay("large.cap", LARGEST * 66)
-        with mock.patch.object(load("judge"), "lines_of", lambda octets: [str(len(octets))]):
+        with mock.patch.object(records, "lines_of", lambda octets: [str(len(octets))]):
             self.assertEqual(run("judge", "--records", path), (0, b"4259905\n", f"judge: {path}: {told}\n"))
 
 
@@ -74,7 +74,8 @@ class Tasks(Room):
         path = self.lay("a.cap", SMALL)
         self.assertEqual(self.tasks(path), [spread.Task(0, path, None, None, [])])
         with mock.patch.object(spread, "judged", lambda octets, *_: octets):
-            self.assertEqual(spread.judged_task(self.tasks(path)[0], None, None), SMALL)
+            common = work.Common({}, None, None, [])
+            self.assertEqual(spread.judged_task(self.tasks(path)[0], common, None), SMALL)
 
     def test_it_is_read_here_where_others_need_its_octets(self):
         path, page = self.lay("a.cap", SMALL), mock.Mock()
