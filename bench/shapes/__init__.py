@@ -14,11 +14,13 @@ SHAPES = {
     "expanded-nsec": (denials.expanded_nsec, 4),
     "expanded-nsec3": (denials.expanded_nsec3, 4),
     "hashes": (denials.hashes, 31),
+    "question-hashes": (denials.question_hashes, 4),
     "aliases": (denials.aliases, 8),
     "alias-hashes": (denials.alias_hashes, 3),
     "key-file": (files.key_file, 4_000),
     "statements": (files.statements, 250_000),
     "scattered": (files.scattered, 250_000),
+    "questions": (files.questions, 25_000),
     "frames": (files.frames, 5_000_000),
     "zeros": (files.zeros, 2**24),
 }

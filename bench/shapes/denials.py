@@ -100,6 +100,12 @@ def hashes(labels: int) -> Shape:
     return Shape({"capture": [response(0, ROOT, records)], "anchors": ANCHORS}, check("a." * labels))
 
 
+def question_hashes(questions: int) -> Shape:
+    """The records of `hashes`, and so many questions for a name of three labels, which is hashed for each anew."""
+    asked = [b"a.a.a. 1\n"] * questions
+    return Shape({**hashes(3).files, "questions": asked}, ("check", "--moment", "1500"))
+
+
 def aliases_of(draw: random.Random, labels: int, rest: list[bytes], pairs: int) -> Shape:
     """The root's key and eight aliases, each of the next of nine names of so many labels that differ in the leftmost,
     all with a good signature; and the rest."""

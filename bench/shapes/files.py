@@ -38,3 +38,9 @@ def frames(count: int) -> Shape:
 def zeros(octets: int) -> Shape:
     """So many zeros as anchors."""
     return Shape({"capture": [], "anchors": [bytes(2**20)] * (octets // 2**20)})
+
+
+def questions(lines: int) -> Shape:
+    """So many questions, each for another name, of a capture without messages."""
+    asked = (b"n%07d.example. 1\n" % number for number in range(lines))
+    return Shape({**NOTHING, "questions": asked}, ("check", "--moment", "1500"))

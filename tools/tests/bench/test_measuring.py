@@ -21,11 +21,13 @@ SMALL = {
     "expanded-nsec": (2, f"Bogus {'a.' * 127} 1"),
     "expanded-nsec3": (2, f"Bogus {'a.' * 127} 1"),
     "hashes": (2, "Bogus a.a. 1"),
+    "question-hashes": (2, "Bogus a.a.a. 1"),
     "aliases": (2, f"Bogus 0.{'a.' * 126} 1"),
     "alias-hashes": (2, "Bogus 0.a. 1"),
     "key-file": (10, "Indeterminate www.bench.example. 1"),
     "statements": (10, "Indeterminate www.bench.example. 1"),
     "scattered": (10, "Indeterminate www.bench.example. 1"),
+    "questions": (10, "Indeterminate n0000000.example. 1"),
     "frames": (1_000, "refused 201 message 1"),
     "zeros": (2**20, "refused 601 line 1"),
 }

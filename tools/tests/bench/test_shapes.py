@@ -12,7 +12,7 @@ from wire import key_tag
 
 A, CNAME, TXT, NSEC, NSEC3 = 1, 5, 16, 47, 50
 OF_MESSAGES = ("long-data", "pairs", "exponents", "digests", "alike", "key-sets", "key-sets-aliases", "key-anchors",
-               "expanded-nsec", "expanded-nsec3", "hashes", "aliases",
+               "expanded-nsec", "expanded-nsec3", "hashes", "question-hashes", "aliases",
                "alias-hashes")
 
 Record = namedtuple("Record", "owner rtype rdata")
@@ -183,6 +183,10 @@ class Files(unittest.TestCase):
             self.assertEqual((len(set(lines)), {len(line) for line in lines}), (1_000, {23}))
         self.assertEqual(rising, sorted(rising))
         self.assertNotEqual(scattered, sorted(scattered))
+
+    def test_questions_have_names_of_their_own(self):
+        lines = b"".join(files.questions(100).files["questions"]).splitlines()
+        self.assertEqual((len(set(lines)), {line[8:] for line in lines}), (100, {b".example. 1"}))
 
     def test_zeros_are_as_many_as_it_says(self):
         self.assertEqual(b"".join(files.zeros(2**22).files["anchors"]), bytes(2**22))
