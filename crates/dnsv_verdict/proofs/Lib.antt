@@ -8,8 +8,9 @@ pub mod OneProof
 pub mod ReportLemmas
 pub mod SearchLemmas
 pub mod SettledLemmas
+mod SharedLemmas
 mod SureLemmas
 mod TrailLemmas
 mod TrustLemmas
-mod UnknownLemmas
+pub mod UnknownLemmas
 mod WayLemmas

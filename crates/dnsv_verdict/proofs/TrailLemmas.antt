@@ -8,7 +8,7 @@ use Rattle.dnsv_denial.specs.QuestionHashes.{HashedQuestion}
 use Rattle.dnsv_verdict.specs.Hope.{HasHope}
 use Rattle.dnsv_verdict.specs.Report.{IsKept, hashed_in}
 use Rattle.dnsv_verdict.specs.Settled.{IsSettledAs}
-use Rattle.dnsv_verdict.specs.Trail.{AddsHashes, IsEmpty, KeepsHope, Trails}
+use Rattle.dnsv_verdict.specs.Trail.{AddsHashes, IsEmpty, KeepsHope, Trails, kept_hashes}
 use Rattle.dnsv_verdict.specs.Case.{CaseContents}
 use Rattle.dnsv_verdict.specs.declared.at_name.Hope.{Hope}
 use Rattle.dnsv_verdict.specs.declared.link.Link.{Link}
@@ -37,7 +37,7 @@ one_name case name t verdict question before between after is kept adds = record
   keeps = adds.keeps ∙ kept.keeps;
   hashes = λ keeps. adds.hashes (subst (λ keeps. IsTrue keeps) (sym kept.keeps) keeps)
       ∙ ap (λ (earlier : List HashedQuestion). earlier ++ question ∷ []) kept.hashes
-      ∙ ap (λ (each : HashedQuestion). before.hashes.items ++ each ∷ []) is;
+      ∙ ap (λ (each : HashedQuestion). kept_hashes before ++ each ∷ []) is;
   hope = λ keeps none. subst (λ (hope : Option Hope). HasHope case name t verdict hope) (sym adds.hope) (kept.hope keeps none);
   unkept = λ not. adds.unkept (subst (λ keeps. IsFalse keeps) (sym kept.keeps) not) ∙ kept.unkept not;
 }
@@ -48,19 +48,22 @@ one_name case name t verdict question before between after is kept adds = record
 -- is kept it is as at the start
 pub record IsTrailOf (rrsets : List ReceivedRrset) (names : List Labels) (start trail : Trail) : Type 0 where
   pub keeps : trail.keeps ≡ start.keeps
-  pub each_name : IsTrue start.keeps → IsEmpty start → trail.hashes.items ≡ map (hashed_in rrsets) names
+  pub each_name : IsTrue start.keeps → IsEmpty start → kept_hashes trail ≡ map (hashed_in rrsets) names
   pub none : IsTrue start.keeps → IsEmpty start → trail.hope ≡ None
   pub unkept : IsFalse start.keeps → trail ≡ start
 
+none_kept : (trail : Trail) → IsEmpty trail → kept_hashes trail ≡ []
+none_kept trail empty = let none = empty.hashes in rw none refl
+
 pub no_trail : (rrsets : List ReceivedRrset) (start : Trail) → IsTrailOf rrsets [] start start
 no_trail rrsets start =
-    record { keeps = refl; each_name = λ keeps empty. empty.hashes; none = λ keeps empty. empty.hope; unkept = λ not. refl }
+    record { keeps = refl; each_name = λ keeps empty. none_kept start empty; none = λ keeps empty. empty.hope; unkept = λ not. refl }
 
 -- the hashes of one name more
 each_name_more : (case : CaseContents) (t : ℕ) (names : List Labels) (name : Labels) (verdict : Verdict) (start before after : Trail)
     → IsTrailOf case.rrsets names start before → Trails case name t verdict before after
     → IsTrue start.keeps → IsEmpty start
-    → after.hashes.items ≡ map (hashed_in case.rrsets) (names ++ name ∷ [])
+    → kept_hashes after ≡ map (hashed_in case.rrsets) (names ++ name ∷ [])
 each_name_more case t names name verdict start before after so_far more keeps empty =
     more.hashes (subst (λ keeps. IsTrue keeps) (sym so_far.keeps) keeps)
     ∙ ap (λ (earlier : List HashedQuestion). earlier ++ hashed_in case.rrsets name ∷ []) (so_far.each_name keeps empty)
@@ -92,7 +95,7 @@ trail_more case t links last k s verdict start before after alias so_far more =
 -- the end
 pub kept_to_end : (case : CaseContents) (t : ℕ) (links : List Link) (last : Labels) (verdict : Verdict) (start before after : Trail)
     → IsTrailOf case.rrsets (map (λ link. link.name) links) start before → Trails case last t verdict before after
-    → IsTrue start.keeps → IsEmpty start → IsKept case t links last verdict after.hashes.items after.hope
+    → IsTrue start.keeps → IsEmpty start → IsKept case t links last verdict (kept_hashes after) after.hope
 kept_to_end case t links last verdict start before after so_far more keeps empty = record {
   each_name = each_name_more case t (map (λ (each : Link). each.name) links) last verdict start before after so_far more keeps empty;
   hoped = more.hope (subst (λ keeps. IsTrue keeps) (sym so_far.keeps) keeps) (so_far.none keeps empty);

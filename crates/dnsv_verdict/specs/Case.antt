@@ -1,4 +1,5 @@
 -- A case: what any number of questions are judged by.
+pub mod Shared
 use Rattle.std.specs.Prelude.{◌≡◌, List}
 use Rattle.dnsv_canonical.specs.Rrsets.{ReceivedRrset}
 use Rattle.dnsv_verifier.specs.Table.{IsTableOf, TableContents, table_answer}

@@ -16,6 +16,7 @@ use Rattle.dnsv_verdict.specs.declared.error.VerdictError.TheVariants.{BadQuesti
 use Rattle.dnsv_verdict.specs.Case.{CaseContents}
 use Rattle.dnsv_verdict.specs.declared.at_name.Hope.{Hope}
 use Rattle.dnsv_verdict.specs.declared.link.Link.{Link}
+use Rattle.dnsv_verdict.specs.declared.report.Judged.{Judged}
 use Rattle.dnsv_verdict.specs.declared.report.Report.{Report}
 use Rattle.dnsv_verdict.specs.declared.verdict.Verdict.{Verdict}
 
@@ -46,6 +47,10 @@ pub record Refuses {T : Type 0} (basis : Basis) (name : Labels) (t : ℕ) (resul
 -- the hashes for a question of the name, with the parameters of the evidence
 abbrev pub hashed_in : List ReceivedRrset → Labels → HashedQuestion
 hashed_in rrsets name = record { rrsets = rrsets; name = name }
+
+-- the hashes that are kept with a report, whoever else has a share of them
+abbrev pub hashes_in : Judged → List HashedQuestion
+hashes_in judged = map (λ hashes. hashes.value) judged.hashes.items
 
 -- the hashes for each name of the way, and what the verdict at the last one is hoped by
 pub record IsKept

@@ -8,12 +8,14 @@ ghost use Rattle.dnsv_chain.specs.Trust.{SecuredIn};
 ghost use Rattle.dnsv_verifier.specs.Table.{IsTableOf};
 ghost use Rattle.dnsv_verifier.specs.declared.answer.Answer.{Answer};
 ghost use Rattle.dnsv_verifier.specs.declared.entry.Entry.{Entry};
+ghost use Rattle.dnsv_verdict.specs.Case.Shared.{IsSharedOf};
 ghost use Rattle.dnsv_verdict.specs.Hope.{IsHope};
 ghost use Rattle.dnsv_verdict.specs.Settled.{IsSettled, IsSettledAs};
 ghost use Rattle.dnsv_verdict.specs.Trail.{KeepsHope, Trails};
 ghost use Rattle.dnsv_verdict.specs.Verdict.{HasAnchor, IsSettledBy, IsVerdictAt, MayBeSettledBy, basis_of};
 
 use crate::case::Case;
+use crate::case::shared::Shared;
 use crate::settled::settled;
 use crate::trail::Trail;
 use crate::verdict::Verdict;
@@ -22,26 +24,30 @@ use dnsv_denial::{Hashes, View};
 use dnsv_names::{Count, Name, RecordType};
 use dnsv_verifier::{a_table_is_its_verifier, unknown_entries_may_turn_out_valid};
 use std::alloc::{AllocError, Global};
+use std::rc::Rc;
 
 /// What the evidence would settle if each of the entries that the verifier doesn't know were valid.
 #[derive(Drop)]
 pub struct Hope<'a> {
     /// The same evidence and anchors, with the hopeful table and its trust.
-    pub case: Case<'a>,
+    pub case: Rc<Case<'a>>,
     /// One of the first five verdicts.
     pub verdict: Verdict<'a>,
 }
 
-/// The verdict at the name, for the type. `hashed` grows by the SHA-1 digests that are worked out, and the trail, if it
-/// keeps anything, by what the verdict is found by. The verifier isn't asked again.
+/// The verdict at the name, for the type. `hashed` grows by the SHA-1 digests that the name takes, and the trail, if it
+/// keeps anything, by what the verdict is found by. What is shared serves, and is added to. The verifier isn't asked
+/// again.
 pub fn verdict_at<'a>(
     alloc: Global,
     case: &Case<'a>,
+    shared: &mut Shared<'a>,
     trail: &mut Trail<'a>,
     name: &Name,
     rtype: RecordType,
     hashed: &mut Count,
 ) -> Result<Verdict<'a>, AllocError>
+    requires { IsSharedOf case.now shared.now }
     ensures value { (meaning : Entry → Answer) (moment : ℕ)
         → IsTableOf meaning moment case.now.rrsets case.now.table
         → IfOk result (IsVerdictAt (basis_of case.now.rrsets case.now.anchors moment meaning)
@@ -50,38 +56,25 @@ pub fn verdict_at<'a>(
         → AreParameters (nsec3_rdata case.now.rrsets) all
         → hashed.new ≡ counted hashed.old (hashes_for name.now all)) }
     ensures kept { IfOk result (λ verdict. Trails case.now name.now rtype.0 verdict trail.old trail.new) }
+    ensures shared { IsSharedOf case.now shared.new }
 {
-    let hashes = hashes_at(alloc, case, name, hashed)?;
-    let verdict = verdict_by(alloc, case, &hashes, name, rtype, trail)?;
+    let hashes = shared.hashes_for(alloc, case, name, hashed)?;
+    let verdict = verdict_by(alloc, case, shared, hashes.as_ref(), name, rtype, trail)?;
     trail.add(hashes)?;
     Ok(verdict)
-}
-
-/// The hashes for the name, with the parameters of the case's evidence.
-fn hashes_at<'a>(
-    alloc: Global,
-    case: &Case<'a>,
-    name: &Name,
-    hashed: &mut Count,
-) -> Result<Hashes<'a>, AllocError>
-    ensures value { IfOk result (λ hashes. hashes ≡ record { rrsets = case.now.rrsets; name = name.now }) }
-    ensures hashed { IfOk result (λ hashes. (all : List Nsec3Parameters)
-        → AreParameters (nsec3_rdata case.now.rrsets) all
-        → hashed.new ≡ counted hashed.old (hashes_for name.now all)) }
-{
-    let hashes = Hashes::new(alloc, case.capture(), name, hashed)?;
-    Ok(hashes)
 }
 
 /// The verdict at the name that the hashes are kept for. The trail keeps what it is hoped by, if it is Pending.
 fn verdict_by<'a>(
     alloc: Global,
     case: &Case<'a>,
+    shared: &mut Shared<'a>,
     hashes: &Hashes<'a>,
     name: &Name,
     rtype: RecordType,
     trail: &mut Trail<'a>,
 ) -> Result<Verdict<'a>, AllocError>
+    requires shared { IsSharedOf case.now shared.now }
     requires rrsets { hashes.now.rrsets ≡ case.now.rrsets }
     requires name { hashes.now.name ≡ name.now }
     ensures value { (meaning : Entry → Answer) (moment : ℕ)
@@ -89,6 +82,7 @@ fn verdict_by<'a>(
         → IfOk result (IsVerdictAt (basis_of case.now.rrsets case.now.anchors moment meaning)
         name.now rtype.0) }
     ensures kept { IfOk result (λ verdict. KeepsHope case.now name.now rtype.0 verdict trail.old trail.new) }
+    ensures shared { IsSharedOf case.now shared.new }
 {
     a_table_is_its_verifier();
     trust_depends_on_what_is_asked();
@@ -97,7 +91,7 @@ fn verdict_by<'a>(
     if let Some(verdict) = settled_on(alloc, case, hashes, name, rtype)? {
         return Ok(verdict);
     }
-    if let Some(hope) = hope_for(alloc, case, hashes, name, rtype)? {
+    if let Some(hope) = hope_for(alloc, case, shared, hashes, name, rtype)? {
         // Where nothing is kept it goes before memory is asked for.
         trail.set_hope(hope);
         let unknown = case.table().unknown(alloc)?;
@@ -131,14 +125,16 @@ fn settled_on<'a>(
 }
 
 /// What the evidence, which doesn't settle the question, would settle if each of the entries that the verifier doesn't
-/// know were valid. Where there are none, nothing is worked out again.
+/// know were valid. Where there are none, nothing is worked out.
 fn hope_for<'a>(
     alloc: Global,
     case: &Case<'a>,
+    shared: &mut Shared<'a>,
     hashes: &Hashes<'a>,
     name: &Name,
     rtype: RecordType,
 ) -> Result<Option<Hope<'a>>, AllocError>
+    requires shared { IsSharedOf case.now shared.now }
     requires rrsets { hashes.now.rrsets ≡ case.now.rrsets }
     requires name { hashes.now.name ≡ name.now }
     ensures may { (meaning : Entry → Answer) (moment : ℕ)
@@ -150,6 +146,7 @@ fn hope_for<'a>(
         (λ hope. MayBeSettledBy (basis_of case.now.rrsets case.now.anchors moment meaning)
         name.now rtype.0)) }
     ensures hope { IfOk result (λ found. IfSome found (IsHope case.now name.now rtype.0)) }
+    ensures shared { IsSharedOf case.now shared.new }
 {
     a_table_is_its_verifier();
     trust_depends_on_what_is_asked();
@@ -158,9 +155,8 @@ fn hope_for<'a>(
     if table.knows_all() {
         return Ok(None);
     }
-    let hopeful = table.hopeful(alloc)?;
-    let hoped = Case::of(alloc, case.capture(), case.anchors(), hopeful)?;
-    let Some(verdict) = settled_on(alloc, &hoped, hashes, name, rtype)? else {
+    let hoped = shared.hopeful_of(alloc, case)?;
+    let Some(verdict) = settled_on(alloc, hoped.as_ref(), hashes, name, rtype)? else {
         return Ok(None);
     };
     Ok(Some(Hope {

@@ -1,6 +1,9 @@
 //! A case: what any number of questions are judged by.
 
+mod hashed_name;
 mod judging;
+pub mod open_case;
+pub mod shared;
 
 ghost use Rattle.std.specs.Prelude.{◌≡◌, ℕ, IfOk, length};
 ghost use Rattle.dnsv_names.specs.Count.{counted};

@@ -4,6 +4,7 @@
 
 pub use at_name::Hope;
 pub use case::Case;
+pub use case::open_case::OpenCase;
 pub use complete::a_whole_chain_is_told_by_the_verdict;
 pub use error::VerdictError;
 pub use laws::{

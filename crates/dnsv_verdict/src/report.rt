@@ -1,11 +1,12 @@
 //! The verdict on a question, and what it took.
-ghost use Rattle.std.specs.Prelude.{◌≡◌, ◌⊎◌, IfErr, IfOk, IsErrOf};
+ghost use Rattle.std.specs.Prelude.{◌≡◌, ◌⊎◌, ◌<◌, IfErr, IfOk, IsErrOf, get_or, length};
 ghost use Rattle.dnsv_canonical.specs.Rrsets.{IsQuestion};
 ghost use Rattle.dnsv_chain.specs.Trusted.{IsSecured};
 ghost use Rattle.dnsv_verdict.specs.Complete.{TellsWholeChains};
 ghost use Rattle.dnsv_verdict.specs.Hashed.{IsFewHashedOn, IsNumberHashedOn};
 ghost use Rattle.dnsv_verdict.specs.Meaning.{AreOwnOrFromWildcards, IsTrueOfZones};
 ghost use Rattle.dnsv_verifier.specs.Asked.{IsNumberAsked};
+ghost use Rattle.dnsv_verdict.specs.Report.{hashes_in};
 ghost use Rattle.dnsv_verdict.specs.Verdict.{basis_of};
 ghost use Rattle.dnsv_verdict.specs.Way.{IsRefusal, IsVerdictOf, names_on};
 ghost use Rattle.dnsv_verdict.specs.declared.error.VerdictError.{VerdictError};
@@ -22,6 +23,7 @@ use dnsv_denial::Hashes;
 use dnsv_names::{Name, RecordType};
 use dnsv_verifier::Verifier;
 use std::alloc::Global;
+use std::rc::Rc;
 
 /// The verdict on a question, and what it took.
 #[derive(Debug, Drop)]
@@ -44,10 +46,21 @@ pub struct Report<'a> {
 #[derive(Drop)]
 pub struct Judged<'a> {
     pub report: Report<'a>,
-    /// Those for the name of each link, in order, and for the last name. They are empty where nothing is kept.
-    pub hashes: Vec<Hashes<'a>>,
+    /// Those for the name of each link, in order, and for the last name, which other questions may share. They are empty
+    /// where nothing is kept.
+    pub hashes: Vec<Rc<Hashes<'a>>>,
     /// There is one just where the verdict is Pending, and where anything is kept.
     pub hope: Option<Hope<'a>>,
+}
+
+impl<'a> Judged<'a> {
+    /// The hashes for the name of the link with so many before it, or with all of them for the last name.
+    pub fn hashes_at(&self, place: usize) -> &Hashes<'a>
+        requires { place < length (hashes_in self.now) }
+        ensures { result.now ≡ get_or (hashes_in self.now) place result.now }
+    {
+        self.hashes[place].as_ref()
+    }
 }
 
 /// The verdict on the question of a name and a type: what the evidence of the capture proves from the trust anchors, at

@@ -5,6 +5,7 @@ ghost use Rattle.dnsv_verdict.specs.Trail.{AddsHashes, IsEmpty, SetsHope};
 use crate::at_name::Hope;
 use dnsv_denial::Hashes;
 use std::alloc::{AllocError, Global};
+use std::rc::Rc;
 
 /// What the verdicts on a way are found by, if it is kept.
 #[derive(Drop)]
@@ -12,7 +13,7 @@ pub struct Trail<'a> {
     /// Whether anything is.
     keeps: bool,
     /// The hashes for each name of the way, in order.
-    pub hashes: Vec<Hashes<'a>>,
+    pub hashes: Vec<Rc<Hashes<'a>>>,
     /// What a Pending verdict is hoped by.
     pub hope: Option<Hope<'a>>,
 }
@@ -31,8 +32,8 @@ impl<'a> Trail<'a> {
     }
 
     /// Adds the hashes for one name more, if they are kept.
-    pub fn add(&mut self, hashes: Hashes<'a>) -> Result<(), AllocError>
-        ensures added { OnOk result (AddsHashes hashes.entry self.old self.new) }
+    pub fn add(&mut self, hashes: Rc<Hashes<'a>>) -> Result<(), AllocError>
+        ensures added { OnOk result (AddsHashes hashes.entry.value self.old self.new) }
         // Nothing fails where nothing is kept.
         ensures unkept { IsFalse self.old.keeps → result ≡ Ok tt }
     {

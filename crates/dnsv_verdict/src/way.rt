@@ -11,7 +11,8 @@ ghost use Rattle.dnsv_verifier.specs.declared.answer.Answer.{Answer};
 ghost use Rattle.dnsv_verifier.specs.declared.entry.Entry.{Entry};
 ghost use Rattle.dnsv_verdict.specs.Hashed.{hashes_on};
 ghost use Rattle.dnsv_verdict.specs.Report.{IsKept};
-ghost use Rattle.dnsv_verdict.specs.Trail.{IsEmpty};
+ghost use Rattle.dnsv_verdict.specs.Case.Shared.{IsSharedOf};
+ghost use Rattle.dnsv_verdict.specs.Trail.{IsEmpty, kept_hashes};
 ghost use Rattle.dnsv_verdict.specs.Way.{IsAlias, IsAmong, IsRefusedFor, IsTarget, IsVerdictOf, IsWay, Stops, most_links, names_on};
 ghost use Rattle.dnsv_verdict.specs.declared.error.VerdictError.TheVariants.{OutOfMemory};
 ghost use Rattle.dnsv_verdict.specs.declared.link.Link.{Link};
@@ -20,6 +21,7 @@ ghost use Rattle.dnsv_verdict.specs.Verdict.{basis_of};
 
 use crate::at_name::verdict_at;
 use crate::case::Case;
+use crate::case::shared::Shared;
 use crate::error::VerdictError;
 use crate::link::{LINK_LIMIT, Link, Links};
 use crate::target::target_of;
@@ -44,8 +46,7 @@ pub struct Followed<'a> {
 }
 
 /// Follows secure aliases from the name on, and gives the verdict at the last name, which is none. `hashed` grows by
-/// the SHA-1 digests that are worked out, at each name, and the trail, if it keeps anything, by what each verdict is
-/// found by.
+/// the SHA-1 digests that each name takes, and the trail, if it keeps anything, by what each verdict is found by.
 ///
 /// An alias that can't be followed is refused: `AliasTargets` where it has no one target, `AliasLoop` where the target
 /// is a name of the way, `TooManyLinks` where it would be the ninth link, `BadQuestion` where the type can't be asked
@@ -53,11 +54,13 @@ pub struct Followed<'a> {
 pub fn follow<'a>(
     alloc: Global,
     case: &Case<'a>,
+    shared: &mut Shared<'a>,
     name: &Name,
     rtype: RecordType,
     hashed: &mut Count,
     trail: &mut Trail<'a>,
 ) -> Result<Followed<'a>, VerdictError>
+    requires { IsSharedOf case.now shared.now }
     ensures value { (meaning : Entry → Answer) (moment : ℕ)
         → IsTableOf meaning moment case.now.rrsets case.now.table
         → IfOk result (λ followed. IsVerdictOf (basis_of case.now.rrsets case.now.anchors moment
@@ -72,9 +75,10 @@ pub fn follow<'a>(
     ensures names { IfOk result (λ followed. AllByRecursion IsName
         (names_on followed.way.links followed.way.last)) }
     ensures kept { IfOk result (λ followed. IsTrue trail.old.keeps → IsEmpty trail.old
-        → IsKept case.now rtype.0 followed.way.links followed.way.last followed.verdict trail.new.hashes.items
+        → IsKept case.now rtype.0 followed.way.links followed.way.last followed.verdict (kept_hashes trail.new)
         trail.new.hope) }
     ensures unkept { IfOk result (λ followed. IsFalse trail.old.keeps → trail.new ≡ trail.old) }
+    ensures shared { IsSharedOf case.now shared.new }
 {
     counts_add_up();
     // What is true of every count and of every name.
@@ -85,7 +89,7 @@ pub fn follow<'a>(
         last: name.clone()?,
     };
     'links: loop {
-        let verdict = verdict_at(alloc, case, trail, &way.last, rtype, hashed)?;
+        let verdict = verdict_at(alloc, case, shared, trail, &way.last, rtype, hashed)?;
         let Some((rrset, signature)) = alias_of(&verdict) else {
             return Ok(Followed { way, verdict });
         };

@@ -7,13 +7,15 @@ ghost use Rattle.dnsv_records.specs.declared.nsec3.Nsec3Parameters.{Nsec3Paramet
 ghost use Rattle.dnsv_canonical.specs.Evidence.{AreParameters, nsec3_rdata};
 ghost use Rattle.dnsv_canonical.specs.Rrsets.{IsQuestion};
 ghost use Rattle.dnsv_verdict.specs.Case.{IsCaseOf, basis_by};
+ghost use Rattle.dnsv_verdict.specs.Case.Shared.{IsSharedOf};
 ghost use Rattle.dnsv_verdict.specs.Hashed.{IsFewHashedOn, IsNumberHashedOn, hashes_on};
-ghost use Rattle.dnsv_verdict.specs.Report.{IsKept, IsReport, Refuses};
+ghost use Rattle.dnsv_verdict.specs.Report.{IsKept, IsReport, Refuses, hashes_in};
 ghost use Rattle.dnsv_verdict.specs.Verdict.{Basis};
 ghost use Rattle.dnsv_verdict.specs.Way.{IsVerdictOf, names_on};
 ghost use Rattle.dnsv_verdict.specs.declared.error.VerdictError.{VerdictError};
 
 use crate::case::Case;
+use crate::case::shared::Shared;
 use crate::complete::a_whole_chain_is_told_by_the_verdict;
 use crate::error::VerdictError;
 use crate::report::{Judged, Report};
@@ -31,7 +33,7 @@ impl<'a> Case<'a> {
     /// iterations and salt; where nothing is kept, no more memory is taken than for the report.
     ///
     /// What it gives depends on the case and the question alone, so questions may be judged one after another, or one
-    /// of them again.
+    /// of them again. Nothing is shared between them: `OpenCase` is for many.
     pub fn judge(
         &self,
         alloc: Global,
@@ -49,8 +51,36 @@ impl<'a> Case<'a> {
             → IfOk result (λ judged. IsVerdictOf (basis_by self.now) name.now rtype.0 judged.report.links
             judged.report.last judged.report.verdict) }
         ensures kept { IsTrue keeps → IfOk result (λ judged. IsKept self.now rtype.0 judged.report.links
-            judged.report.last judged.report.verdict judged.hashes.items judged.hope) }
+            judged.report.last judged.report.verdict (hashes_in judged) judged.hope) }
         ensures unkept { IsFalse keeps → IfOk result (λ judged. (judged.hashes.items ≡ []) × (judged.hope ≡ None)) }
+    {
+        let mut shared = Shared::new(alloc, false);
+        self.judge_sharing(alloc, &mut shared, name, rtype, keeps)
+    }
+
+    /// The same, where questions share what any of them needed: what `shared` has serves this one, and what this one
+    /// makes is added.
+    pub(crate) fn judge_sharing(
+        &self,
+        alloc: Global,
+        shared: &mut Shared<'a>,
+        name: &Name,
+        rtype: RecordType,
+        keeps: bool,
+    ) -> Result<Judged<'a>, VerdictError>
+        requires { IsSharedOf self.now shared.now }
+        ensures report { (basis : Basis) → IsCaseOf basis self.now
+            → IfOk result (λ judged. IsReport basis name.now rtype.0 judged.report) }
+        ensures refused { (basis : Basis) → IsCaseOf basis self.now → Refuses basis name.now rtype.0 result }
+        ensures question { ¬ IsQuestion name.now rtype.0 → IsErrOf result VerdictError.BadQuestion }
+        ensures by_table { (basis : Basis) → IsCaseOf basis self.now
+            → IfOk result (λ judged. IsVerdictOf (basis_by self.now) name.now rtype.0 judged.report.links
+            judged.report.last judged.report.verdict) }
+        ensures kept { IsTrue keeps → IfOk result (λ judged. IsKept self.now rtype.0 judged.report.links
+            judged.report.last judged.report.verdict (hashes_in judged) judged.hope) }
+        ensures unkept { IsFalse keeps → IfOk result (λ judged. (judged.hashes.items ≡ []) × (judged.hope ≡ None)) }
+        // Also where the question is refused, or memory is.
+        ensures shared { IsSharedOf self.now shared.new }
     {
         if !is_question(name, rtype) {
             return Err(VerdictError::BadQuestion);
@@ -60,7 +90,7 @@ impl<'a> Case<'a> {
         a_table_is_its_verifier();
         let mut hashed = Count::new();
         let mut trail = Trail::new(alloc, keeps);
-        let followed = follow(alloc, self, name, rtype, &mut hashed, &mut trail)?;
+        let followed = follow(alloc, self, shared, name, rtype, &mut hashed, &mut trail)?;
         let hashed = exact_hashed(&hashed, self, &followed.way);
         let report = Report {
             links: followed.way.links,

@@ -2,7 +2,7 @@
 use Rattle.std.proofs.Common.{◌∙◌, ap, refl, subst, sym}
 use Rattle.std.proofs.lemmas.Option.{MatchOption-at_none, MatchOption-at_some}
 use Rattle.std.proofs.lemmas.Result.{err_from_is_err_and}
-use Rattle.dnsv_verifier.specs.Table.{hoped_answer, hopeful, table_answer, unknown_entries}
+use Rattle.dnsv_verifier.specs.Table.{hoped_answer, table_answer, unknown_entries}
 use Rattle.dnsv_verifier.specs.declared.answer.Answer.{Answer}
 use Rattle.dnsv_verifier.specs.declared.entry.Entry.{Entry}
 use Rattle.dnsv_chain.specs.Trust.{SecuredIn}
@@ -11,12 +11,14 @@ use Rattle.dnsv_verdict.proofs.OfCase.{trust_alike}
 use Rattle.dnsv_verdict.proofs.SettledLemmas.PendingLemmas.{nothing_to_hope}
 use Rattle.dnsv_verdict.proofs.TrustLemmas.{settled_as_by_trust, settled_by_trust, settled_from_trust}
 use Rattle.dnsv_verdict.proofs.UnknownLemmas.{hoped_table, none_unknown}
+use Rattle.dnsv_verdict.specs.Case.{CaseContents}
 use Rattle.dnsv_verdict.specs.Settled.{IsSettled, IsSettledAs}
 use Rattle.dnsv_verdict.specs.Verdict.{Basis, basis_of}
 use Rattle.dnsv_verdict.proofs.at_name.hope_for.Goals as goal
 
 pub settled_on-requires-clause-rrsets : goal.settled_on-requires-clause-rrsets
-settled_on-requires-clause-rrsets c = c.requires.rrsets ∙ sym (c.in_ok-hoped.ensures.of.rrsets ∙ c.capture.ensures)
+settled_on-requires-clause-rrsets c =
+    c.requires.rrsets ∙ sym (ap (λ (each : CaseContents). each.rrsets) c.as_ref.ensures ∙ c.in_ok-hoped.ensures.hopeful.rrsets)
 
 pub returns-then-knows_all-clause-may : goal.returns-then-knows_all-clause-may
 returns-then-knows_all-clause-may c = λ meaning moment table unsettled.
@@ -33,43 +35,40 @@ returns-in_err-verdict-clause-may c = λ meaning moment table unsettled.
 pub returns-clause-may : goal.returns-clause-may
 returns-clause-may c = λ meaning moment table unsettled.
     let case = c.args.case.now in
-    let its = c.in_ok-hoped.hoped in
-    let rrsets = c.in_ok-hoped.ensures.of.rrsets ∙ c.capture.ensures in
-    let anchors = c.in_ok-hoped.ensures.of.anchors ∙ c.anchors.ensures in
-    let contents = c.in_ok-hoped.ensures.of.table ∙ c.in_ok-hopeful.ensures ∙ ap hopeful c.table-table.ensures in
+    let its = c.in_ok-hoped.hoped.value in
+    let its_own = c.in_ok-hoped.ensures.hopeful in
     let hoped : Entry → Answer = λ entry. hoped_answer (meaning entry) in
-    let is = hoped_table hoped moment case.rrsets contents (c.unknown_entries_may_turn_out_valid.ensures.hoped meaning moment case.rrsets case.table table) in
+    let is = hoped_table hoped moment case.rrsets its_own.table (c.unknown_entries_may_turn_out_valid.ensures.hoped meaning moment case.rrsets case.table table) in
     settled_from_trust hoped moment case.rrsets case.anchors its.table its.trust is.of_moment
     (c.a_table_is_its_verifier.ensures.answer hoped moment case.rrsets its.table is)
-    c.trust_depends_on_what_is_asked.ensures.numbers (trust_alike case its rrsets anchors c.in_ok-hoped.ensures.of.trust) c.args.name.now c.args.rtype.0
+    c.trust_depends_on_what_is_asked.ensures.numbers (trust_alike case its its_own.rrsets its_own.anchors its_own.trust) c.args.name.now c.args.rtype.0
     (settled_stands (SecuredIn its.trust) case.rrsets c.args.name.now c.args.rtype.0 c.in-Some.verdict
-    (subst (λ all. IsSettledAs (SecuredIn its.trust) all c.args.name.now c.args.rtype.0 c.in-Some.verdict) rrsets
-    (MatchOption-at_some _ _ c.in-Some.verdict c.in-Some.is c.in_ok-verdict.ensures)))
+    (subst (λ all. IsSettledAs (SecuredIn its.trust) all c.args.name.now c.args.rtype.0 c.in-Some.verdict) its_own.rrsets
+    (MatchOption-at_some _ _ c.in-Some.verdict c.in-Some.is (rw c.as_ref.ensures at c.in_ok-verdict.ensures))))
 
 pub returns-clause-hope : goal.returns-clause-hope
 returns-clause-hope c =
-    let its = c.in_ok-hoped.hoped in
+    let its = c.in_ok-hoped.hoped.value in
+    let its_own = c.in_ok-hoped.ensures.hopeful in
     record {
-      rrsets = c.in_ok-hoped.ensures.of.rrsets ∙ c.capture.ensures;
-      anchors = c.in_ok-hoped.ensures.of.anchors ∙ c.anchors.ensures;
-      table = c.in_ok-hoped.ensures.of.table ∙ c.in_ok-hopeful.ensures ∙ ap hopeful c.table-table.ensures;
-      trust = c.in_ok-hoped.ensures.of.trust;
+      rrsets = its_own.rrsets;
+      anchors = its_own.anchors;
+      table = its_own.table;
+      trust = its_own.trust;
       verdict = settled_as_by_trust (table_answer its.table) its.table.moment its.rrsets its.anchors its.table its.trust refl
-          (λ entry asked. refl) c.trust_depends_on_what_is_asked.ensures.numbers c.in_ok-hoped.ensures.of.trust c.args.name.now c.args.rtype.0 c.in-Some.verdict
-          (MatchOption-at_some _ _ c.in-Some.verdict c.in-Some.is c.in_ok-verdict.ensures);
+          (λ entry asked. refl) c.trust_depends_on_what_is_asked.ensures.numbers its_own.trust c.args.name.now c.args.rtype.0 c.in-Some.verdict
+          (MatchOption-at_some _ _ c.in-Some.verdict c.in-Some.is (rw c.as_ref.ensures at c.in_ok-verdict.ensures));
     }
 
 pub returns-in_default-clause-may : goal.returns-in_default-clause-may
 returns-in_default-clause-may c = λ meaning moment table unsettled.
     let case = c.args.case.now in
-    let its = c.in_ok-hoped.hoped in
-    let rrsets = c.in_ok-hoped.ensures.of.rrsets ∙ c.capture.ensures in
-    let anchors = c.in_ok-hoped.ensures.of.anchors ∙ c.anchors.ensures in
-    let contents = c.in_ok-hoped.ensures.of.table ∙ c.in_ok-hopeful.ensures ∙ ap hopeful c.table-table.ensures in
+    let its = c.in_ok-hoped.hoped.value in
+    let its_own = c.in_ok-hoped.ensures.hopeful in
     let hoped : Entry → Answer = λ entry. hoped_answer (meaning entry) in
-    let is = hoped_table hoped moment case.rrsets contents (c.unknown_entries_may_turn_out_valid.ensures.hoped meaning moment case.rrsets case.table table) in
-    λ may. subst (λ all. ¬ IsSettled (SecuredIn its.trust) all c.args.name.now c.args.rtype.0) rrsets
-    (MatchOption-at_none _ _ c.in_default.is c.in_ok-verdict.ensures)
+    let is = hoped_table hoped moment case.rrsets its_own.table (c.unknown_entries_may_turn_out_valid.ensures.hoped meaning moment case.rrsets case.table table) in
+    λ may. subst (λ all. ¬ IsSettled (SecuredIn its.trust) all c.args.name.now c.args.rtype.0) its_own.rrsets
+    (MatchOption-at_none _ _ c.in_default.is (rw c.as_ref.ensures at c.in_ok-verdict.ensures))
     (settled_by_trust hoped moment case.rrsets case.anchors its.table its.trust is.of_moment
     (c.a_table_is_its_verifier.ensures.answer hoped moment case.rrsets its.table is)
-    c.trust_depends_on_what_is_asked.ensures.numbers (trust_alike case its rrsets anchors c.in_ok-hoped.ensures.of.trust) c.args.name.now c.args.rtype.0 may)
+    c.trust_depends_on_what_is_asked.ensures.numbers (trust_alike case its its_own.rrsets its_own.anchors its_own.trust) c.args.name.now c.args.rtype.0 may)

@@ -50,4 +50,5 @@ links-preserved c =
           c.in_ok-target.ensures.target c.in_ok-target.ensures.new c.in_ok-target.ensures.few c.in_ok-target.ensures.question,
       trail_more case c.args.rtype.0 c.links.way.links last k s c.in_ok-verdict.verdict c.args.trail.now c.links.trail c.verdict_at.new.trail is
           c.links.invariant.1 c.in_ok-verdict.ensures.kept,
+      c.in_ok-verdict.ensures.shared,
     )

@@ -1,0 +1,17 @@
+-- What the questions of one case share beside it. No public clause cites this module.
+use Rattle.std.specs.Prelude.{◌≡◌, IfSome, List}
+use Rattle.std.specs.List.{AllByRecursion}
+use Rattle.dnsv_canonical.specs.Rrsets.{ReceivedRrset}
+use Rattle.dnsv_denial.specs.QuestionHashes.{HashedQuestion}
+use Rattle.dnsv_verdict.specs.Case.{CaseContents}
+use Rattle.dnsv_verdict.specs.Hope.{IsHopeful}
+use Rattle.dnsv_verdict.specs.declared.case.shared.Shared.{Shared}
+
+-- the hashes are made with the parameters of these RRsets
+abbrev pub AreHashedIn : List ReceivedRrset → List HashedQuestion → Type 0
+AreHashedIn rrsets hashed = AllByRecursion (λ each. each.rrsets ≡ rrsets) hashed
+
+-- what is there is of the case: the hopeful one is its own, and the names are hashed by its evidence
+pub record IsSharedOf (case : CaseContents) (shared : Shared) : Type 0 where
+  pub hopeful : IfSome shared.hopeful (λ hopeful. IsHopeful case hopeful.value)
+  pub names : AreHashedIn case.rrsets shared.names.items
