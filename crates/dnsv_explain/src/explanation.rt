@@ -12,13 +12,15 @@ mod wildcard_cut;
 ghost use Rattle.std.specs.Prelude.{◌≡◌, [], IfOk, OnOk};
 ghost use Rattle.dnsv_names.specs.Name.{Labels};
 ghost use Rattle.dnsv_verdict.specs.Case.{HasTrust, basis_by};
-ghost use Rattle.dnsv_verdict.specs.Report.{IsKept, IsReport, Refuses};
+ghost use Rattle.dnsv_verdict.specs.Report.{IsKept, IsReport, Refuses, hashes_in};
 ghost use Rattle.dnsv_verdict.specs.Verdict.{basis_of};
 ghost use Rattle.dnsv_verdict.specs.Way.{IsVerdictOf};
 ghost use Rattle.dnsv_explain.specs.Explained.{explained_by, setting_in};
 ghost use Rattle.dnsv_explain.specs.Explanation.{IsExplanation, IsExplanationOf, IsLinkTold, IsUnproved};
 ghost use Rattle.dnsv_explain.specs.Saying.{Adds, AreEach};
+ghost use Rattle.dnsv_explain.specs.derivations.KeptWays.{AreHopedWays};
 
+use crate::derivations::ways::kept::KeptWay;
 use crate::evidence::Evidence;
 use crate::explanation::at::At;
 use crate::explanation::end::{add_end, add_places_named};
@@ -84,7 +86,7 @@ pub fn explain<'a, V: Verifier>(
     if !is_question(name, rtype) {
         return Err(VerdictError::BadQuestion);
     }
-    let explainer = Explainer::new(alloc, bump, capture, anchors, moment, verifier)?;
+    let mut explainer = Explainer::new(alloc, bump, capture, anchors, moment, verifier)?;
     explainer.explain(alloc, name, rtype)
 }
 
@@ -94,24 +96,28 @@ fn explanation_of<'a>(
     evidence: &Evidence<'_>,
     case: &Case<'a>,
     judged: &Judged<'a>,
+    hoped: &[KeptWay],
     rtype: RecordType,
 ) -> Result<Explanation, AllocError>
     requires trust { HasTrust case.now }
+    requires hoped { AreHopedWays case.now hoped.now }
     requires evidence { evidence.now ≡ explained_by case.now [] }
     requires kept { IsKept case.now rtype.0 judged.now.report.links judged.now.report.last
-        judged.now.report.verdict judged.now.hashes.items judged.now.hope }
+        judged.now.report.verdict (hashes_in judged.now) judged.now.hope }
     requires verdict { (name : Labels) × IsVerdictOf (basis_by case.now) name rtype.0 judged.now.report.links
         judged.now.report.last judged.now.report.verdict }
     ensures { IfOk result (IsExplanation (explained_by case.now []) rtype.0 judged.now.report.links
         judged.now.report.last judged.now.report.verdict) }
 {
     if is_unproved(&judged.report.verdict) {
-        return Ok(failed(alloc, evidence, case, judged, rtype)?);
+        return Ok(failed(alloc, evidence, case, judged, hoped, rtype)?);
     }
     let mut lines = Vec::new(alloc);
     add_links(alloc, evidence, case, judged, &mut lines, rtype)?;
-    let hashes = &judged.hashes[judged.report.links.as_slice().len()];
-    add_verdict(alloc, evidence, case, judged, hashes, &mut lines, rtype)?;
+    let hashes = judged.hashes_at(judged.report.links.as_slice().len());
+    add_verdict(
+        alloc, evidence, case, judged, hashes, hoped, &mut lines, rtype,
+    )?;
     if !is_settled(&judged.report.verdict) {
         add_places_named(alloc, evidence, &mut lines)?;
         return Ok(Explanation { lines });
@@ -126,12 +132,14 @@ fn failed<'a>(
     evidence: &Evidence<'_>,
     case: &Case<'a>,
     judged: &Judged<'a>,
+    hoped: &[KeptWay],
     rtype: RecordType,
 ) -> Result<Explanation, AllocError>
     requires trust { HasTrust case.now }
+    requires hoped { AreHopedWays case.now hoped.now }
     requires evidence { evidence.now ≡ explained_by case.now [] }
     requires kept { IsKept case.now rtype.0 judged.now.report.links judged.now.report.last
-        judged.now.report.verdict judged.now.hashes.items judged.now.hope }
+        judged.now.report.verdict (hashes_in judged.now) judged.now.hope }
     requires verdict { (name : Labels) × IsVerdictOf (basis_by case.now) name rtype.0 judged.now.report.links
         judged.now.report.last judged.now.report.verdict }
     requires unproved { IsUnproved judged.now.report.verdict }
@@ -139,7 +147,7 @@ fn failed<'a>(
         judged.now.report.last judged.now.report.verdict) }
 {
     let mut lines = Vec::new(alloc);
-    let last = &judged.hashes[judged.report.links.as_slice().len()];
+    let last = judged.hashes_at(judged.report.links.as_slice().len());
     let at = At {
         case,
         hashes: last,
@@ -147,7 +155,9 @@ fn failed<'a>(
     };
     add_failure(alloc, evidence, &at, &mut lines, rtype)?;
     add_links(alloc, evidence, case, judged, &mut lines, rtype)?;
-    add_verdict(alloc, evidence, case, judged, last, &mut lines, rtype)?;
+    add_verdict(
+        alloc, evidence, case, judged, last, hoped, &mut lines, rtype,
+    )?;
     add_places_named(alloc, evidence, &mut lines)?;
     Ok(Explanation { lines })
 }
@@ -164,7 +174,7 @@ fn add_links<'a>(
     requires trust { HasTrust case.now }
     requires evidence { evidence.now ≡ explained_by case.now [] }
     requires kept { IsKept case.now rtype.0 judged.now.report.links judged.now.report.last
-        judged.now.report.verdict judged.now.hashes.items judged.now.hope }
+        judged.now.report.verdict (hashes_in judged.now) judged.now.hope }
     requires verdict { (name : Labels) × IsVerdictOf (basis_by case.now) name rtype.0 judged.now.report.links
         judged.now.report.last judged.now.report.verdict }
     ensures { OnOk result (Adds (AreEach (IsLinkTold (setting_in evidence.now)) judged.now.report.links) lines.old.items
@@ -175,7 +185,7 @@ fn add_links<'a>(
             rrset: link.rrset,
             signature: link.signature,
         };
-        let hashes = &judged.hashes[place];
+        let hashes = judged.hashes_at(place);
         let at = At {
             case,
             hashes,

@@ -1,11 +1,13 @@
 //! What all explanations over one case share.
-ghost use Rattle.std.specs.Prelude.{[], IfOk};
+ghost use Rattle.std.specs.Prelude.{◌≡◌, [], IfOk};
 ghost use Rattle.dnsv_explain.specs.Explained.{explained_by, setting_in};
 ghost use Rattle.dnsv_explain.specs.Explanation.{IsExplanationOf};
+ghost use Rattle.dnsv_explain.specs.derivations.KeptWays.{AreHopedWays};
 ghost use Rattle.dnsv_explain.specs.derivations.WaySearch.{AreFirstWays};
-ghost use Rattle.dnsv_verdict.specs.Case.{IsCaseOf};
+ghost use Rattle.dnsv_verdict.specs.Case.{IsCaseOf, basis_by};
+ghost use Rattle.dnsv_verdict.specs.Hope.{HasHope};
 ghost use Rattle.dnsv_verdict.specs.Report.{IsReport, Refuses};
-ghost use Rattle.dnsv_verdict.specs.Verdict.{Basis, basis_of};
+ghost use Rattle.dnsv_verdict.specs.Verdict.{Basis, IsVerdictAt, basis_of};
 
 use crate::derivations::ways::kept::{KeptWay, first_ways};
 use crate::explanation::at::evidence_of;
@@ -14,29 +16,32 @@ use bumpalo::Bump;
 use dnsv_canonical::Capture;
 use dnsv_chain::Anchors;
 use dnsv_names::{Name, RecordType};
-use dnsv_verdict::{Case, Report, VerdictError};
-use dnsv_verifier::Verifier;
+use dnsv_verdict::{Case, Hope, Judged, OpenCase, Report, Verdict, VerdictError};
+use dnsv_verifier::{Entries, Verifier};
 use std::alloc::{AllocError, Global};
 use std::marker::Model;
 
-/// A case whose verdicts are explained, of as many questions as one likes, with what their explanations share: the first
-/// way into each RRset is worked out once.
+/// A case whose verdicts are explained, of as many questions as one likes, with what these and their explanations share:
+/// the first way into each RRset is worked out once, and once by what may be hoped, for the first question that needs it.
 #[derive(Drop)]
 pub struct Explainer<'a> {
-    case: Case<'a>,
+    open_case: OpenCase<'a>,
     /// The first way into each RRset, by its number.
     ways: Vec<KeptWay>,
+    /// The first way into each RRset by what may be hoped. It is empty until a question needs them.
+    hoped: Vec<KeptWay>,
 }
 
 impl<'a> Model for Explainer<'a> {
-    ghost use Rattle.dnsv_explain.specs.derivations.KeptWays.{AreOfCase};
+    ghost use Rattle.dnsv_explain.specs.derivations.KeptWays.{AreHopedWays, AreOfCase};
     ghost use Rattle.dnsv_verdict.specs.Case.{CaseContents};
 
     ghost Value = { CaseContents };
 
-    ghost view = { λ explainer. explainer.case };
+    ghost view = { λ explainer. explainer.open_case };
 
-    ghost invariant = { λ explainer. AreOfCase explainer.case explainer.ways.items };
+    ghost invariant = { λ explainer. AreOfCase explainer.open_case explainer.ways.items
+        × AreHopedWays explainer.open_case explainer.hoped.items };
 }
 
 impl<'a> Explainer<'a> {
@@ -54,29 +59,37 @@ impl<'a> Explainer<'a> {
     {
         let case = Case::new(alloc, bump, capture, anchors, moment, verifier)?;
         let ways = ways_of(alloc, &case)?;
-        Ok(Explainer { case, ways })
+        Ok(Explainer {
+            open_case: OpenCase::of(alloc, case),
+            ways,
+            hoped: Vec::new(alloc),
+        })
     }
 
     /// The verdict on a question, as `Case::judge` gives it, and why it stands, as `explain` says it of one question. The
-    /// verifier isn't asked again. What it gives depends on the case and the question alone.
+    /// verifier isn't asked again. What it gives depends on the case and the question alone. The case stays, also where
+    /// the question is refused or memory is.
     pub fn explain(
-        &self,
+        &mut self,
         alloc: Global,
         name: &Name,
         rtype: RecordType,
     ) -> Result<(Report<'a>, Explanation), VerdictError>
-        ensures report { (basis : Basis) → IsCaseOf basis self.now
+        ensures report { (basis : Basis) → IsCaseOf basis self.old
             → IfOk result (λ told. IsReport basis name.now rtype.0 told.0) }
-        ensures explanation { (basis : Basis) → IsCaseOf basis self.now
+        ensures explanation { (basis : Basis) → IsCaseOf basis self.old
             → IfOk result (λ told. IsExplanationOf basis rtype.0 told.0 told.1) }
-        ensures refused { (basis : Basis) → IsCaseOf basis self.now → Refuses basis name.now rtype.0 result }
+        ensures refused { (basis : Basis) → IsCaseOf basis self.old → Refuses basis name.now rtype.0 result }
+        ensures same { self.new ≡ self.old }
     {
+        let judged = self.open_case.judge(alloc, name, rtype, true)?;
+        let case = self.open_case.case();
         // What is true of every case.
-        let _trust = self.case.trust();
-        let judged = self.case.judge(alloc, name, rtype, true)?;
-        let bare = evidence_of(&self.case, None);
+        let _trust = case.trust();
+        keep_hoped(alloc, case, &judged, rtype, &mut self.hoped)?;
+        let bare = evidence_of(case, None);
         let evidence = bare.with_ways(&self.ways);
-        let explanation = explanation_of(alloc, &evidence, &self.case, &judged, rtype)?;
+        let explanation = explanation_of(alloc, &evidence, case, &judged, &self.hoped, rtype)?;
         Ok((judged.report, explanation))
     }
 }
@@ -86,5 +99,44 @@ fn ways_of(alloc: Global, case: &Case<'_>) -> Result<Vec<KeptWay>, AllocError>
     ensures { IfOk result (λ ways. AreFirstWays (setting_in (explained_by case.now [])) ways.items) }
 {
     let evidence = evidence_of(case, None);
+    first_ways(alloc, &evidence)
+}
+
+/// Keeps the first ways by what may be hoped, where the question needs them and none before did.
+fn keep_hoped<'a>(
+    alloc: Global,
+    case: &Case<'a>,
+    judged: &Judged<'a>,
+    rtype: RecordType,
+    hoped: &mut Vec<KeptWay>,
+) -> Result<(), AllocError>
+    requires hoped { AreHopedWays case.now hoped.now.items }
+    requires verdict { IsVerdictAt (basis_by case.now) judged.now.report.last rtype.0 judged.now.report.verdict }
+    requires hope { HasHope case.now judged.now.report.last rtype.0 judged.now.report.verdict judged.now.hope }
+    ensures { AreHopedWays case.now hoped.new.items }
+{
+    if !hoped.is_empty() {
+        return Ok(());
+    }
+    let Verdict::Pending(unknown) = &judged.report.verdict else {
+        return Ok(());
+    };
+    let Some(hope) = &judged.hope else {
+        return Ok(());
+    };
+    *hoped = hoped_ways(alloc, hope, unknown)?;
+    Ok(())
+}
+
+/// The first way into each RRset by the hope, with the numbers of these entries.
+fn hoped_ways(
+    alloc: Global,
+    hope: &Hope<'_>,
+    unknown: &Entries<'_>,
+) -> Result<Vec<KeptWay>, AllocError>
+    ensures { IfOk result (λ ways. AreFirstWays (setting_in (explained_by hope.now.case.value unknown.now))
+        ways.items) }
+{
+    let evidence = evidence_of(hope.case.as_ref(), Some(unknown));
     first_ways(alloc, &evidence)
 }

@@ -3,12 +3,13 @@ ghost use Rattle.std.specs.Prelude.{◌≡◌, ◌↔◌, [], IsTrue, OnOk};
 ghost use Rattle.dnsv_verdict.specs.Case.{HasTrust, basis_by};
 ghost use Rattle.dnsv_verdict.specs.Hope.{HasHope, IsHope};
 ghost use Rattle.dnsv_verdict.specs.Report.{hashed_in};
-ghost use Rattle.dnsv_verdict.specs.Verdict.{IsSettledVerdict, IsVerdictAt};
+ghost use Rattle.dnsv_verdict.specs.Verdict.{AreUnknown, IsSettledVerdict, IsVerdictAt};
 ghost use Rattle.dnsv_explain.specs.Explained.{explained_by};
 ghost use Rattle.dnsv_explain.specs.Explanation.{IsHopeTold, IsVerdictTold, told_kind};
 ghost use Rattle.dnsv_explain.specs.Saying.{Adds};
+ghost use Rattle.dnsv_explain.specs.derivations.KeptWays.{AreHopedWays};
 
-use crate::derivations::ways::kept::first_ways;
+use crate::derivations::ways::kept::KeptWay;
 use crate::evidence::Evidence;
 use crate::explanation::at::{At, evidence_of};
 use crate::explanation::held::add_held;
@@ -28,6 +29,7 @@ pub fn add_verdict<'a>(
     case: &Case<'a>,
     judged: &Judged<'a>,
     hashes: &Hashes<'a>,
+    hoped: &[KeptWay],
     lines: &mut Vec<Line>,
     rtype: RecordType,
 ) -> Result<(), AllocError>
@@ -36,6 +38,7 @@ pub fn add_verdict<'a>(
     requires hashes { hashes.now ≡ hashed_in case.now.rrsets judged.now.report.last }
     requires verdict { IsVerdictAt (basis_by case.now) judged.now.report.last rtype.0
         judged.now.report.verdict }
+    requires hoped { AreHopedWays case.now hoped.now }
     requires hope { HasHope case.now judged.now.report.last rtype.0 judged.now.report.verdict judged.now.hope }
     ensures { OnOk result (Adds (IsVerdictTold evidence.now judged.now.report.last rtype.0 judged.now.report.verdict)
         lines.old.items lines.new.items) }
@@ -53,7 +56,7 @@ pub fn add_verdict<'a>(
         return Ok(());
     };
     Ok(add_hope(
-        alloc, evidence, case, hope, unknown, hashes, lines, name, rtype,
+        alloc, evidence, case, hope, unknown, hoped, hashes, lines, name, rtype,
     )?)
 }
 
@@ -65,6 +68,7 @@ fn add_hope<'a>(
     case: &Case<'a>,
     hope: &Hope<'a>,
     unknown: &Entries<'_>,
+    ways: &[KeptWay],
     hashes: &Hashes<'a>,
     lines: &mut Vec<Line>,
     name: &Name,
@@ -72,18 +76,20 @@ fn add_hope<'a>(
 ) -> Result<(), AllocError>
     requires evidence { evidence.now ≡ explained_by case.now [] }
     requires hashes { hashes.now ≡ hashed_in case.now.rrsets name.now }
+    requires unknown { AreUnknown (basis_by case.now) unknown.now }
+    requires ways { AreHopedWays case.now ways.now }
     requires hope { IsHope case.now name.now rtype.0 hope.now }
     ensures { OnOk result (Adds (IsHopeTold evidence.now name.now rtype.0 unknown.now) lines.old.items lines.new.items) }
 {
     let Some(kind) = kind_of(&hope.verdict) else {
         return Ok(());
     };
-    let bare = evidence_of(&hope.case, Some(unknown));
-    let ways = first_ways(alloc, &bare)?;
-    let hoped = bare.with_ways(&ways);
+    let hoped_case = hope.case.as_ref();
+    let bare = evidence_of(hoped_case, Some(unknown));
+    let hoped = bare.with_ways(ways);
     lines.push(Line::Hope(kind))?;
     let at = At {
-        case: &hope.case,
+        case: hoped_case,
         hashes,
         name,
     };

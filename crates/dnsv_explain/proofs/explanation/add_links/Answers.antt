@@ -1,4 +1,5 @@
 use Rattle.std.proofs.Common.{[]}
+use Rattle.dnsv_verdict.specs.Report.{hashes_in}
 use Rattle.dnsv_explain.specs.Explained.{setting_in}
 use Rattle.dnsv_explain.specs.Explanation.{IsLinkTold}
 use Rattle.dnsv_explain.proofs.lemmas.telling.SayingLemmas.{next_added}
@@ -12,8 +13,8 @@ add_set-requires-clause-at c =
       trust = c.requires.trust;
       evidence = todo_same c.args.case.now c.args.evidence.now [] c.requires.evidence;
       hashes = link_hashed c.args.case.now.rrsets judged.report.links c.as_slice-link-items.result.now judged.report.last
-          c.loop-place.place judged.hashes.items c.index-hashes.result.now c.link-item.result c.as_slice-link-items.ensures.value
-          c.loop-place-test.true c.link-item.is c.requires.kept.each_name c.index-hashes.ensures;
+          c.loop-place.place (hashes_in judged) c.hashes_at-hashes.result.now c.link-item.result c.as_slice-link-items.ensures.value
+          c.loop-place-test.true c.link-item.is c.requires.kept.each_name c.hashes_at-hashes.ensures;
     }
 
 pub add_set-requires-clause-secure : goal.add_set-requires-clause-secure

@@ -2,7 +2,7 @@ use Rattle.std.proofs.Common.{◌≡◌, ◌∙◌, [], ◌∷◌, List, ap, get
 use Rattle.dnsv_names.specs.Name.{Labels}
 use Rattle.dnsv_canonical.specs.Rrsets.{ReceivedRrset}
 use Rattle.dnsv_denial.specs.QuestionHashes.{HashedQuestion}
-use Rattle.dnsv_verdict.specs.Report.{hashed_in}
+use Rattle.dnsv_verdict.specs.Report.{hashed_in, hashes_in}
 use Rattle.dnsv_verdict.specs.declared.link.Link.{Link}
 use Rattle.dnsv_explain.proofs.lemmas.telling.TellLemmas.{hashed_on, todo_same}
 use Rattle.dnsv_explain.proofs.lemmas.telling.WholeLemmas.{failed_ended, way_added}
@@ -27,7 +27,7 @@ add_failure-requires c =
       trust = c.requires.trust;
       evidence = todo_same c.args.case.now c.args.evidence.now [] c.requires.evidence;
       hashes = last_hashed c.args.case.now.rrsets judged.report.links c.as_slice.result.now judged.report.last
-          judged.hashes.items c.index-last.result.now c.as_slice.ensures.value c.requires.kept.each_name c.index-last.ensures;
+          (hashes_in judged) c.hashes_at-last.result.now c.as_slice.ensures.value c.requires.kept.each_name c.hashes_at-last.ensures;
     }
 
 pub returns : goal.returns

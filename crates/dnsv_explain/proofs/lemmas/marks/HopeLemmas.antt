@@ -92,8 +92,8 @@ module _ (case : CaseContents) (name : Labels) (t : ℕ) (verdict : Verdict) (ho
   the_hope this some = let Has : Option Hope → Type 0 = λ each. HasHope case name t (Pending unknown) each in subst Has some has_its
 
 module _ (explained its : Explained) (case : CaseContents) (hope : Hope) (unknown : List Entry) (name : Labels) (t : ℕ)
-    (same : explained ≡ explained_by case []) (its_same : its ≡ explained_by hope.case unknown) (is : IsHope case name t hope) where
-  is_hoped : its ≡ hoped explained unknown
+    (same : explained ≡ explained_by case []) (its_same : its ≡ explained_by hope.case.value unknown) (is : IsHope case name t hope) where
+  pub is_hoped : its ≡ hoped explained unknown
   is_hoped =
       its_same
       ∙ (λ i. record { rrsets = is.rrsets i; anchors = is.anchors i; table = is.table i; todo = unknown })
