@@ -10,7 +10,7 @@ use dnsv_canonical::Capture;
 use dnsv_chain::Anchors;
 use dnsv_denial::Proof;
 use dnsv_names::{Name, RecordType};
-use dnsv_verdict::{Case, Link, Report, Verdict, VerdictError, validate};
+use dnsv_verdict::{Case, Link, OpenCase, Report, Verdict, VerdictError, validate};
 use dnsv_verifier::{Entries, Panel, Verifier};
 use std::alloc::Global;
 
@@ -105,8 +105,9 @@ fn told_in_turn(
         row.number(2)?,
         &ByFirstOctet,
     )?;
+    let mut open_case = OpenCase::of(row.alloc(), case);
     for _ in 0..row.number(3)? {
-        let told = told_by_case(row, &case)?;
+        let told = told_by_case(row, &mut open_case)?;
         if told.as_bytes() != alone.as_bytes() {
             return Ok(format!(in row.alloc(); "not alone: {told}")?);
         }
@@ -141,12 +142,12 @@ fn told_alone(
 }
 
 /// What the case tells of each question.
-fn told_by_case(row: &Row, case: &Case<'_>) -> Result<String, RowError> {
+fn told_by_case(row: &Row, open_case: &mut OpenCase<'_>) -> Result<String, RowError> {
     let alloc = row.alloc();
     let mut text = String::new(alloc);
     for question in 0..questions(row) {
         let (name, rtype) = question_at(row, question)?;
-        let told = told_by(alloc, case, &name, rtype)?;
+        let told = told_by(alloc, open_case, &name, rtype)?;
         text = format!(in alloc; "{text}{told};")?;
     }
     Ok(text)
@@ -155,11 +156,11 @@ fn told_by_case(row: &Row, case: &Case<'_>) -> Result<String, RowError> {
 /// What the case tells of the question.
 fn told_by(
     alloc: Global,
-    case: &Case<'_>,
+    open_case: &mut OpenCase<'_>,
     name: &Name,
     rtype: RecordType,
 ) -> Result<String, RowError> {
-    match case.judge(alloc, name, rtype, false) {
+    match open_case.judge(alloc, name, rtype, false) {
         Ok(judged) => told(alloc, &judged.report),
         Err(error) => refused(alloc, error),
     }
