@@ -5,12 +5,11 @@ ghost use Rattle.dnsv_verifier.specs.Admissible.{IsGood};
 ghost use Rattle.dnsv_verifier.specs.Table.{table_answer};
 ghost use Rattle.dnsv_chain.specs.Trust.{AreSecured, IsTrustOf};
 ghost use Rattle.dnsv_explain.specs.Explained.{IsTodo, setting_in};
-ghost use Rattle.dnsv_explain.specs.derivations.Repeats.{IsRepeatAt};
-ghost use Rattle.dnsv_explain.specs.derivations.WaySearch.{AreFirstWays, IsWayOf};
+ghost use Rattle.dnsv_explain.specs.derivations.WaySearch.{AreFirstWays, HasNewKeys, IsWayOf};
 ghost use Rattle.dnsv_explain.specs.faults.Keys.{IsTrustedZone};
 
 use crate::derivations::ways::FoundWay;
-use crate::derivations::ways::kept::KeptWay;
+use crate::derivations::ways::kept::{KeptWay, NewKey};
 use crate::todo::number_among;
 use dnsv_canonical::{Capture, Rrset, numbered};
 use dnsv_chain::{Anchor, Anchors, Trust, is_good};
@@ -110,15 +109,15 @@ impl<'a> Evidence<'a> {
         Some(kept.way)
     }
 
-    /// Whether it is known of the RRset with the number that an RRset before it is trusted too, has the same owner, and
-    /// has all of its keys.
-    pub(crate) fn is_repeat(&self, number: usize) -> bool
-        ensures { (is : IsTrue result) → IsRepeatAt (setting_in self.now) number }
+    /// The keys that the RRset with the number, if it is a trusted DNSKEY RRset, is the first of its owner to have; `None`
+    /// where the ways aren't worked out.
+    pub(crate) fn new_keys(&self, number: usize) -> Option<&[NewKey]>
+        ensures { MatchOption result (Unit {0}) (λ keys. HasNewKeys (setting_in self.now) number keys.now) }
     {
         let Some(known) = numbered(self.ways, number) else {
-            return false;
+            return None;
         };
-        known.is_repeat
+        Some(known.new_keys.as_slice())
     }
 
     pub(crate) fn capture(&self) -> &'a Capture<'a>

@@ -5,7 +5,7 @@ pub mod KeptLemmas
 pub mod KeysLemmas
 pub mod RankLemmas
 pub mod ReadLemmas
-pub mod RepeatLemmas
+pub mod NewKeyLemmas
 pub mod SearchLemmas
 pub mod SetLemmas
 pub mod TrustedLemmas
