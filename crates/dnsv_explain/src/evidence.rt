@@ -10,7 +10,7 @@ ghost use Rattle.dnsv_explain.specs.faults.Keys.{IsTrustedZone};
 
 use crate::derivations::ways::FoundWay;
 use crate::derivations::ways::kept::{KeptWay, NewKey};
-use crate::todo::number_among;
+use crate::todo::{do_rise, number_among};
 use dnsv_canonical::{Capture, Rrset, numbered};
 use dnsv_chain::{Anchor, Anchors, Trust, is_good};
 use dnsv_lines::Todo;
@@ -29,6 +29,8 @@ pub struct Evidence<'a> {
     table: &'a Table<'a>,
     trust: &'a Trust<'a>,
     todo: Option<&'a Entries<'a>>,
+    /// Whether those entries are known to rise, so that one is looked up by halves.
+    rises: bool,
     /// The first way into each RRset by its number, once they are worked out: each is asked for by many lines.
     ways: &'a [KeptWay],
 }
@@ -53,7 +55,7 @@ impl<'a> Model for Evidence<'a> {
       anchors = evidence.anchors.now;
       table = evidence.table.now;
       todo = option_map_or (λ entries. entries.now) evidence.todo [];
-    }) evidence.trust.now evidence.ways.now };
+    }) evidence.trust.now evidence.ways.now evidence.rises };
 }
 
 impl<'a> Evidence<'a> {
@@ -80,6 +82,7 @@ impl<'a> Evidence<'a> {
             table,
             trust,
             todo,
+            rises: do_rise(todo),
             ways: &[],
         }
     }
@@ -95,6 +98,7 @@ impl<'a> Evidence<'a> {
             table: self.table,
             trust: self.trust,
             todo: self.todo,
+            rises: self.rises,
             ways,
         }
     }
@@ -198,6 +202,6 @@ impl<'a> Evidence<'a> {
         let Some(entries) = self.todo else {
             return Ok(Todo(None));
         };
-        Ok(Todo(number_among(alloc, entries, rrset, rrsig, key)?))
+        Ok(Todo(number_among(alloc, entries, self.rises, rrset, rrsig, key)?))
     }
 }

@@ -3,4 +3,5 @@ pub mod HopeLemmas
 pub mod HopedLemmas
 pub mod LineLemmas
 pub mod MarkLemmas
+pub mod RisingLemmas
 pub mod TodoLemmas
