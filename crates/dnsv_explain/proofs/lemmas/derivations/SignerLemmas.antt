@@ -350,13 +350,6 @@ module _ (setting : Setting) (number : SignatureNumber) where
     earliest = λ k other is same. let inside = within k other is in first.earliest k other (omega (arith, inside, past)) is same;
   }
 
--- where it is good under no key there is none
-pub never_good : (setting : Setting) (number : SignatureNumber) (rrset : ReceivedRrset) (rrsig : Rrsig)
-    → IsNumbered setting.rrsets number.rrset rrset → IsSignatureAt rrset number.signature rrsig
-    → ((key : DnskeyRecord) → ¬ IsGood setting.meaning setting.moment rrset rrsig key) → (n : ℕ) → IsFirstTo setting number n None
-never_good setting number rrset rrsig is_rrset its none n = λ k other below is.
-    none other (under_good setting number rrset rrsig is_rrset its k is.set is.is_set is.rrset other is.good)
-
 -- ---- the line of a signature
 
 module _ (setting : Setting) (number : SignatureNumber) (rrset : ReceivedRrset) (is_rrset : IsNumbered setting.rrsets number.rrset rrset) where

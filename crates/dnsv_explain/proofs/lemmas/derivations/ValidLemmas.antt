@@ -1,14 +1,14 @@
 -- Which of the keys of an RRset a verifier calls a signature valid under.
-use Rattle.std.proofs.Common.{◌≡◌, ◌≢◌, ◌⊎◌, inl, inr, ◌<◌, ◌≤◌, ◌+◌, ◌-◌, ℕ, List, Option, Some, None, length, get_or, refl, sym, ap, ◌∙◌, subst, ⊎_elim, arith}
+use Rattle.std.proofs.Common.{◌≡◌, ◌≢◌, ◌⊎◌, inl, inr, ◌<◌, ◌≤◌, ◌+◌, ◌-◌, ℕ, List, Option, Some, None, length, get_or, sym, ap, ◌∙◌, subst, ⊎_elim, arith}
 use Rattle.std.proofs.lemmas.Bool.{cases_lt}
 use Rattle.std.proofs.lemmas.Cmp.{nat_list_cmp_total}
-use Rattle.std.proofs.lemmas.Option.{slice_get-get_or, slice_get_within}
+use Rattle.std.proofs.lemmas.Option.{slice_get-get_or}
 use Rattle.std.specs.List.{Contains, slice_get}
 use Rattle.std.specs.declared.cmp.Ordering.TheVariants.{Less}
-use Rattle.dnsv_records.specs.Dnskey.KeyTag.{key_tag_of}
 use Rattle.dnsv_records.specs.declared.rrsig.Rrsig.{Rrsig}
 use Rattle.dnsv_canonical.specs.Canonical.{rdata_cmp}
 use Rattle.dnsv_canonical.specs.Rrsets.{IsNumbered, ReceivedRrset}
+use Rattle.dnsv_canonical.specs.declared.number.SignatureNumber.{SignatureNumber}
 use Rattle.dnsv_verifier.specs.Admissible.{DnskeyRecord, IsAdmissible, IsEntryOf, IsGood, MayHaveMade}
 use Rattle.dnsv_verifier.specs.declared.answer.Answer.{Answer}
 use Rattle.dnsv_verifier.specs.declared.entry.Entry.{Entry}
@@ -16,11 +16,18 @@ use Rattle.dnsv_chain.proofs.SigningLemmas.GoodLemmas.{good_if_valid}
 use Rattle.dnsv_chain.specs.Signing.{IsValidBy}
 use Rattle.dnsv_chain.specs.Trusted.{IsKeyOf}
 use Rattle.dnsv_explain.specs.Explained.{Setting}
-use Rattle.dnsv_explain.specs.derivations.NewKeys.{AreNewKeys, IsAmongNew, IsHadAbove, IsNewKey}
-use Rattle.dnsv_explain.specs.derivations.SignerSearch.{IsKeyAt, IsLowestValid, IsSignedOver, IsValidKey}
+use Rattle.dnsv_explain.specs.derivations.NewKeys.{AreNewKeys, IsAmongNew, IsHadAbove}
+use Rattle.dnsv_explain.specs.derivations.SignerSearch.{IsFirstTo, IsKeyAt, IsLowestValid, IsSignatureAt, IsSignedOver, IsValidKey}
 use Rattle.dnsv_explain.specs.declared.derivations.ways.kept.NewKey.{NewKey}
 use Rattle.dnsv_explain.proofs.lemmas.NumberedLemmas.{same_number}
-use Rattle.dnsv_explain.proofs.lemmas.derivations.SignerLemmas.{as_known, itself_not_less}
+use Rattle.dnsv_explain.proofs.lemmas.derivations.SignerLemmas.{as_known, itself_not_less, under_good}
+
+-- where it is good under no key there is none
+pub never_good : (setting : Setting) (number : SignatureNumber) (rrset : ReceivedRrset) (rrsig : Rrsig)
+    → IsNumbered setting.rrsets number.rrset rrset → IsSignatureAt rrset number.signature rrsig
+    → ((key : DnskeyRecord) → ¬ IsGood setting.meaning setting.moment rrset rrsig key) → (n : ℕ) → IsFirstTo setting number n None
+never_good setting number rrset rrsig is_rrset its none n = λ k other below is.
+    none other (under_good setting number rrset rrsig is_rrset its k is.set is.is_set is.rrset other is.good)
 
 -- ---- one key more
 

@@ -9,7 +9,7 @@ ghost use Rattle.dnsv_verifier.specs.declared.answer.Answer.{Answer};
 ghost use Rattle.dnsv_verifier.specs.declared.entry.Entry.{Entry};
 ghost use Rattle.dnsv_chain.specs.Signing.{IsValidBy};
 ghost use Rattle.dnsv_chain.specs.Trusted.{IsKeyOf};
-ghost use Rattle.dnsv_explain.specs.derivations.SignerSearch.{IsKeyAt, IsLowestValid, IsSignedOver, IsValidKey};
+ghost use Rattle.dnsv_explain.specs.derivations.SignerSearch.{IsLowestValid, IsSignedOver, IsValidKey};
 
 use crate::derivations::ways::kept::NewKey;
 use crate::evidence::Evidence;

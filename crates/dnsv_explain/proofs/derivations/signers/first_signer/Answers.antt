@@ -5,7 +5,7 @@ use Rattle.dnsv_explain.specs.Explained.{setting_in}
 use Rattle.dnsv_explain.specs.derivations.SignerSearch.{IsFirstTo}
 use Rattle.dnsv_explain.proofs.lemmas.IndexLemmas.{same_numbers}
 use Rattle.dnsv_explain.proofs.lemmas.NumberedLemmas.{in_list}
-use Rattle.dnsv_explain.proofs.lemmas.derivations.SignerLemmas.{never_good}
+use Rattle.dnsv_explain.proofs.lemmas.derivations.ValidLemmas.{never_good}
 use Rattle.dnsv_explain.proofs.lemmas.derivations.SignersAtLemmas.{key_set_there, lowest_next, set_there, signers_begin, signers_end, signers_more, signers_next}
 use Rattle.dnsv_explain.proofs.derivations.signers.first_signer.Goals as goal
 

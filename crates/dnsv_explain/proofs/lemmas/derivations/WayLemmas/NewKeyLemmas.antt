@@ -1,16 +1,16 @@
 -- Keys that a DNSKEY RRset is the first of its owner to have.
-use Rattle.std.proofs.Common.{◌≡◌, ◌⊎◌, inl, inr, ◌<◌, ◌≤◌, ◌+◌, ◌-◌, ◌++◌, ◌∷◌, [], ℕ, Bool, true, false, List, Some, None, Option, length, get_or, refl, sym, ap, ◌∙◌, subst, ⊎_elim, arith}
+use Rattle.std.proofs.Common.{◌≡◌, ◌⊎◌, inl, inr, ◌<◌, ◌≤◌, ◌+◌, ◌-◌, ◌++◌, ◌∷◌, [], ℕ, true, false, List, Some, None, Option, length, get_or, sym, ap, ◌∙◌, subst, ⊎_elim, arith}
 use Rattle.std.proofs.lemmas.Bool.{cases_lt, false≢true}
 use Rattle.std.proofs.lemmas.List.{get_or_default}
 use Rattle.std.proofs.lemmas.List.Elements.{Contains-append_left, Contains-push}
 use Rattle.std.proofs.lemmas.Option.{slice_get_within}
-use Rattle.std.specs.Prelude.{Contains, IsTrue, is_some}
+use Rattle.std.specs.Prelude.{Contains, is_some}
 use Rattle.dnsv_names.specs.Name.{Labels, SameName}
 use Rattle.dnsv_canonical.specs.Index.{numbers_at}
 use Rattle.dnsv_canonical.specs.Rrsets.{IsNumbered, ReceivedRrset}
 use Rattle.dnsv_explain.specs.Explained.{Setting}
-use Rattle.dnsv_explain.specs.derivations.NewKeys.{AreNewKeys, IsAmongNew, IsHadAbove, IsHadBy, IsKeySetTo, IsNewKey, IsThere}
-use Rattle.dnsv_explain.specs.derivations.WaySearch.{AreFirstWays, HasNewKeys, IsKeptWay, IsNoWay, IsWayOf}
+use Rattle.dnsv_explain.specs.derivations.NewKeys.{AreNewKeys, IsHadAbove, IsHadBy, IsKeySetTo, IsNewKey, IsThere}
+use Rattle.dnsv_explain.specs.derivations.WaySearch.{AreFirstWays, HasNewKeys, IsNoWay, IsWayOf}
 use Rattle.dnsv_explain.specs.declared.derivations.ways.FoundWay.{FoundWay}
 use Rattle.dnsv_explain.specs.declared.derivations.ways.kept.KeptWay.{KeptWay}
 use Rattle.dnsv_explain.specs.declared.derivations.ways.kept.NewKey.{NewKey}

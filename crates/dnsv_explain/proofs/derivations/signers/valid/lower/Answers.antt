@@ -1,4 +1,4 @@
-use Rattle.std.proofs.Common.{◌≡◌, Option, subst, sym, ap, ◌∙◌}
+use Rattle.std.proofs.Common.{◌≡◌, Option, subst, sym, ◌∙◌}
 use Rattle.std.specs.declared.cmp.Ordering.TheVariants.{Less, Equal, Greater}
 use Rattle.dnsv_canonical.specs.Canonical.{rdata_cmp}
 use Rattle.dnsv_verifier.specs.Admissible.{DnskeyRecord}
