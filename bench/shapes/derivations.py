@@ -27,7 +27,7 @@ from wire import (
 from .shape import Shape, explain
 
 TOTAL, SHORT, LONG = 65_000, bytes(28), bytes(4_000)
-KEYS, DEPTH, ALIASES = 15, 24, 8
+KEYS, DEPTH, ALIASES, SIGNATURES = 15, 24, 8, 8
 SHA_256 = 2
 
 
@@ -86,6 +86,23 @@ def key_sets(messages: int) -> Shape:
     return of_keys(capture, keys, "d." * DEPTH + "bench.example.", messages * (DEPTH + 1))
 
 
+def key_sets_apart(messages: int) -> Shape:
+    """The same, but that the first of the keys of each RRset is one which no other has."""
+    draw, common = random.Random(20261127), [twin_key(number, TOTAL, SHORT) for number in range(1, KEYS)]
+    tag = key_tag(common[0])
+    capture = []
+    for number in range(messages):
+        rest: list[bytes] = []
+        for depth in range(1, DEPTH + 1):
+            rdata = struct.pack("!HBB", number, ALGORITHM, SHA_256) + draw.randbytes(32)
+            rest += signed(draw, below(depth), 2 + depth, DS, rdata, tag)
+        keys = [twin_key(KEYS + number, TOTAL, SHORT), *common]
+        capture.append(response(number, ZONE, [*key_set(draw, keys), *rest]))
+    shape = of_keys(capture, common, "d." * DEPTH + "bench.example.", 0)
+    shape.pairs = messages * (DEPTH + 1) * (KEYS - 1 + messages)
+    return shape
+
+
 def key_sets_aliases(messages: int) -> Shape:
     """So many messages have that RRset, and the first an address behind eight aliases."""
     draw, keys = random.Random(20261127), keys_of(SHORT)
@@ -120,3 +137,18 @@ def key_anchors(messages: int) -> Shape:
     files = {"capture": capture, "anchors": anchors}
     pairs = messages * messages * KEYS
     return Shape(files, explain("www.bench.example."), pairs, answered_from=0, answered_by=key_field(keys[-1]))
+
+
+def keys_to_check(messages: int) -> Shape:
+    """So many messages have a DNSKEY RRset of 15 keys of one tag, each other ones, with eight signatures, and the first
+    the address that is asked for; nothing is answered, and the first key is the anchor."""
+    draw = random.Random(20261127)
+    capture: list[bytes] = []
+    for number in range(messages):
+        keys = [twin_key(each, TOTAL, SHORT) for each in range(KEYS * number, KEYS * number + KEYS)]
+        more = [record(QUESTION, RRSIG, rrsig(draw, DNSKEY, 2, ZONE, key_tag(keys[0]))) for _ in range(SIGNATURES - 1)]
+        asked = [] if number else signed(draw, QUESTION, 2, A, bytes(4), key_tag(keys[0]))
+        capture.append(response(number, ZONE, [*key_set(draw, keys), *more, *asked]))
+    first = twin_key(0, TOTAL, SHORT)
+    files = {"capture": capture, "anchors": [anchor("bench.example.", first).encode()]}
+    return Shape(files, explain("bench.example."), (messages * SIGNATURES + 1) * messages * KEYS)

@@ -7,6 +7,7 @@ pub mod Following
 pub mod Marked
 pub mod Once
 pub mod Places
+pub mod Rising
 pub mod Saying
 pub mod derivations
 pub mod faults

@@ -3,9 +3,9 @@ pub mod Climb
 pub mod Derivations
 pub mod HeldTo
 pub mod KeptWays
+pub mod NewKeys
 pub mod OwnDerivations
 pub mod OwnSearch
-pub mod Repeats
 pub mod SignerSearch
 pub mod WaySearch
 pub mod Ways

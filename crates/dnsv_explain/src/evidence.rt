@@ -5,13 +5,12 @@ ghost use Rattle.dnsv_verifier.specs.Admissible.{IsGood};
 ghost use Rattle.dnsv_verifier.specs.Table.{table_answer};
 ghost use Rattle.dnsv_chain.specs.Trust.{AreSecured, IsTrustOf};
 ghost use Rattle.dnsv_explain.specs.Explained.{IsTodo, setting_in};
-ghost use Rattle.dnsv_explain.specs.derivations.Repeats.{IsRepeatAt};
-ghost use Rattle.dnsv_explain.specs.derivations.WaySearch.{AreFirstWays, IsWayOf};
+ghost use Rattle.dnsv_explain.specs.derivations.WaySearch.{AreFirstWays, HasNewKeys, IsWayOf};
 ghost use Rattle.dnsv_explain.specs.faults.Keys.{IsTrustedZone};
 
 use crate::derivations::ways::FoundWay;
-use crate::derivations::ways::kept::KeptWay;
-use crate::todo::number_among;
+use crate::derivations::ways::kept::{KeptWay, NewKey};
+use crate::todo::{do_rise, number_among};
 use dnsv_canonical::{Capture, Rrset, numbered};
 use dnsv_chain::{Anchor, Anchors, Trust, is_good};
 use dnsv_lines::Todo;
@@ -30,6 +29,8 @@ pub struct Evidence<'a> {
     table: &'a Table<'a>,
     trust: &'a Trust<'a>,
     todo: Option<&'a Entries<'a>>,
+    /// Whether those entries are known to rise, so that one is looked up by halves.
+    rises: bool,
     /// The first way into each RRset by its number, once they are worked out: each is asked for by many lines.
     ways: &'a [KeptWay],
 }
@@ -54,7 +55,7 @@ impl<'a> Model for Evidence<'a> {
       anchors = evidence.anchors.now;
       table = evidence.table.now;
       todo = option_map_or (λ entries. entries.now) evidence.todo [];
-    }) evidence.trust.now evidence.ways.now };
+    }) evidence.trust.now evidence.ways.now evidence.rises };
 }
 
 impl<'a> Evidence<'a> {
@@ -81,6 +82,7 @@ impl<'a> Evidence<'a> {
             table,
             trust,
             todo,
+            rises: do_rise(todo),
             ways: &[],
         }
     }
@@ -96,6 +98,7 @@ impl<'a> Evidence<'a> {
             table: self.table,
             trust: self.trust,
             todo: self.todo,
+            rises: self.rises,
             ways,
         }
     }
@@ -110,15 +113,15 @@ impl<'a> Evidence<'a> {
         Some(kept.way)
     }
 
-    /// Whether it is known of the RRset with the number that an RRset before it is trusted too, has the same owner, and
-    /// has all of its keys.
-    pub(crate) fn is_repeat(&self, number: usize) -> bool
-        ensures { (is : IsTrue result) → IsRepeatAt (setting_in self.now) number }
+    /// The keys that the RRset with the number, if it is a trusted DNSKEY RRset, is the first of its owner to have; `None`
+    /// where the ways aren't worked out.
+    pub(crate) fn new_keys(&self, number: usize) -> Option<&[NewKey]>
+        ensures { MatchOption result (Unit {0}) (λ keys. HasNewKeys (setting_in self.now) number keys.now) }
     {
         let Some(known) = numbered(self.ways, number) else {
-            return false;
+            return None;
         };
-        known.is_repeat
+        Some(known.new_keys.as_slice())
     }
 
     pub(crate) fn capture(&self) -> &'a Capture<'a>
@@ -199,6 +202,6 @@ impl<'a> Evidence<'a> {
         let Some(entries) = self.todo else {
             return Ok(Todo(None));
         };
-        Ok(Todo(number_among(alloc, entries, rrset, rrsig, key)?))
+        Ok(Todo(number_among(alloc, entries, self.rises, rrset, rrsig, key)?))
     }
 }

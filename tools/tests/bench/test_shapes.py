@@ -11,8 +11,8 @@ from shapes import SHAPES, denials, files, keys, signatures
 from wire import key_tag
 
 A, CNAME, TXT, NSEC, NSEC3 = 1, 5, 16, 47, 50
-OF_MESSAGES = ("long-data", "pairs", "exponents", "digests", "alike", "key-sets", "key-sets-aliases", "key-anchors",
-               "expanded-nsec", "expanded-nsec3", "hashes", "question-hashes", "aliases",
+OF_MESSAGES = ("long-data", "pairs", "exponents", "digests", "alike", "key-sets", "key-sets-apart",
+               "key-sets-aliases", "key-anchors", "keys-to-check", "expanded-nsec", "expanded-nsec3", "hashes", "question-hashes", "aliases",
                "alias-hashes")
 
 Record = namedtuple("Record", "owner rtype rdata")

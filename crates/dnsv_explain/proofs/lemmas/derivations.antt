@@ -5,4 +5,5 @@ pub mod HeldLemmas
 pub mod OwnLemmas
 pub mod SignerLemmas
 pub mod SignersAtLemmas
+pub mod ValidLemmas
 pub mod WayLemmas

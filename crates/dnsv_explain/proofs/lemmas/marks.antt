@@ -4,4 +4,5 @@ pub mod HopedLemmas
 pub mod HopedWayLemmas
 pub mod LineLemmas
 pub mod MarkLemmas
+pub mod RisingLemmas
 pub mod TodoLemmas

@@ -5,19 +5,56 @@ use Rattle.dnsv_records.specs.Rrsig.{IsRrsig}
 use Rattle.dnsv_records.specs.declared.rrsig.Rrsig.{Rrsig}
 use Rattle.dnsv_canonical.specs.Canonical.{rdata_cmp}
 use Rattle.dnsv_canonical.specs.Rrsets.{IsNumbered, ReceivedRrset}
-use Rattle.dnsv_verifier.specs.Admissible.{DnskeyRecord, IsGood}
+use Rattle.dnsv_canonical.specs.SignedData.{IsSignedData}
+use Rattle.dnsv_verifier.specs.Admissible.{DnskeyRecord, IsGood, IsVerifiable}
+use Rattle.dnsv_verifier.specs.declared.answer.Answer.{Answer}
+use Rattle.dnsv_verifier.specs.declared.entry.Entry.{Entry}
+use Rattle.dnsv_chain.specs.Signing.{IsValidBy}
 use Rattle.dnsv_chain.specs.Trusted.{IsKeyOf}
 use Rattle.dnsv_explain.specs.Explained.{IsTodo, Setting}
 use Rattle.dnsv_explain.specs.Following.{IsNamed}
+use Rattle.dnsv_explain.specs.derivations.NewKeys.{IsNewKey}
 use Rattle.dnsv_explain.specs.derivations.Ways.{IsSigner}
 use Rattle.dnsv_canonical.specs.declared.number.SignatureNumber.{SignatureNumber}
 use Rattle.dnsv_explain.specs.declared.derivations.signers.Signer.{Signer}
+use Rattle.dnsv_explain.specs.declared.derivations.ways.kept.NewKey.{NewKey}
 
 -- the signature with the number is this one
 pub record IsSignatureAt (rrset : ReceivedRrset) (s : ℕ) (rrsig : Rrsig) : Type 0 where
   pub rdata : List ℕ
   pub is_signature : IsNumbered rrset.signatures s rdata
   pub read : IsRrsig rdata rrsig
+
+-- some key might verify the signature of the RRset at the moment, and what it signs are the octets
+pub record IsSignedOver (moment : ℕ) (rrset : ReceivedRrset) (rrsig : Rrsig) (octets : List ℕ) : Type 0 where
+  pub verifiable : IsVerifiable moment rrset rrsig
+  pub signs : IsSignedData rrset.owner rrset.rtype rrset.rdata rrsig (Some octets)
+
+-- ---- keys by their places
+
+-- the key stands in the RRset, and is this one
+pub record IsKeyAt (set : ReceivedRrset) (new : NewKey) (key : DnskeyRecord) : Type 0 where
+  pub stands : IsKeyOf set key
+  pub is : IsNewKey set key.rdata new
+
+-- it is this one, and the verifier calls the signature over the octets valid under it, or it doesn't
+abbrev pub IsValidKey : (Entry → Answer) → Rrsig → List ℕ → ReceivedRrset → NewKey → Option DnskeyRecord → Type 0
+IsValidKey meaning rrsig octets set new None = (key : DnskeyRecord) → IsKeyAt set new key → ¬ IsValidBy meaning rrsig octets key
+IsValidKey meaning rrsig octets set new (Some found) =
+    IsKeyOf set found × IsValidBy meaning rrsig octets found
+    × ((key : DnskeyRecord) → IsKeyAt set new key → key.rdata ≡ found.rdata)
+
+-- it is the lowest of those under the first n of the keys, or there is none
+abbrev pub IsLowestValid : (Entry → Answer) → Rrsig → List ℕ → ReceivedRrset → List NewKey → ℕ → Option DnskeyRecord → Type 0
+IsLowestValid meaning rrsig octets set keys n None =
+    (i : ℕ) (new : NewKey) (key : DnskeyRecord) → i ≤ n → IsNumbered keys i new → IsKeyAt set new key
+    → ¬ IsValidBy meaning rrsig octets key
+IsLowestValid meaning rrsig octets set keys n (Some lowest) =
+    IsKeyOf set lowest × IsValidBy meaning rrsig octets lowest
+    × ((i : ℕ) (new : NewKey) (key : DnskeyRecord) → i ≤ n → IsNumbered keys i new → IsKeyAt set new key
+    → IsValidBy meaning rrsig octets key → rdata_cmp key.rdata lowest.rdata ≢ Less)
+
+-- ---- keys by their RRsets
 
 -- it is this key of DNSKEY RRset k
 pub record IsOfKey (k : ℕ) (key : DnskeyRecord) (signer : Signer) : Type 0 where

@@ -1,5 +1,5 @@
 -- How the first way is looked for. No public clause cites this module.
-use Rattle.std.specs.Prelude.{◌≡◌, ◌≢◌, ◌<◌, ◌≤◌, ◌+◌, ℕ, List, Contains, IsTrue, MatchOption, Option, get_or, length, map}
+use Rattle.std.specs.Prelude.{◌≡◌, ◌≢◌, ◌<◌, ◌≤◌, ◌+◌, ◌-◌, ℕ, List, Contains, MatchOption, Option, get_or, length, map}
 use Rattle.std.specs.List.{AllByRecursion}
 use Rattle.std.specs.declared.cmp.Ordering.TheVariants.{Less}
 use Rattle.dnsv_names.specs.Name.{Labels, SameName}
@@ -9,18 +9,19 @@ use Rattle.dnsv_canonical.specs.Rrsets.{IsNumbered, ReceivedRrset}
 use Rattle.dnsv_verifier.specs.Admissible.{DnskeyRecord}
 use Rattle.dnsv_chain.specs.Anchor.{IsAnchorMatch}
 use Rattle.dnsv_chain.specs.Ds.{IsMatch}
-use Rattle.dnsv_chain.specs.Trusted.{IsKeyOf}
+use Rattle.dnsv_chain.specs.Trusted.{IsKeyOf, IsTrusted}
 use Rattle.dnsv_chain.specs.declared.anchor.Anchor.{Anchor}
 use Rattle.dnsv_chain.specs.declared.anchor.Anchor.TheVariants as anchor
 use Rattle.dnsv_explain.specs.Explained.{IsTodo, Setting}
 use Rattle.dnsv_explain.specs.Following.{IsGoodUnder, IsNamed}
-use Rattle.dnsv_explain.specs.derivations.Repeats.{IsRepeatAt}
+use Rattle.dnsv_explain.specs.derivations.NewKeys.{AreNewKeys}
 use Rattle.dnsv_explain.specs.derivations.Ways.{HasSecured, IsFirstWay, IsLess, IsWayInto, Way, voucher_rank}
 use Rattle.dnsv_canonical.specs.declared.number.SignatureNumber.{SignatureNumber}
 use Rattle.dnsv_lines.specs.declared.line.derivation.Voucher.{Voucher}
 use Rattle.dnsv_lines.specs.declared.line.derivation.Voucher.TheVariants as voucher
 use Rattle.dnsv_explain.specs.declared.derivations.ways.FoundWay.{FoundWay}
 use Rattle.dnsv_explain.specs.declared.derivations.ways.kept.KeptWay.{KeptWay}
+use Rattle.dnsv_explain.specs.declared.derivations.ways.kept.NewKey.{NewKey}
 use Rattle.dnsv_explain.specs.declared.derivations.ways.keys.GoodSignature.{GoodSignature}
 use Rattle.dnsv_explain.specs.declared.derivations.ways.keys.KeySet.{KeySet}
 use Rattle.dnsv_explain.specs.declared.derivations.ways.keys.SetKey.{SetKey}
@@ -129,10 +130,15 @@ IsNoWay setting k = (way : Way) → ¬ IsWayInto setting k way
 abbrev pub IsWayOf : Setting → ℕ → Option FoundWay → Type 0
 IsWayOf setting k way = MatchOption way (IsNoWay setting k) (IsFoundWay setting k)
 
--- this is kept of RRset k: its first way, and if it is so, that it repeats an earlier one
+-- these are the keys that RRset k, if it is trusted, is the first of its owner to have
+abbrev pub HasNewKeys : Setting → ℕ → List NewKey → Type 0
+HasNewKeys setting k keys = (set : ReceivedRrset) → IsNumbered setting.rrsets k set
+    → IsTrusted setting.meaning setting.moment setting.rrsets setting.anchors set → AreNewKeys setting (k - 1) set keys
+
+-- this is kept of RRset k: its first way, and those keys
 pub record IsKeptWay (setting : Setting) (k : ℕ) (kept : KeptWay) : Type 0 where
   pub way : IsWayOf setting k kept.way
-  pub repeats : IsTrue kept.is_repeat → IsRepeatAt setting k
+  pub keys : HasNewKeys setting k kept.new_keys.items
 
 -- each of these is so for the RRset with its number
 abbrev pub AreFirstWays : Setting → List KeptWay → Type 0

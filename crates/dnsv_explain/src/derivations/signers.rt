@@ -1,13 +1,17 @@
 //! By which trusted key a signature is good.
+
+mod valid;
+
 ghost use Rattle.std.specs.Prelude.{◌≡◌, ◌↔◌, ◌+◌, ◌≤◌, ℕ, length, IfOk, IsTrue, MatchOption};
 ghost use Rattle.dnsv_canonical.specs.Rrsets.{IsNumbered};
 ghost use Rattle.dnsv_chain.specs.Trusted.{IsKeyOf, IsSecured, IsTrusted};
 ghost use Rattle.dnsv_verifier.specs.Admissible.{DnskeyRecord, IsGood};
 ghost use Rattle.dnsv_verifier.specs.Table.{table_answer};
 ghost use Rattle.dnsv_explain.specs.Explained.{Setting, setting_in};
-ghost use Rattle.dnsv_explain.specs.derivations.SignerSearch.{IsFirstTo, IsLowestGoodKey, IsLowestOf, IsSignatureAt};
+ghost use Rattle.dnsv_explain.specs.derivations.SignerSearch.{IsFirstTo, IsLowestGoodKey, IsLowestOf, IsSignatureAt, IsSignedOver};
 ghost use Rattle.dnsv_explain.specs.derivations.Ways.{IsSignedLine};
 
+use crate::derivations::signers::valid::{lowest_valid, signed_octets};
 use crate::derivations::ways::first_way;
 use crate::derivations::ways::keys::key_name;
 use crate::evidence::Evidence;
@@ -68,7 +72,7 @@ pub fn signed_line(
     }))
 }
 
-/// The first key of the signature among the RRsets, which are those of the evidence.
+/// The first key of the signature among the RRsets, which are those of the evidence. What is signed is made once.
 fn first_signer<'a>(
     alloc: Global,
     evidence: &Evidence<'_>,
@@ -82,6 +86,9 @@ fn first_signer<'a>(
     requires rrsig { IsSignatureAt rrset.now number.signature rrsig.now }
     ensures { IfOk result (IsFirstTo (setting_in evidence.now) number (length rrsets.now)) }
 {
+    let Some(octets) = signed_octets(alloc, evidence, rrset, rrsig)? else {
+        return Ok(None);
+    };
     let signer = rrsig.signer.to_name();
     let capture = evidence.capture();
     let mut first = None;
@@ -89,7 +96,7 @@ fn first_signer<'a>(
         let Some(set) = numbered(rrsets, *k) else {
             continue;
         };
-        let found = lowest_in(alloc, evidence, number, rrset, rrsig, *k, set)?;
+        let found = lowest_in(alloc, evidence, number, rrset, rrsig, &octets, *k, set)?;
         first = earlier(first, found);
     }
     Ok(first)
@@ -113,14 +120,15 @@ fn earlier<'a>(first: Option<Signer<'a>>, found: Option<Signer<'a>>) -> Option<S
     }
 }
 
-/// The lowest key of the signature in the DNSKEY RRset of its signer, which has the number `k`. Of one that repeats the
-/// keys of an earlier one there is none to be told.
+/// The lowest key of the signature over the octets in the DNSKEY RRset of its signer, which has the number `k`. A key that
+/// an earlier one has needn't be told.
 fn lowest_in<'a>(
     alloc: Global,
     evidence: &Evidence<'_>,
     number: SignatureNumber,
     rrset: &Rrset<'_>,
     rrsig: &Rrsig<'_>,
+    octets: &[u8],
     k: usize,
     set: &'a Rrset<'a>,
 ) -> Result<Option<Signer<'a>>, AllocError>
@@ -128,15 +136,25 @@ fn lowest_in<'a>(
     requires rtype { set.now.rtype ≡ 48 }
     requires rrset { IsNumbered evidence.now.rrsets number.rrset rrset.now }
     requires rrsig { IsSignatureAt rrset.now number.signature rrsig.now }
+    requires octets { IsSignedOver evidence.now.table.moment rrset.now rrsig.now octets.now }
     ensures { IfOk result (IsLowestOf (setting_in evidence.now) number k) }
 {
-    if evidence.is_repeat(k) {
-        return Ok(None);
-    }
     if !is_trusted(alloc, evidence, k, set)? {
         return Ok(None);
     }
-    Ok(lowest_good_key(alloc, evidence, rrset, rrsig, k, set)?)
+    let Some(keys) = evidence.new_keys(k) else {
+        return Ok(lowest_good_key(alloc, evidence, rrset, rrsig, k, set)?);
+    };
+    let Some(key) = lowest_valid(evidence.table(), rrsig, octets, set, keys) else {
+        return Ok(None);
+    };
+    let todo = evidence.todo_of(alloc, rrset, rrsig, &key)?;
+    Ok(Some(Signer {
+        set: k,
+        rdata: key.rdata(),
+        key: key_name(&key),
+        todo,
+    }))
 }
 
 /// The lowest key of the DNSKEY RRset, which has the number `k`, under which the signature of the RRset is good.

@@ -1,5 +1,5 @@
 -- The first trusted key under which a signature is good.
-use Rattle.std.proofs.Common.{◌≡◌, ◌≢◌, ◌<◌, ◌≤◌, ◌+◌, ◌-◌, ◌⊎◌, inl, ℕ, List, Option, Some, None, length, refl, sym, ap, ◌∙◌, subst, ⊎_elim, arith}
+use Rattle.std.proofs.Common.{◌≡◌, ◌≢◌, ◌<◌, ◌≤◌, ◌+◌, ◌-◌, ◌⊎◌, inl, inr, ℕ, List, Option, Some, None, length, refl, sym, ap, ◌∙◌, subst, ⊎_elim, arith}
 use Rattle.std.proofs.lemmas.Bool.{cases_lt}
 use Rattle.std.proofs.lemmas.Cmp.{nat_list_cmp_total, tied_itself}
 use Rattle.std.proofs.lemmas.Option.{slice_get_within}
@@ -13,9 +13,9 @@ use Rattle.dnsv_canonical.specs.Canonical.{rdata_cmp}
 use Rattle.dnsv_canonical.specs.Rrsets.{IsNumbered, ReceivedRrset}
 use Rattle.dnsv_verifier.specs.Admissible.{DnskeyRecord, IsGood}
 use Rattle.dnsv_chain.specs.Trusted.{IsKeyOf, IsSecured, IsTrusted}
-use Rattle.dnsv_explain.specs.Explained.{Setting}
+use Rattle.dnsv_explain.specs.Explained.{IsTodo, Setting}
 use Rattle.dnsv_explain.specs.Following.{IsGoodUnder}
-use Rattle.dnsv_explain.specs.derivations.SignerSearch.{IsFirstAmong, IsFirstTo, IsKnownSigner, IsLowestGoodKey, IsLowestIn, IsLowestOf, IsSignatureAt}
+use Rattle.dnsv_explain.specs.derivations.SignerSearch.{IsFirstAmong, IsFirstTo, IsKnownSigner, IsLowestGoodKey, IsLowestIn, IsLowestOf, IsOfKey, IsSignatureAt}
 use Rattle.dnsv_explain.specs.derivations.Ways.{IsFirstSigner, IsSignedLine, IsSigner}
 use Rattle.dnsv_canonical.specs.declared.number.SignatureNumber.{SignatureNumber}
 use Rattle.dnsv_explain.specs.declared.derivations.signers.Signer.{Signer}
@@ -24,7 +24,7 @@ use Rattle.dnsv_names.specs.Name.{Labels, SameName}
 use Rattle.dnsv_names.specs.declared.number.RecordType.{RecordType}
 use Rattle.dnsv_chain.proofs.WalkLemmas.{same_rdata_good}
 use Rattle.dnsv_verdict.proofs.SearchLemmas.NumberLemmas.{IsOneAt}
-use Rattle.dnsv_explain.specs.derivations.Repeats.{IsRepeat}
+use Rattle.dnsv_explain.specs.derivations.NewKeys.{IsHadAbove}
 use Rattle.dnsv_explain.proofs.lemmas.NumberedLemmas.{same_number}
 use Rattle.dnsv_explain.proofs.lemmas.intervals.ShownLemmas.{rdata_at, read_at}
 use Rattle.dnsv_explain.proofs.lemmas.derivations.WayLemmas.TrustedLemmas.{number_of, trusted_among}
@@ -39,13 +39,13 @@ not_less_chain a b c first second less =
       | Greater ↦ λ is. first (nat_list_cmp_total.antisymm a b ∙ ap ordering_reverse is)
     ] refl
 
-itself_not_less : (a b : List ℕ) → a ≡ b → rdata_cmp a b ≢ Less
+pub itself_not_less : (a b : List ℕ) → a ≡ b → rdata_cmp a b ≢ Less
 itself_not_less a b same less =
     let To : List ℕ → Type 0 = λ each. rdata_cmp a each ≡ Less in
     let turned : rdata_cmp a a ≡ Less = subst To (sym same) less in
     let tied : rdata_cmp a a ≡ Equal = tied_itself nat_list_cmp_total a in cc
 
-as_known : (a b c : List ℕ) → a ≡ b → rdata_cmp a c ≢ Less → rdata_cmp b c ≢ Less
+pub as_known : (a b c : List ℕ) → a ≡ b → rdata_cmp a c ≢ Less → rdata_cmp b c ≢ Less
 as_known a b c same never = let Above : List ℕ → Type 0 = λ each. rdata_cmp each c ≢ Less in subst Above same never
 
 module _ (setting : Setting) (number : SignatureNumber) (n : ℕ) where
@@ -177,7 +177,7 @@ module _ (setting : Setting) (number : SignatureNumber) (rrset : ReceivedRrset) 
     good = good;
   }
 
-  under_good : (other : ReceivedRrset) (key : DnskeyRecord) → IsGoodUnder setting number other key → Good key
+  pub under_good : (other : ReceivedRrset) (key : DnskeyRecord) → IsGoodUnder setting number other key → Good key
   under_good other key good =
       let same : other ≡ rrset = same_number setting.rrsets number.rrset other rrset good.is_rrset is_rrset in
       let Numbered : ReceivedRrset → Type 0 = λ each. IsNumbered each.signatures number.signature good.rdata in
@@ -238,18 +238,18 @@ module _ (setting : Setting) (number : SignatureNumber) (rrset : ReceivedRrset) 
         same_type = stands.rtype;
       }
 
-  -- a key of an RRset that repeats an earlier one is known
-  pub repeated : IsRepeat setting (k - 1) set → (key : DnskeyRecord) → IsSigner setting number k key → IsKnownSigner setting number k key
-  repeated repeat key is =
+  -- a key that an earlier RRset of the owner has is known
+  pub known : (key : DnskeyRecord) → IsSigner setting number k key → IsHadAbove setting (k - 1) set.owner key.rdata
+      → IsKnownSigner setting number k key
+  known key is above =
       let stands = its_key key is in
       let good = under_good is.rrset key is.good in
-      let above = repeat.above in
-      let within = above.is.within in
+      let within = above.by.is.within in
       let from_one = is_set.0 in
       let Of : Labels → Type 0 = λ owner. SameName owner rrsig.signer in
-      let other : DnskeyRecord = record { owner = above.is.set.owner; rdata = key.rdata; dnskey = key.dnskey } in
+      let other : DnskeyRecord = record { owner = above.by.is.set.owner; rdata = key.rdata; dnskey = key.dnskey } in
       record {
-        set = repeat.number;
+        set = above.number;
         other = other;
         earlier = omega (arith, within, from_one);
         is = record {
@@ -257,18 +257,46 @@ module _ (setting : Setting) (number : SignatureNumber) (rrset : ReceivedRrset) 
           good = good_under other
               (same_rdata_good setting.meaning setting.moment rrset rrsig key other stands.is stands.is refl
               (above.same_owner ∙ subst Of stands.owner good.admissible.zone_key.owner) good);
-          set = above.is.set;
-          is_set = above.is.is_set;
+          set = above.by.is.set;
+          is_set = above.by.is.is_set;
           stands = record {
-            rtype = above.is.rtype;
+            rtype = above.by.is.rtype;
             owner = refl;
-            among = repeat.has key.rdata stands.among;
+            among = above.by.has;
             is = stands.is;
           };
-          trusted = above.is.trusted;
+          trusted = above.by.is.trusted;
         };
         rdata = refl;
       }
+
+  -- the lowest of the keys that no earlier one has, or there is none
+  pub lowest_new : (signer : Signer) (key : DnskeyRecord) → IsTrusted setting.meaning setting.moment setting.rrsets setting.anchors set
+      → IsKeyOf set key → (good : Good key) → IsOfKey k key signer → IsTodo setting.todo good.entry signer.todo.0
+      → ((other : DnskeyRecord) → IsKeyOf set other → Good other
+      → (rdata_cmp other.rdata key.rdata ≢ Less) ⊎ IsHadAbove setting (k - 1) set.owner other.rdata)
+      → IsLowestOf setting number k (Some signer)
+  lowest_new signer key trusted stands good of todo lowest = record {
+    key = key;
+    of = of;
+    is = record {
+      rrset = rrset;
+      good = good_under key good;
+      set = set;
+      is_set = is_set;
+      stands = stands;
+      trusted = trusted;
+    };
+    todo = todo;
+    lowest = λ other is. ⊎_elim
+        (λ (never : rdata_cmp other.rdata key.rdata ≢ Less). inl never)
+        (λ (above : IsHadAbove setting (k - 1) set.owner other.rdata). inr (known other is above))
+        (lowest other (its_key other is) (under_good is.rrset other is.good));
+  }
+
+  pub none_new : ((other : DnskeyRecord) → IsKeyOf set other → Good other → IsHadAbove setting (k - 1) set.owner other.rdata)
+      → IsLowestOf setting number k None
+  none_new had = λ other is. known other is (had other (its_key other is) (under_good is.rrset other is.good))
 
 -- ---- all RRsets
 

@@ -3,9 +3,9 @@ pub mod DelegationLemmas
 pub mod FirstLemmas
 pub mod KeptLemmas
 pub mod KeysLemmas
+pub mod NewKeyLemmas
 pub mod RankLemmas
 pub mod ReadLemmas
-pub mod RepeatLemmas
 pub mod SearchLemmas
 pub mod SetLemmas
 pub mod TrustedLemmas

@@ -8,4 +8,5 @@ invariant_of-result c =
     let Are : Explained → Type 0 = λ all. AreFirstWays (setting_in all) c.args.ways.now in record {
       trust = c.self.invariant.trust;
       ways = subst Are (sym c.self.view_is) c.requires;
+      rising = c.self.invariant.rising;
     }

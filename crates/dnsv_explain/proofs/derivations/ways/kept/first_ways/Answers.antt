@@ -18,27 +18,27 @@ way_into-requires c =
     numbered_at c.args.evidence.now.rrsets c.rrsets-rrset-items.result.now c.loop-place.place c.rrset-item.result
     c.rrsets-rrset-items.ensures c.loop-place-test.true c.rrset-item.is
 
-pub kept_with-kept-requires-clause-numbered : goal.kept_with-kept-requires-clause-numbered
-kept_with-kept-requires-clause-numbered c =
+pub kept_with-requires-clause-numbered : goal.kept_with-requires-clause-numbered
+kept_with-requires-clause-numbered c =
     let At : ℕ → Type 0 = λ n. IsNumbered c.args.evidence.now.rrsets (n + 1) c.rrset-item.result in
     subst At (sym (ap length c.as_slice.ensures.value ∙ c.loop-place.invariant.0))
     (numbered_at c.args.evidence.now.rrsets c.rrsets-rrset-items.result.now c.loop-place.place c.rrset-item.result
     c.rrsets-rrset-items.ensures c.loop-place-test.true c.rrset-item.is)
 
-pub kept_with-kept-requires-clause-before : goal.kept_with-kept-requires-clause-before
-kept_with-kept-requires-clause-before c =
+pub kept_with-requires-clause-before : goal.kept_with-requires-clause-before
+kept_with-requires-clause-before c =
     let Are : List KeptWay → Type 0 = λ ways. AreFirstWays (setting_in c.args.evidence.now) ways in
     subst Are (sym c.as_slice.ensures.value) c.loop-place.invariant.1
 
-pub kept_with-kept-requires-clause-way : goal.kept_with-kept-requires-clause-way
-kept_with-kept-requires-clause-way c =
+pub kept_with-requires-clause-way : goal.kept_with-requires-clause-way
+kept_with-requires-clause-way c =
     let Of : ℕ → Type 0 = λ n. IsWayOf (setting_in c.args.evidence.now) (n + 1) c.in_ok-way.way in
     subst Of (sym (ap length c.as_slice.ensures.value ∙ c.loop-place.invariant.0)) c.in_ok-way.ensures
 
 pub loop-place-preserved : goal.loop-place-preserved
 loop-place-preserved c =
     let ways = c.loop-place.ways.items in
-    let kept = c.kept_with-kept.result in
+    let kept = c.in_ok-kept.kept in
     let long = length-append ways (kept ∷ []) in
     let size = c.loop-place.invariant.0 in
     let Behind : List KeptWay → Type 0 = λ all. IsKeptWay (setting_in c.args.evidence.now) (length all + 1) kept in
@@ -47,5 +47,5 @@ loop-place-preserved c =
     subst Are (sym c.in_ok-push.ensures.items) (
       omega (arith, long, size),
       one_more_kept (setting_in c.args.evidence.now) ways kept c.loop-place.invariant.1
-          (subst Behind c.as_slice.ensures.value c.kept_with-kept.ensures),
+          (subst Behind c.as_slice.ensures.value c.in_ok-kept.ensures),
     )

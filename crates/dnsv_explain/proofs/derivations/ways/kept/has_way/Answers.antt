@@ -1,6 +1,6 @@
 use Rattle.std.proofs.Common.{◌∙◌, sym}
 use Rattle.std.proofs.lemmas.Bool.{false≢true}
-use Rattle.dnsv_explain.proofs.lemmas.derivations.WayLemmas.RepeatLemmas.{known_key_set}
+use Rattle.dnsv_explain.proofs.lemmas.derivations.WayLemmas.NewKeyLemmas.{known_key_set}
 use Rattle.dnsv_explain.proofs.derivations.ways.kept.has_way.Goals as goal
 
 pub returns-in_default : goal.returns-in_default
