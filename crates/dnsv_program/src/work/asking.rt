@@ -102,7 +102,7 @@ fn answer_all<W: Write>(
         (listed_answer given.now.statements)) (take count questions.now) end text
         × Appends (W.contents (inner_of output.old)) (W.contents (inner_of output.new)) text) }
 {
-    let judge = Judging::new(
+    let mut judge = Judging::new(
         alloc,
         bump,
         telling.why,
@@ -113,7 +113,7 @@ fn answer_all<W: Write>(
     )?;
     tell_each(
         alloc,
-        &judge,
+        &mut judge,
         telling,
         moment,
         given.held.rrsets(),
@@ -125,7 +125,7 @@ fn answer_all<W: Write>(
 /// What is told of each question is written, one behind the other.
 fn tell_each<W: Write>(
     alloc: Global,
-    judge: &Judging<'_>,
+    judge: &mut Judging<'_>,
     telling: Telling,
     moment: Moment,
     rrsets: &[Rrset<'_>],
@@ -133,18 +133,18 @@ fn tell_each<W: Write>(
     output: &mut Counted<W>,
 ) -> Result<Status, Fault>
     requires why { tells_why judge.now ≡ telling.why }
-    ensures done { (basis : Basis) → IsCaseOf basis (case_of judge.now) → rrsets.now ≡ basis.rrsets
+    ensures done { (basis : Basis) → IsCaseOf basis (case_of judge.old) → rrsets.now ≡ basis.rrsets
         → basis.moment ≡ moment → IfOk result (λ end. (text : List ℕ)
         × AreAnswers telling.format telling.why basis questions.now end text
         × Appends (W.contents (inner_of output.old)) (W.contents (inner_of output.new)) text) }
     ensures only { IfErr result (λ fault. (fault ≡ Fault.OutOfMemory) ⊎ (fault ≡ Fault.WriteFailed)) }
     ensures write { result ≡ Err Fault.WriteFailed
         → failures_of output.old < u64.MAX → failures_of output.old < failures_of output.new }
-    ensures begun { (basis : Basis) → IsCaseOf basis (case_of judge.now) → rrsets.now ≡ basis.rrsets
+    ensures begun { (basis : Basis) → IsCaseOf basis (case_of judge.old) → rrsets.now ≡ basis.rrsets
         → basis.moment ≡ moment → result ≡ Err Fault.WriteFailed → (count : ℕ) × (end : Status) × (text : List ℕ)
         × AreAnswers telling.format telling.why basis (take count questions.now) end text
         × AppendsBeginning (W.contents (inner_of output.old)) (W.contents (inner_of output.new)) text }
-    ensures whole { (basis : Basis) → IsCaseOf basis (case_of judge.now) → rrsets.now ≡ basis.rrsets
+    ensures whole { (basis : Basis) → IsCaseOf basis (case_of judge.old) → rrsets.now ≡ basis.rrsets
         → basis.moment ≡ moment → result ≡ Err Fault.OutOfMemory → (count : ℕ) × (end : Status) × (text : List ℕ)
         × AreAnswers telling.format telling.why basis (take count questions.now) end text
         × Appends (W.contents (inner_of output.old)) (W.contents (inner_of output.new)) text }
@@ -160,7 +160,7 @@ fn tell_each<W: Write>(
 /// What is told of the question is written.
 fn tell_one<W: Write>(
     alloc: Global,
-    judge: &Judging<'_>,
+    judge: &mut Judging<'_>,
     telling: Telling,
     moment: Moment,
     rrsets: &[Rrset<'_>],
@@ -168,7 +168,7 @@ fn tell_one<W: Write>(
     output: &mut Counted<W>,
 ) -> Result<Status, Fault>
     requires why { tells_why judge.now ≡ telling.why }
-    ensures done { (basis : Basis) → IsCaseOf basis (case_of judge.now) → rrsets.now ≡ basis.rrsets
+    ensures done { (basis : Basis) → IsCaseOf basis (case_of judge.old) → rrsets.now ≡ basis.rrsets
         → basis.moment ≡ moment → IfOk result (λ end. (text : List ℕ)
         × IsAnswer telling.format telling.why basis question.now end text
         × Appends (W.contents (inner_of output.old)) (W.contents (inner_of output.new)) text) }
@@ -176,11 +176,12 @@ fn tell_one<W: Write>(
     ensures calm { IfOk result (λ _. failures_of output.new ≡ failures_of output.old) }
     ensures write { result ≡ Err Fault.WriteFailed
         → failures_of output.old < u64.MAX → failures_of output.old < failures_of output.new }
-    ensures begun { (basis : Basis) → IsCaseOf basis (case_of judge.now) → rrsets.now ≡ basis.rrsets
+    ensures begun { (basis : Basis) → IsCaseOf basis (case_of judge.old) → rrsets.now ≡ basis.rrsets
         → basis.moment ≡ moment → result ≡ Err Fault.WriteFailed → (end : Status) × (text : List ℕ)
         × IsAnswer telling.format telling.why basis question.now end text
         × AppendsBeginning (W.contents (inner_of output.old)) (W.contents (inner_of output.new)) text }
     ensures untouched { result ≡ Err Fault.OutOfMemory → output.new ≡ output.old }
+    ensures same { judge.new ≡ judge.old }
 {
     let outcome = answer(alloc, judge, telling, moment, rrsets, question)?;
     match output.write_all(outcome.text.as_bytes()) {
@@ -192,16 +193,17 @@ fn tell_one<W: Write>(
 /// The verdict on the question, and why it stands, where that is asked for; or how it is refused.
 fn answer(
     alloc: Global,
-    judge: &Judging<'_>,
+    judge: &mut Judging<'_>,
     telling: Telling,
     moment: Moment,
     rrsets: &[Rrset<'_>],
     question: &StoredQuestion,
 ) -> Result<Outcome, AllocError>
     requires why { tells_why judge.now ≡ telling.why }
-    ensures { (basis : Basis) → IsCaseOf basis (case_of judge.now) → rrsets.now ≡ basis.rrsets
+    ensures answer { (basis : Basis) → IsCaseOf basis (case_of judge.old) → rrsets.now ≡ basis.rrsets
         → basis.moment ≡ moment → IfOk result (λ outcome. IsAnswer telling.format telling.why basis question.now
         outcome.status (string_bytes outcome.text)) }
+    ensures same { judge.new ≡ judge.old }
 {
     let name = question.name();
     let asked = Asked {

@@ -26,7 +26,7 @@ use dnsv_explain::{Explainer, Explanation};
 use dnsv_lines::Line;
 use dnsv_names::{Name, RecordType};
 use dnsv_texts::{Format, Heading, check_text};
-use dnsv_verdict::{Case, Report, Verdict, VerdictError};
+use dnsv_verdict::{Case, OpenCase, Report, Verdict, VerdictError};
 use dnsv_verifier::Verifier;
 use std::alloc::{AllocError, Global};
 
@@ -47,11 +47,11 @@ pub struct Asked<'a> {
     pub moment: Moment,
 }
 
-/// A case that questions are judged by, and where it is asked why verdicts stand, with what explanations share.
+/// A case that questions are judged by, and where it is asked why verdicts stand, explained by: with what these share.
 #[derive(Drop)]
 pub enum Judging<'a> {
     /// Of verdicts alone.
-    Plain(Case<'a>),
+    Plain(OpenCase<'a>),
     /// Of verdicts, and of why they stand.
     Telling(Explainer<'a>),
 }
@@ -77,24 +77,25 @@ impl<'a> Judging<'a> {
             return Ok(Judging::Telling(explainer));
         }
         let case = Case::new(alloc, bump, held, anchors, seconds, verifier)?;
-        Ok(Judging::Plain(case))
+        Ok(Judging::Plain(OpenCase::of(alloc, case)))
     }
 
-    /// The report on the question, and where that is asked for, why its verdict stands.
+    /// The report on the question, and where that is asked for, why its verdict stands. The case stays.
     pub fn report(
-        &self,
+        &mut self,
         alloc: Global,
         name: &Name,
         rtype: RecordType,
     ) -> Result<(Report<'a>, Option<Explanation>), VerdictError>
-        ensures verdict { (basis : Basis) → IsCaseOf basis (case_of self.now) → IfOk result (λ told.
+        ensures verdict { (basis : Basis) → IsCaseOf basis (case_of self.old) → IfOk result (λ told.
             IsVerdictOf basis name.now rtype.0 told.0.links told.0.last told.0.verdict) }
-        ensures why { (basis : Basis) → IsCaseOf basis (case_of self.now) → IfOk result (λ told.
-            IsWhy (tells_why self.now) basis rtype.0 told.0 told.1) }
-        ensures question { (basis : Basis) → IsCaseOf basis (case_of self.now)
+        ensures why { (basis : Basis) → IsCaseOf basis (case_of self.old) → IfOk result (λ told.
+            IsWhy (tells_why self.old) basis rtype.0 told.0 told.1) }
+        ensures question { (basis : Basis) → IsCaseOf basis (case_of self.old)
             → IfOk result (λ _. IsQuestion name.now rtype.0) }
-        ensures refused { (basis : Basis) → IsCaseOf basis (case_of self.now) → IfErr result (λ error.
+        ensures refused { (basis : Basis) → IsCaseOf basis (case_of self.old) → IfErr result (λ error.
             (error ≡ OutOfMemory) ⊎ IsRefusal basis name.now rtype.0 error) }
+        ensures same { self.new ≡ self.old }
     {
         match self {
             Judging::Plain(case) => {
@@ -130,7 +131,7 @@ pub fn judge<V: Verifier>(
         × IsRefusedFor (basis_of held.now.rrsets anchors.now asked.now.moment (V.meaning verifier.now))
         asked.now.name.now asked.now.rtype.0 error × (told ≡ specs.verdict_fault error))) }
 {
-    let judge = Judging::new(
+    let mut judge = Judging::new(
         alloc,
         bump,
         telling.why,
