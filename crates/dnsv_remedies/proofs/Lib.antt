@@ -1,5 +1,6 @@
 pub mod Cases
 pub mod Leads
+pub mod Least
 pub mod Lists
 pub mod Once
 pub mod OneSignature

@@ -15,6 +15,7 @@ use Rattle.dnsv_mending.specs.Zone.{is_zone_trusted, levels_of}
 use Rattle.dnsv_mending.specs.declared.facts.signature.SignatureFacts.{SignatureFacts}
 use Rattle.dnsv_mending.specs.declared.facts.zone.ZoneFacts.{ZoneFacts}
 use Rattle.dnsv_mending.specs.declared.price.Class.TheVariants as class
+use Rattle.dnsv_mending.specs.declared.told.Told.TheVariants as told
 use Rattle.dnsv_mending.proofs.AllWays.{all_append, all_flat, all_if, mapped_some, none_some}
 use Rattle.dnsv_mending.proofs.Cheapest.{none_second}
 use Rattle.dnsv_mending.proofs.DearLines.{IsTold, one_dear}
@@ -106,10 +107,10 @@ module _ (zones : List ZoneFacts) (closed : IsClosed zones) (q : QuestionFacts) 
 
   -- without signatures
   stripped_case : (g : GoalFacts) (a : Mended) (t : Bool) → (t ≡ true → is_below_dname q ≡ true)
-      → TellsOf q (following (whole a) (if t then untold class.Missing else fault class.Missing (said.Stripped g.number)))
+      → TellsOf q (following (whole a) (if t then untold class.Missing else fault class.Missing (said.Trust (told.Unsigned g.number))))
   stripped_case g a true below = record { reason = inr (below refl); costs = λ h. one_dear class.Missing (none_second a.price (price.one class.Missing) h) }
-  stripped_case g a false below = told_of q (following (whole a) (fault class.Missing (said.Stripped g.number)))
-      (below_tells (whole a) (fault class.Missing (said.Stripped g.number)) (fault_tells class.Missing (said.Stripped g.number) refl))
+  stripped_case g a false below = told_of q (following (whole a) (fault class.Missing (said.Trust (told.Unsigned g.number))))
+      (below_tells (whole a) (fault class.Missing (said.Trust (told.Unsigned g.number))) (fault_tells class.Missing (said.Trust (told.Unsigned g.number)) refl))
 
   goal_all : (g : GoalFacts) (above : Option Mended) → IsAmong g q.goals.items → AllByRecursion Good (goal_ways levels above (is_below_dname q) g)
   unfolding goal_ways

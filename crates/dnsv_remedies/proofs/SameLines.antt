@@ -120,7 +120,6 @@ told_itself (told.Follows a) = signature_itself a
 
 pub itself : (a : Said) → is_same a a ≡ true
 itself (said.Trust a) = told_itself a
-itself (said.Stripped a) = number_itself a
 itself (said.NoCloser a n) = both_true (is_same_signature a a) (nat_eq n n) (signature_itself a) (number_itself n)
 itself (said.Dname n a) = both_true (nat_eq n n) (nat_eq a a) (number_itself n) (number_itself a)
 itself (said.DnameHeld n a) = both_true (nat_eq n n) (is_same_record a a) (number_itself n) (record_itself a)
@@ -249,7 +248,6 @@ same_told _ _ h = absurd (false≢true h)
 
 pub same : (a b : Said) → is_same a b ≡ true → a ≡ b
 same (said.Trust a) (said.Trust b) h = ap said.Trust (same_told a b h)
-same (said.Stripped a) (said.Stripped b) h = ap said.Stripped (eqb-true a b h)
 same (said.NoCloser a n) (said.NoCloser b m) h =
     let parts = both_parts (is_same_signature a b) (nat_eq n m) h in
     λ i. said.NoCloser (same_signature a b parts.0 i) (eqb-true n m parts.1 i)

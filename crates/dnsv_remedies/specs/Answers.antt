@@ -5,6 +5,7 @@ use Rattle.dnsv_mending.specs.Mend.{Mended, cheapest, is_none}
 use Rattle.dnsv_mending.specs.Rrset.{signature_ways}
 use Rattle.dnsv_mending.specs.declared.facts.signature.SignatureFacts.{SignatureFacts}
 use Rattle.dnsv_mending.specs.declared.price.Class.TheVariants as class
+use Rattle.dnsv_mending.specs.declared.told.Told.TheVariants as told
 use Rattle.dnsv_remedies.specs.Parts.{part}
 use Rattle.dnsv_remedies.specs.Remedy.{Remedied, after, beside, ended, fault, nothing, untold, unusable_lines}
 use Rattle.dnsv_remedies.specs.declared.facts.answer.AnswerSignature.{AnswerSignature}
@@ -23,9 +24,9 @@ closer_remedy levels s (Some c) =
 unfoldable pub answer_ways : List Leveled → Option Mended → AnswerSignature → List Remedied
 answer_ways levels above s = beside (cheapest (signature_ways levels above s.signature)) (closer_remedy levels s.signature s.closer)
 
--- Without signatures. Of a CNAME RRset that a DNAME RRset stands for nothing is told: none is expected to be there (RFC 6672 5.3.1).
+-- Without signatures: that costs as what is missing altogether. Of a CNAME RRset that a DNAME RRset stands for nothing is told: none is expected to be there (RFC 6672 5.3.1).
 abbrev pub stripped : Bool → GoalFacts → Remedied
-stripped is_dname g = if is_dname && g.is_cname then untold class.Missing else fault class.Missing (said.Stripped g.number)
+stripped is_dname g = if is_dname && g.is_cname then untold class.Missing else fault class.Missing (said.Trust (told.Unsigned g.number))
 
 -- by an RRset; above is the zone above the name
 unfoldable pub goal_ways : List Leveled → Option Mended → Bool → GoalFacts → List Remedied

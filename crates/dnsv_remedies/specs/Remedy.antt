@@ -1,7 +1,7 @@
 -- What has to be mended so that a question is answered, denied or shown to be unsigned, and which of some ways is the cheapest.
 -- Prices, and what has to be mended of zones and RRsets, are those of `dnsv_mending`.
 use Rattle.std.specs.Prelude.{◌≡◌, List, [], ◌∷◌, ◌++◌, ◌||◌, Option, Some, None, Bool, true, false, if◌then◌else◌, map}
-use Rattle.std.specs.List.{list_any}
+use Rattle.std.specs.List.{AllByRecursion, list_any}
 use Rattle.std.specs.Option.{option_map}
 use Rattle.dnsv_mending.specs.Mend.{Mended}
 use Rattle.dnsv_mending.specs.Price as price
@@ -101,9 +101,17 @@ abbrev pub least_from : Option Remedied → List Remedied → Option Remedied
 least_from best [] = best
 least_from best (m ∷ ms) = least_from (Some (better best m)) ms
 
--- the first of the least price; of none there is none
+-- the first of the least price, by `IsFirstOfLeast`; of none there is none
 abbrev pub least : List Remedied → Option Remedied
 least ms = least_from None ms
+
+-- those in front of it are dearer, and none behind it is cheaper
+pub record IsFirstOfLeast (m : Remedied) (ms : List Remedied) : Type 0 where
+  pub front : List Remedied
+  pub behind : List Remedied
+  pub stands : ms ≡ front ++ m ∷ behind
+  pub dearer : AllByRecursion (λ other. is_cheaper m.price other.price ≡ true) front
+  pub least : AllByRecursion (λ other. is_cheaper other.price m.price ≡ false) behind
 
 -- of none, all is missing
 abbrev pub or_gap : Option Remedied → Remedied

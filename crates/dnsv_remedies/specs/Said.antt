@@ -6,7 +6,6 @@ use Rattle.dnsv_remedies.specs.declared.said.Said.TheVariants as said
 
 abbrev pub is_reason : Said → Bool
 is_reason (said.Trust told) = trust.is_reason told
-is_reason (said.Stripped rrset) = true
 is_reason (said.NoCloser signature name) = true
 is_reason (said.Dname name rrset) = true
 is_reason (said.DnameHeld name n) = true

@@ -120,7 +120,6 @@ is_same_told _ _ = false
 
 abbrev pub is_same : Said → Said → Bool
 is_same (said.Trust a) (said.Trust b) = is_same_told a b
-is_same (said.Stripped a) (said.Stripped b) = nat_eq a b
 is_same (said.NoCloser a n) (said.NoCloser b m) = is_same_signature a b && nat_eq n m
 is_same (said.Dname n a) (said.Dname m b) = nat_eq n m && nat_eq a b
 is_same (said.DnameHeld n a) (said.DnameHeld m b) = nat_eq n m && is_same_record a b

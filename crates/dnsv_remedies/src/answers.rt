@@ -12,7 +12,7 @@ use crate::remedy::{
     Remedy, end_with, fault, is_none, nothing, offer_after, offer_beside, untold, unusable_lines,
 };
 use crate::said::Said;
-use dnsv_mending::{Class, Level, Mend, SignatureFacts, offer_signature};
+use dnsv_mending::{Class, Level, Mend, SignatureFacts, Told, offer_signature};
 use std::alloc::{AllocError, Global};
 
 /// Offers the ways by each of the RRsets. `above` is the zone above the name that is asked for, and `is_below_dname` tells
@@ -55,14 +55,15 @@ fn offer_goal(
     offer_signatures(alloc, levels, above, &goal.signatures, best)
 }
 
-/// What has to be mended where it has no signatures.
+/// What has to be mended where it has no signatures, which costs as what is missing altogether.
 fn stripped(alloc: Global, is_below_dname: bool, goal: &GoalFacts) -> Result<Remedy, AllocError>
     ensures { IfOk result (λ m. seen m ≡ stripped is_below_dname goal.now) }
 {
     if is_below_dname && goal.is_cname {
         Ok(untold(alloc, Class::Missing))
     } else {
-        fault(alloc, Class::Missing, Said::Stripped(goal.number))
+        let line = Said::Trust(Told::Unsigned(goal.number));
+        fault(alloc, Class::Missing, line)
     }
 }
 

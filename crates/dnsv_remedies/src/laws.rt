@@ -1,5 +1,5 @@
 //! Laws of what has to be mended for a question, and of what is told of it.
-ghost use Rattle.std.specs.Prelude.{◌≡◌, List, [], ◌∷◌, Option, Some, true, false};
+ghost use Rattle.std.specs.Prelude.{◌≡◌, List, [], ◌∷◌, Option, Some, None, true, false};
 ghost use Rattle.std.specs.List.{AllByRecursion, list_any};
 ghost use Rattle.std.specs.declared.alloc.Global.{Global};
 ghost use Rattle.dnsv_lines.specs.declared.line.denial.Role.TheVariants as role;
@@ -8,6 +8,7 @@ ghost use Rattle.dnsv_lines.specs.declared.line.fault.signature.WhySignature.The
 ghost use Rattle.dnsv_lines.specs.declared.line.fault.zone.WhyZone.TheVariants as zone;
 ghost use Rattle.dnsv_mending.specs.Examples.{expired, record_at, signature_at, standby, times};
 ghost use Rattle.dnsv_mending.specs.InPlace.{IsInPlace};
+ghost use Rattle.dnsv_mending.specs.Level.{Leveled};
 ghost use Rattle.dnsv_mending.specs.Price.{none};
 ghost use Rattle.dnsv_mending.specs.Reasons.{IsClosed};
 ghost use Rattle.dnsv_mending.specs.Ways.{IsAmong};
@@ -16,15 +17,22 @@ ghost use Rattle.dnsv_mending.specs.declared.facts.zone.ZoneFacts.{ZoneFacts};
 ghost use Rattle.dnsv_mending.specs.declared.told.Told.TheVariants as told;
 ghost use Rattle.dnsv_remedies.specs.Examples.{below, closed, of_another, over_answer, over_cut, over_denial, question_lines, source, stripped, synthesized, unanchored, uncovered, unknown, wild};
 ghost use Rattle.dnsv_remedies.specs.InPlace.{IsQuestionInPlace};
-ghost use Rattle.dnsv_remedies.specs.Question.{all_lines, lines_told, no_anchor, question_remedy};
+ghost use Rattle.dnsv_remedies.specs.Question.{all_lines, lines_told, no_anchor, question_remedy, question_ways};
 ghost use Rattle.dnsv_remedies.specs.Reasons.{BeginsWith, IsNowhereTwice, IsProved, IsWholeQuestion};
-ghost use Rattle.dnsv_remedies.specs.Remedy.{Remedied};
+ghost use Rattle.dnsv_remedies.specs.Remedy.{IsFirstOfLeast, Remedied};
 ghost use Rattle.dnsv_remedies.specs.Said.{is_reason};
 ghost use Rattle.dnsv_remedies.specs.Same.{is_same};
 ghost use Rattle.dnsv_remedies.specs.declared.facts.name.AskedName.TheVariants as name;
 ghost use Rattle.dnsv_remedies.specs.declared.facts.question.QuestionFacts.{QuestionFacts};
 ghost use Rattle.dnsv_remedies.specs.declared.said.Said.{Said};
 ghost use Rattle.dnsv_remedies.specs.declared.said.Said.TheVariants as said;
+
+/// A law: what is found of a question is the first of the least price of all ways, and nothing is only where there is no way.
+pub fn what_is_told_of_is_the_first_of_the_least()
+    ensures first { (levels : List Leveled) (q : QuestionFacts) (m : Remedied) → question_remedy levels q ≡ Some m
+        → IsFirstOfLeast m (question_ways levels q) }
+    ensures none { (levels : List Leveled) (q : QuestionFacts) → question_remedy levels q ≡ None → question_ways levels q ≡ [] }
+{}
 
 /// A law: of a question that nothing answers or denies, and that isn't below an unsigned delegation, a reason is told, where
 /// what is kept is whole; and where facts name only what is there, there always is something to be told.
@@ -69,7 +77,7 @@ pub fn a_missing_anchor_is_told_first()
 /// A law: what is told of answers with a break. Signatures were stripped; all of a zone are over, and its DNSKEY RRset's comes
 /// first; a wildcard's answer lacks the record that covers the name; there is no anchor; a DNAME RRset is above.
 pub fn what_answers_lack_is_told()
-    ensures stripped { (heap : Global) → question_lines (below heap) (stripped heap) ≡ said.Stripped 2 ∷ [] }
+    ensures stripped { (heap : Global) → question_lines (below heap) (stripped heap) ≡ said.Trust (told.Unsigned 2) ∷ [] }
     ensures over { (heap : Global) → question_lines (expired heap) (over_answer heap)
         ≡ said.Trust (told.Signature (signature.Expired (times 100)) (signature_at 5 1))
         ∷ said.Trust (told.Signature (signature.Expired (times 100)) (signature_at 6 1)) ∷ [] }

@@ -17,6 +17,7 @@ pub use laws::{
     each_line_is_told_once, lines_that_say_the_same_are_equal,
     what_an_unsigned_delegation_lacks_is_told, what_answers_lack_is_told,
     what_costs_nothing_is_proved, what_denials_lack_is_told, what_is_asked_of_facts_can_be_met,
+    what_is_told_of_is_the_first_of_the_least,
 };
 pub use question::question_remedy;
 pub use remedy::Remedy;

@@ -14,8 +14,6 @@ use dnsv_mending::Told;
 pub enum Said {
     /// What keeps a zone from being trusted, or an RRset from being signed.
     Trust(Told),
-    /// An RRset that would answer has no signatures.
-    Stripped(usize),
     /// A wildcard's signature proves nothing, since a closer name may be there: the one with so many labels (RFC 4035 5.3.4).
     NoCloser(SignatureNumber, usize),
     /// A name above has a DNAME RRset, and no answer is made of it: its labels, and the RRset (RFC 6672).
@@ -41,8 +39,7 @@ impl Said {
     {
         match self {
             Said::Trust(told) => is_trust_reason(told),
-            Said::Stripped(_)
-            | Said::NoCloser(..)
+            Said::NoCloser(..)
             | Said::Dname(..)
             | Said::DnameHeld(..)
             | Said::Nsec3(..)

@@ -16,7 +16,6 @@ pub fn is_same(one: Said, other: Said) -> bool
 {
     match (one, other) {
         (Said::Trust(one), Said::Trust(other)) => is_same_told(one, other),
-        (Said::Stripped(one), Said::Stripped(other)) => one == other,
         (Said::NoCloser(one, name), Said::NoCloser(other, other_name)) => {
             is_same_signature(one, other) && name == other_name
         }
