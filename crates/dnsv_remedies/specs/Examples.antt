@@ -3,9 +3,8 @@
 use Rattle.std.specs.Prelude.{ℕ, Bool, true, false, List, [], ◌∷◌, Some, None}
 use Rattle.std.specs.Global.{Vec}
 use Rattle.std.specs.declared.alloc.Global.{Global}
-use Rattle.dnsv_lines.specs.declared.line.denial.Role.TheVariants as role
-use Rattle.dnsv_lines.specs.declared.line.fault.denial.WhySource.TheVariants as why
-use Rattle.dnsv_mending.specs.Examples.{clean, expired, expired_answer, none, one, over, record_at, root, signature_at, signed_by, trusted}
+use Rattle.dnsv_lines.specs.declared.line.fault.denial.WhyNsec3.TheVariants as nsec3
+use Rattle.dnsv_mending.specs.Examples.{clean, none, one, over, record_at, root, signature_at, signed_by, trusted, two}
 use Rattle.dnsv_mending.specs.Zone.{levels_of}
 use Rattle.dnsv_mending.specs.declared.facts.signature.KeyAnswer.TheVariants as answer
 use Rattle.dnsv_mending.specs.declared.facts.signature.RrsetFacts.{RrsetFacts}
@@ -13,6 +12,7 @@ use Rattle.dnsv_mending.specs.declared.facts.signature.SignatureFacts.{Signature
 use Rattle.dnsv_mending.specs.declared.facts.zone.ZoneFacts.{ZoneFacts}
 use Rattle.dnsv_remedies.specs.Question.{lines_told, question_remedy}
 use Rattle.dnsv_remedies.specs.declared.facts.answer.GoalFacts.{GoalFacts}
+use Rattle.dnsv_remedies.specs.declared.facts.cut.CutCase.{CutCase}
 use Rattle.dnsv_remedies.specs.declared.facts.cut.CutCase.TheVariants as cut
 use Rattle.dnsv_remedies.specs.declared.facts.denial.RecordsAt.TheVariants as records
 use Rattle.dnsv_remedies.specs.declared.facts.denial.SourceCase.{SourceCase}
@@ -47,6 +47,10 @@ module _ (heap : Global) where
   -- what test. says, by one source
   abbrev pub speaker : SourceCase → SpeakerFacts
   speaker said = record { labels = 1; has_denials = true; sources = one heap (record { place = 0; case = said }); unusable = none heap }
+
+  -- below test. the zone shop.test. is trusted too
+  abbrev pub below_shop : List ZoneFacts
+  below_shop = root heap ∷ trusted heap ∷ trusted heap ∷ root heap ∷ []
 
   abbrev pub denied : ℕ → SourceCase → QuestionFacts
   denied labels said = record (question labels) { speakers = one heap (speaker said) }
@@ -133,16 +137,41 @@ module _ (heap : Global) where
   abbrev pub over_denial : QuestionFacts
   over_denial = denied 2 (case.At (records.Denying (one heap (over_by_test 2))))
 
-  -- www.shop.test.: an answer without signatures, below the unsigned delegation shop.test., whose proof is over
-  abbrev pub over_cut : QuestionFacts
-  over_cut = record (question 3) {
+  -- new.shop.test.: shop.test. should speak and shows no ancestor, and a record of test. that is over denies the type
+  abbrev pub elsewhere : QuestionFacts
+  elsewhere = record (question 3) {
+    speakers = two heap (record (speaker case.NoEncloser) { labels = 2 }) (speaker (case.At (records.Denying (one heap (over_by_test 2)))));
+  }
+
+  -- www.test.: all that may deny it has too many iterations
+  abbrev pub of_no_use : QuestionFacts
+  of_no_use = record (question 2) {
+    speakers = one heap (record {
+      labels = 1;
+      has_denials = true;
+      sources = none heap;
+      unusable = one heap (record { why = nsec3.Iterations (record { 0 = 501 }); number = record_at 2 1 });
+    });
+  }
+
+  -- www.shop.test.: an answer without signatures, below shop.test., of which test. says this; something shows a delegation there
+  abbrev pub below_cut : CutCase → QuestionFacts
+  below_cut said = record (question 3) {
     goals = one heap (unsigned_goal 2);
     parents = one heap (record {
       labels = 1;
-      cuts = one heap (record { name = 2; is_shown = true; sources = one heap (record { place = 0; case = cut.Delegation (one heap (over_by_test 3)) }) });
+      cuts = one heap (record { name = 2; is_shown = true; sources = one heap (record { place = 0; case = said }) });
       unusable = none heap;
     });
   }
+
+  -- it is an unsigned delegation, whose proof is over
+  abbrev pub over_cut : QuestionFacts
+  over_cut = below_cut (cut.Delegation (one heap (over_by_test 3)))
+
+  -- opt-out covers shop.test., and nothing shows its parent
+  abbrev pub unshown_cut : QuestionFacts
+  unshown_cut = below_cut (cut.OptOut (record { shown = none heap; covers = one heap (by_test 3) }))
 
   -- www.test. without a trust anchor: its answer is signed by test., of which no key is there
   abbrev pub unknown : List ZoneFacts

@@ -3,6 +3,7 @@ ghost use Rattle.std.specs.Prelude.{◌≡◌, List, [], ◌∷◌, Option, Some
 ghost use Rattle.std.specs.List.{AllByRecursion, list_any};
 ghost use Rattle.std.specs.declared.alloc.Global.{Global};
 ghost use Rattle.dnsv_lines.specs.declared.line.denial.Role.TheVariants as role;
+ghost use Rattle.dnsv_lines.specs.declared.line.fault.denial.WhyNsec3.TheVariants as nsec3;
 ghost use Rattle.dnsv_lines.specs.declared.line.fault.denial.WhySource.TheVariants as why;
 ghost use Rattle.dnsv_lines.specs.declared.line.fault.signature.WhySignature.TheVariants as signature;
 ghost use Rattle.dnsv_lines.specs.declared.line.fault.zone.WhyZone.TheVariants as zone;
@@ -15,13 +16,14 @@ ghost use Rattle.dnsv_mending.specs.Ways.{IsAmong};
 ghost use Rattle.dnsv_mending.specs.Zone.{levels_of};
 ghost use Rattle.dnsv_mending.specs.declared.facts.zone.ZoneFacts.{ZoneFacts};
 ghost use Rattle.dnsv_mending.specs.declared.told.Told.TheVariants as told;
-ghost use Rattle.dnsv_remedies.specs.Examples.{below, closed, of_another, over_answer, over_cut, over_denial, question_lines, source, stripped, synthesized, unanchored, uncovered, unknown, wild};
+ghost use Rattle.dnsv_remedies.specs.Examples.{below, below_cut, below_shop, closed, elsewhere, of_another, of_no_use, over_answer, over_cut, over_denial, question_lines, source, stripped, synthesized, unanchored, uncovered, unknown, unshown_cut, wild};
 ghost use Rattle.dnsv_remedies.specs.InPlace.{IsQuestionInPlace};
 ghost use Rattle.dnsv_remedies.specs.Question.{all_lines, lines_told, no_anchor, question_remedy, question_ways};
 ghost use Rattle.dnsv_remedies.specs.Reasons.{BeginsWith, IsNowhereTwice, IsProved, IsWholeQuestion};
 ghost use Rattle.dnsv_remedies.specs.Remedy.{IsFirstOfLeast, Remedied};
 ghost use Rattle.dnsv_remedies.specs.Said.{is_reason};
 ghost use Rattle.dnsv_remedies.specs.Same.{is_same};
+ghost use Rattle.dnsv_remedies.specs.declared.facts.cut.CutCase.TheVariants as cut;
 ghost use Rattle.dnsv_remedies.specs.declared.facts.name.AskedName.TheVariants as name;
 ghost use Rattle.dnsv_remedies.specs.declared.facts.question.QuestionFacts.{QuestionFacts};
 ghost use Rattle.dnsv_remedies.specs.declared.said.Said.{Said};
@@ -87,7 +89,8 @@ pub fn what_answers_lack_is_told()
 {}
 
 /// A law: what is told of denials with a break. They are of another name; nothing covers the next closer name or the wildcard;
-/// their record is one of a delegation, or holds DNAME, above the name; and it is over.
+/// their record is one of a delegation, or holds DNAME, above the name; it is over; it is over and another zone's than the one that
+/// should speak, which lacks more; and it has too many iterations.
 pub fn what_denials_lack_is_told()
     ensures of_another { (heap : Global) → question_lines (below heap) (of_another heap)
         ≡ said.Source (why.CoverMissing role.NextCloser) source (name.At 2) ∷ said.Source why.MatchMissing source (name.At 2)
@@ -101,11 +104,20 @@ pub fn what_denials_lack_is_told()
         ≡ said.DnameHeld 2 (record_at 2 1) ∷ said.DenialUnproved 1 ∷ [] }
     ensures over { (heap : Global) → question_lines (below heap) (over_denial heap)
         ≡ said.Trust (told.Signature (signature.Expired (times 100)) (signature_at 2 1)) ∷ said.DenialUnproved 1 ∷ [] }
+    ensures elsewhere { (heap : Global) → question_lines (below_shop heap) (elsewhere heap)
+        ≡ said.Trust (told.Signature (signature.Expired (times 100)) (signature_at 2 1)) ∷ said.DenialUnproved 1 ∷ [] }
+    ensures of_no_use { (heap : Global) → question_lines (below heap) (of_no_use heap)
+        ≡ said.Nsec3 (nsec3.Iterations (record { 0 = 501 })) (record_at 2 1) ∷ said.DenialUnproved 1 ∷ [] }
 {}
 
-/// A law: what is told below an unsigned delegation whose proof is over is that proof, and not that nothing below it is signed.
+/// A law: what is told below an unsigned delegation whose proof is over is that proof, and not that nothing below it is signed;
+/// so it is where opt-out covers it, and nothing shows its parent. Where the zone says that there is no delegation, what is
+/// told is that the answer has no signatures.
 pub fn what_an_unsigned_delegation_lacks_is_told()
-    ensures { (heap : Global) → question_lines (below heap) (over_cut heap)
+    ensures unshown { (heap : Global) → question_lines (below heap) (unshown_cut heap)
+        ≡ said.Source why.EncloserMissing source (name.At 2) ∷ said.DsUnproved 2 1 ∷ [] }
+    ensures no_cut { (heap : Global) → question_lines (below heap) (below_cut heap cut.NoCut) ≡ said.Trust (told.Unsigned 2) ∷ [] }
+    ensures over { (heap : Global) → question_lines (below heap) (over_cut heap)
         ≡ said.Trust (told.Signature (signature.Expired (times 100)) (signature_at 3 1)) ∷ said.DsUnproved 2 1 ∷ [] }
 {}
 

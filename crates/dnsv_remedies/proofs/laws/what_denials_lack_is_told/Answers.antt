@@ -31,3 +31,11 @@ returns-clause-dname c = λ heap. refl
 pub returns-clause-over : goal.returns-clause-over
 unfolding level_over chain_of anchor_ways kept_ways dnskey_mend unvouched_ways holder_ways held signature_ways held_ways unheld_ways self_way signing fitting_way voucher_ways own_ways zone_signature_ways within_kept answer_ways goal_ways held_line source_ways other_ways cut_source_ways is_proving cut_ways parent_ways dname_line unusable_line
 returns-clause-over c = λ heap. refl
+
+pub returns-clause-elsewhere : goal.returns-clause-elsewhere
+unfolding level_over chain_of anchor_ways kept_ways dnskey_mend unvouched_ways holder_ways held signature_ways held_ways unheld_ways self_way signing fitting_way voucher_ways own_ways zone_signature_ways within_kept answer_ways goal_ways held_line source_ways other_ways cut_source_ways is_proving cut_ways parent_ways dname_line unusable_line
+returns-clause-elsewhere c = λ heap. refl
+
+pub returns-clause-of_no_use : goal.returns-clause-of_no_use
+unfolding level_over chain_of anchor_ways kept_ways dnskey_mend unvouched_ways holder_ways held signature_ways held_ways unheld_ways self_way signing fitting_way voucher_ways own_ways zone_signature_ways within_kept answer_ways goal_ways held_line source_ways other_ways cut_source_ways is_proving cut_ways parent_ways dname_line unusable_line
+returns-clause-of_no_use c = λ heap. refl
