@@ -1,3 +1,4 @@
+pub mod Better
 pub mod Cases
 pub mod Leads
 pub mod Least

@@ -92,6 +92,11 @@ unusable_lines unusable = map unusable_line unusable
 abbrev pub with_unusable : List UnusableFacts → Remedied → Remedied
 with_unusable unusable m = if m.lacks then record m { own = unusable_lines unusable ++ m.own } else m
 
+-- a way of the price is the first, or cheaper than the best one so far
+abbrev pub is_better : Price → Option Remedied → Bool
+is_better p None = true
+is_better p (Some best) = is_cheaper p best.price
+
 -- the cheaper one, and the first of two that cost the same
 abbrev pub better : Option Remedied → Remedied → Remedied
 better None m = m

@@ -204,7 +204,8 @@ pub fn offer(best: &mut Option<Remedy>, way: Remedy)
     }
 }
 
-/// Offers what stands on a zone or an RRset, where there is a way to that.
+/// Offers what stands on a zone, where there is a way to that. Lines are copied only where it is kept.
+#[tactic(auto, using(crate::proofs::Better::better_kept, crate::proofs::Better::better_taken))]
 pub fn offer_after(
     alloc: Global,
     above: Option<&Mend>,
@@ -216,12 +217,15 @@ pub fn offer_after(
     let Some(above) = above else {
         return Ok(());
     };
-    let above = whole(alloc, above)?;
-    offer(best, following(alloc, &above, below)?);
+    if is_better(above.price.and(below.price), best) {
+        let above = whole(alloc, above)?;
+        *best = Some(following(alloc, &above, below)?);
+    }
     Ok(())
 }
 
-/// Offers a signature and what it asks for beside it, where there is a way to the signature.
+/// Offers a signature and what it asks for beside it, where there is a way to the signature; copied likewise.
+#[tactic(auto, using(crate::proofs::Better::better_kept, crate::proofs::Better::better_taken))]
 pub fn offer_beside(
     alloc: Global,
     signature: Option<&Mend>,
@@ -233,9 +237,21 @@ pub fn offer_beside(
     let Some(signature) = signature else {
         return Ok(());
     };
-    let signature = whole(alloc, signature)?;
-    offer(best, both(alloc, &signature, other)?);
+    if is_better(signature.price.and(other.price), best) {
+        let signature = whole(alloc, signature)?;
+        *best = Some(both(alloc, &signature, other)?);
+    }
     Ok(())
+}
+
+/// Whether a way of the price is the first, or cheaper than the best one so far.
+fn is_better(price: Price, best: &Option<Remedy>) -> bool
+    ensures { result ≡ remedies.is_better price (option_map seen best.now) }
+{
+    match best {
+        Some(best) => price.is_cheaper(best.price),
+        None => true,
+    }
 }
 
 /// Whether there are none.
