@@ -200,8 +200,8 @@ module _ (zones : List ZoneFacts) (closed : IsClosed zones) (q : QuestionFacts) 
   cut_after_all z c None parent name is = tt
   cut_after_all z c (Some m) parent name is =
       let own = with_unusable z.unusable.items m in
-      after_zone z.labels (ended (said.DsUnproved c.name z.labels) own) (λ t. ⊎_elim (λ (p : IsCut zones q). inl (inr (inr p)))
-      (λ (f : Fails m). inr (ended_tells (said.DsUnproved c.name z.labels) own refl (unusable_fails z.unusable.items m f)))
+      after_zone z.labels (ended (said.DsUnproved (record { zone = z.labels; name = c.name })) own) (λ t. ⊎_elim (λ (p : IsCut zones q). inl (inr (inr p)))
+      (λ (f : Fails m). inr (ended_tells (said.DsUnproved (record { zone = z.labels; name = c.name })) own refl (unusable_fails z.unusable.items m f)))
       (least_cut z c m t parent name (is_none c.sources.items) is))
 
   cut_all : (z : ParentFacts) (c : CutFacts) → IsAmong z q.parents.items → IsAmong c z.cuts.items → AllByRecursion Good (cut_ways levels z c)

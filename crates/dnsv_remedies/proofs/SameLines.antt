@@ -23,10 +23,12 @@ use Rattle.dnsv_records.specs.declared.nsec3.Iterations.{Iterations}
 use Rattle.dnsv_mending.specs.declared.told.Told.{Told}
 use Rattle.dnsv_mending.specs.declared.told.Told.TheVariants as told
 use Rattle.dnsv_mending.proofs.SomeWays.{both_parts}
-use Rattle.dnsv_remedies.specs.Same.{is_same, is_same_entry, is_same_fault, is_same_name, is_same_nsec3, is_same_number, is_same_record, is_same_role, is_same_signature, is_same_source, is_same_speaker, is_same_times, is_same_told, is_same_why, is_same_zone}
+use Rattle.dnsv_remedies.specs.Same.{is_same, is_same_cut, is_same_dname, is_same_entry, is_same_fault, is_same_name, is_same_nsec3, is_same_number, is_same_record, is_same_role, is_same_signature, is_same_source, is_same_speaker, is_same_times, is_same_told, is_same_why, is_same_zone}
 use Rattle.dnsv_remedies.specs.declared.facts.name.AskedName.{AskedName}
 use Rattle.dnsv_remedies.specs.declared.facts.name.AskedName.TheVariants as name
+use Rattle.dnsv_remedies.specs.declared.facts.name.CutNumber.{CutNumber}
 use Rattle.dnsv_remedies.specs.declared.facts.name.SourceNumber.{SourceNumber}
+use Rattle.dnsv_remedies.specs.declared.facts.question.DnameFacts.{DnameFacts}
 use Rattle.dnsv_remedies.specs.declared.said.Said.{Said}
 use Rattle.dnsv_remedies.specs.declared.said.Said.TheVariants as said
 
@@ -121,14 +123,14 @@ told_itself (told.Follows a) = signature_itself a
 pub itself : (a : Said) → is_same a a ≡ true
 itself (said.Trust a) = told_itself a
 itself (said.NoCloser a n) = both_true (is_same_signature a a) (nat_eq n n) (signature_itself a) (number_itself n)
-itself (said.Dname n a) = both_true (nat_eq n n) (nat_eq a a) (number_itself n) (number_itself a)
+itself (said.Dname a) = both_true (nat_eq a.labels a.labels) (nat_eq a.rrset a.rrset) (number_itself a.labels) (number_itself a.rrset)
 itself (said.DnameHeld n a) = both_true (nat_eq n n) (is_same_record a a) (number_itself n) (record_itself a)
 itself (said.Nsec3 v a) = both_true (is_same_nsec3 v v) (is_same_record a a) (nsec3_itself v) (record_itself a)
 itself (said.Source v a n) = both_true (is_same_source v v) (is_same_number a a && is_same_name n n) (lacked_itself v)
     (both_true (is_same_number a a) (is_same_name n n) (source_itself a) (name_itself n))
 itself (said.AnswerMissing a) = speaker_itself a
 itself (said.DenialUnproved a) = number_itself a
-itself (said.DsUnproved n a) = both_true (nat_eq n n) (nat_eq a a) (number_itself n) (number_itself a)
+itself (said.DsUnproved a) = both_true (nat_eq a.zone a.zone) (nat_eq a.name a.name) (number_itself a.zone) (number_itself a.name)
 
 -- ---- and nothing else
 
@@ -146,6 +148,16 @@ same_number : (a b : SourceNumber) → is_same_number a b ≡ true → a ≡ b
 same_number a b h =
     let parts = both_parts (nat_eq a.zone b.zone) (nat_eq a.place b.place) h in
     λ i. record { zone = eqb-true a.zone b.zone parts.0 i; place = eqb-true a.place b.place parts.1 i }
+
+same_dname : (a b : DnameFacts) → is_same_dname a b ≡ true → a ≡ b
+same_dname a b h =
+    let parts = both_parts (nat_eq a.labels b.labels) (nat_eq a.rrset b.rrset) h in
+    λ i. record { labels = eqb-true a.labels b.labels parts.0 i; rrset = eqb-true a.rrset b.rrset parts.1 i }
+
+same_cut : (a b : CutNumber) → is_same_cut a b ≡ true → a ≡ b
+same_cut a b h =
+    let parts = both_parts (nat_eq a.zone b.zone) (nat_eq a.name b.name) h in
+    λ i. record { zone = eqb-true a.zone b.zone parts.0 i; name = eqb-true a.name b.name parts.1 i }
 
 same_times : (a b : SignatureTimes) → is_same_times a b ≡ true → a ≡ b
 same_times a b h =
@@ -251,9 +263,7 @@ same (said.Trust a) (said.Trust b) h = ap said.Trust (same_told a b h)
 same (said.NoCloser a n) (said.NoCloser b m) h =
     let parts = both_parts (is_same_signature a b) (nat_eq n m) h in
     λ i. said.NoCloser (same_signature a b parts.0 i) (eqb-true n m parts.1 i)
-same (said.Dname n a) (said.Dname m b) h =
-    let parts = both_parts (nat_eq n m) (nat_eq a b) h in
-    λ i. said.Dname (eqb-true n m parts.0 i) (eqb-true a b parts.1 i)
+same (said.Dname a) (said.Dname b) h = ap said.Dname (same_dname a b h)
 same (said.DnameHeld n a) (said.DnameHeld m b) h =
     let parts = both_parts (nat_eq n m) (is_same_record a b) h in
     λ i. said.DnameHeld (eqb-true n m parts.0 i) (same_record a b parts.1 i)
@@ -266,7 +276,5 @@ same (said.Source v a n) (said.Source w b m) h =
     λ i. said.Source (same_source v w parts.0 i) (same_number a b rest.0 i) (same_name n m rest.1 i)
 same (said.AnswerMissing a) (said.AnswerMissing b) h = ap said.AnswerMissing (same_speaker a b h)
 same (said.DenialUnproved a) (said.DenialUnproved b) h = ap said.DenialUnproved (eqb-true a b h)
-same (said.DsUnproved n a) (said.DsUnproved m b) h =
-    let parts = both_parts (nat_eq n m) (nat_eq a b) h in
-    λ i. said.DsUnproved (eqb-true n m parts.0 i) (eqb-true a b parts.1 i)
+same (said.DsUnproved a) (said.DsUnproved b) h = ap said.DsUnproved (same_cut a b h)
 same _ _ h = absurd (false≢true h)

@@ -67,7 +67,7 @@ cut_least levels zone c = if is_none c.sources.items then Some gap else least (f
 -- by the zone, where not each source says that there is no delegation
 abbrev pub cut_after : Option Mended → ParentFacts → ℕ → Option Remedied → List Remedied
 cut_after above z c None = []
-cut_after above z c (Some m) = after above (ended (said.DsUnproved c z.labels) (with_unusable z.unusable.items m))
+cut_after above z c (Some m) = after above (ended (said.DsUnproved (record { zone = z.labels; name = c })) (with_unusable z.unusable.items m))
 
 unfoldable pub cut_ways : List Leveled → ParentFacts → CutFacts → List Remedied
 cut_ways levels z c = if is_way levels z.labels c then cut_after (zone_kept levels z.labels) z c.name (cut_least levels z.labels c) else []

@@ -19,7 +19,9 @@ use Rattle.dnsv_remedies.specs.declared.facts.denial.SourceCase.{SourceCase}
 use Rattle.dnsv_remedies.specs.declared.facts.denial.SourceCase.TheVariants as case
 use Rattle.dnsv_remedies.specs.declared.facts.denial.SpeakerFacts.{SpeakerFacts}
 use Rattle.dnsv_remedies.specs.declared.facts.denial.WildcardFacts.TheVariants as wildcard
+use Rattle.dnsv_remedies.specs.declared.facts.name.CutNumber.{CutNumber}
 use Rattle.dnsv_remedies.specs.declared.facts.name.SourceNumber.{SourceNumber}
+use Rattle.dnsv_remedies.specs.declared.facts.question.DnameFacts.{DnameFacts}
 use Rattle.dnsv_remedies.specs.declared.facts.question.QuestionFacts.{QuestionFacts}
 use Rattle.dnsv_remedies.specs.declared.said.Said.{Said}
 
@@ -30,6 +32,13 @@ question_lines zones q = lines_told q (question_remedy (levels_of q.is_anchored 
 -- the first source of the zone test.
 abbrev pub source : SourceNumber
 source = record { zone = 1; place = 0 }
+
+-- a name with so many labels that owns a DNAME RRset, and one below a zone
+abbrev pub dname_at : ℕ → ℕ → DnameFacts
+dname_at labels rrset = record { labels = labels; rrset = rrset }
+
+abbrev pub cut_at : ℕ → ℕ → CutNumber
+cut_at name zone = record { zone = zone; name = name }
 
 module _ (heap : Global) where
   -- test. is trusted, and nothing is known below it
@@ -202,5 +211,5 @@ module _ (heap : Global) where
   abbrev pub synthesized : QuestionFacts
   synthesized = record (question 3) {
     goals = one heap (record { number = 3; is_cname = true; signatures = none heap });
-    dnames = one heap (record { labels = 2; rrset = 2 });
+    dnames = one heap (dname_at 2 2);
   }

@@ -53,7 +53,7 @@ once lines = once_from [] lines
 
 -- a DNAME RRset above the name, of which nothing is made
 unfoldable pub dname_line : DnameFacts → Said
-dname_line d = said.Dname d.labels d.rrset
+dname_line d = said.Dname d
 
 -- Without an anchor at or above the name that is told first, and what follows isn't told.
 abbrev pub no_anchor : QuestionFacts → Said

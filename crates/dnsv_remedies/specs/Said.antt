@@ -7,10 +7,10 @@ use Rattle.dnsv_remedies.specs.declared.said.Said.TheVariants as said
 abbrev pub is_reason : Said → Bool
 is_reason (said.Trust told) = trust.is_reason told
 is_reason (said.NoCloser signature name) = true
-is_reason (said.Dname name rrset) = true
+is_reason (said.Dname d) = true
 is_reason (said.DnameHeld name n) = true
 is_reason (said.Nsec3 why n) = true
 is_reason (said.Source why source name) = true
 is_reason (said.AnswerMissing zone) = true
 is_reason (said.DenialUnproved zone) = true
-is_reason (said.DsUnproved name zone) = true
+is_reason (said.DsUnproved c) = true

@@ -21,7 +21,9 @@ use Rattle.dnsv_mending.specs.declared.told.Told.{Told}
 use Rattle.dnsv_mending.specs.declared.told.Told.TheVariants as told
 use Rattle.dnsv_remedies.specs.declared.facts.name.AskedName.{AskedName}
 use Rattle.dnsv_remedies.specs.declared.facts.name.AskedName.TheVariants as name
+use Rattle.dnsv_remedies.specs.declared.facts.name.CutNumber.{CutNumber}
 use Rattle.dnsv_remedies.specs.declared.facts.name.SourceNumber.{SourceNumber}
+use Rattle.dnsv_remedies.specs.declared.facts.question.DnameFacts.{DnameFacts}
 use Rattle.dnsv_remedies.specs.declared.said.Said.{Said}
 use Rattle.dnsv_remedies.specs.declared.said.Said.TheVariants as said
 
@@ -37,6 +39,12 @@ abbrev pub is_same_entry : EntryNumber → EntryNumber → Bool
 is_same_entry (number.Anchor a) (number.Anchor b) = nat_eq a b
 is_same_entry (number.Ds a) (number.Ds b) = is_same_record a b
 is_same_entry _ _ = false
+
+abbrev pub is_same_dname : DnameFacts → DnameFacts → Bool
+is_same_dname a b = nat_eq a.labels b.labels && nat_eq a.rrset b.rrset
+
+abbrev pub is_same_cut : CutNumber → CutNumber → Bool
+is_same_cut a b = nat_eq a.zone b.zone && nat_eq a.name b.name
 
 abbrev pub is_same_number : SourceNumber → SourceNumber → Bool
 is_same_number a b = nat_eq a.zone b.zone && nat_eq a.place b.place
@@ -121,11 +129,11 @@ is_same_told _ _ = false
 abbrev pub is_same : Said → Said → Bool
 is_same (said.Trust a) (said.Trust b) = is_same_told a b
 is_same (said.NoCloser a n) (said.NoCloser b m) = is_same_signature a b && nat_eq n m
-is_same (said.Dname n a) (said.Dname m b) = nat_eq n m && nat_eq a b
+is_same (said.Dname a) (said.Dname b) = is_same_dname a b
 is_same (said.DnameHeld n a) (said.DnameHeld m b) = nat_eq n m && is_same_record a b
 is_same (said.Nsec3 v a) (said.Nsec3 w b) = is_same_nsec3 v w && is_same_record a b
 is_same (said.Source v a n) (said.Source w b m) = is_same_source v w && (is_same_number a b && is_same_name n m)
 is_same (said.AnswerMissing a) (said.AnswerMissing b) = is_same_speaker a b
 is_same (said.DenialUnproved a) (said.DenialUnproved b) = nat_eq a b
-is_same (said.DsUnproved n a) (said.DsUnproved m b) = nat_eq n m && nat_eq a b
+is_same (said.DsUnproved a) (said.DsUnproved b) = is_same_cut a b
 is_same _ _ = false

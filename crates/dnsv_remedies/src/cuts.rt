@@ -7,7 +7,7 @@ ghost use Rattle.dnsv_remedies.specs.Cuts.{cut_least, cut_remedy, cut_source_way
 ghost use Rattle.dnsv_remedies.specs.Remedy.{Offers, seen};
 
 use crate::facts::cut::{CutCase, CutFacts, CutSource, OptOutFacts, ParentFacts, SignedCutFacts};
-use crate::facts::name::{AskedName, SourceNumber};
+use crate::facts::name::{AskedName, CutNumber, SourceNumber};
 use crate::parts::{part, part_of_one, zone_kept};
 use crate::remedy::{
     Remedy, both, end_with, gap, is_none, missing, offer, offer_after, put_in_front,
@@ -81,7 +81,11 @@ fn offer_cut(
         return Ok(());
     };
     put_in_front(alloc, &parent.unusable, &mut least)?;
-    end_with(&mut least, Said::DsUnproved(cut.name, parent.labels))?;
+    let number = CutNumber {
+        zone: parent.labels,
+        name: cut.name,
+    };
+    end_with(&mut least, Said::DsUnproved(number))?;
     offer_after(alloc, zone_kept(levels, parent.labels), &least, best)
 }
 

@@ -16,7 +16,7 @@ ghost use Rattle.dnsv_mending.specs.Ways.{IsAmong};
 ghost use Rattle.dnsv_mending.specs.Zone.{levels_of};
 ghost use Rattle.dnsv_mending.specs.declared.facts.zone.ZoneFacts.{ZoneFacts};
 ghost use Rattle.dnsv_mending.specs.declared.told.Told.TheVariants as told;
-ghost use Rattle.dnsv_remedies.specs.Examples.{below, below_cut, below_shop, closed, elsewhere, of_another, of_no_use, over_answer, over_cut, over_denial, question_lines, source, stripped, synthesized, unanchored, uncovered, unknown, unshown_cut, wild};
+ghost use Rattle.dnsv_remedies.specs.Examples.{below, below_cut, below_shop, closed, cut_at, dname_at, elsewhere, of_another, of_no_use, over_answer, over_cut, over_denial, question_lines, source, stripped, synthesized, unanchored, uncovered, unknown, unshown_cut, wild};
 ghost use Rattle.dnsv_remedies.specs.InPlace.{IsQuestionInPlace};
 ghost use Rattle.dnsv_remedies.specs.Question.{all_lines, lines_told, no_anchor, question_remedy, question_ways};
 ghost use Rattle.dnsv_remedies.specs.Reasons.{BeginsWith, IsNowhereTwice, IsProved, IsWholeQuestion};
@@ -85,7 +85,7 @@ pub fn what_answers_lack_is_told()
         ∷ said.Trust (told.Signature (signature.Expired (times 100)) (signature_at 6 1)) ∷ [] }
     ensures wild { (heap : Global) → question_lines (below heap) (wild heap) ≡ said.NoCloser (signature_at 2 1) 2 ∷ [] }
     ensures unanchored { (heap : Global) → question_lines (unknown heap) (unanchored heap) ≡ said.Trust (told.Zone zone.NoAnchor 2) ∷ [] }
-    ensures synthesized { (heap : Global) → question_lines (below heap) (synthesized heap) ≡ said.Dname 2 2 ∷ [] }
+    ensures synthesized { (heap : Global) → question_lines (below heap) (synthesized heap) ≡ said.Dname (dname_at 2 2) ∷ [] }
 {}
 
 /// A law: what is told of denials with a break. They are of another name; nothing covers the next closer name or the wildcard;
@@ -115,10 +115,10 @@ pub fn what_denials_lack_is_told()
 /// told is that the answer has no signatures.
 pub fn what_an_unsigned_delegation_lacks_is_told()
     ensures unshown { (heap : Global) → question_lines (below heap) (unshown_cut heap)
-        ≡ said.Source why.EncloserMissing source (name.At 2) ∷ said.DsUnproved 2 1 ∷ [] }
+        ≡ said.Source why.EncloserMissing source (name.At 2) ∷ said.DsUnproved (cut_at 2 1) ∷ [] }
     ensures no_cut { (heap : Global) → question_lines (below heap) (below_cut heap cut.NoCut) ≡ said.Trust (told.Unsigned 2) ∷ [] }
     ensures over { (heap : Global) → question_lines (below heap) (over_cut heap)
-        ≡ said.Trust (told.Signature (signature.Expired (times 100)) (signature_at 3 1)) ∷ said.DsUnproved 2 1 ∷ [] }
+        ≡ said.Trust (told.Signature (signature.Expired (times 100)) (signature_at 3 1)) ∷ said.DsUnproved (cut_at 2 1) ∷ [] }
 {}
 
 /// A law: what the laws ask of facts can be met by a question that has something to be mended.

@@ -10,7 +10,7 @@ pub use facts::denial::{
     ClosedFacts, EncloserFacts, HoldingFacts, RecordsAt, SourceCase, SourceFacts, SpeakerFacts,
     WildcardFacts,
 };
-pub use facts::name::{AskedName, SourceNumber, UnusableFacts};
+pub use facts::name::{AskedName, CutNumber, SourceNumber, UnusableFacts};
 pub use facts::question::{DnameFacts, QuestionFacts};
 pub use laws::{
     a_missing_anchor_is_told_first, a_question_that_nothing_proves_has_a_reason,

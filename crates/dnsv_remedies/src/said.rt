@@ -3,7 +3,8 @@ ghost use Rattle.std.specs.Prelude.{◌≡◌};
 ghost use Rattle.dnsv_mending.specs.Reasons as trust;
 ghost use Rattle.dnsv_remedies.specs.Said.{is_reason};
 
-use crate::facts::name::{AskedName, SourceNumber};
+use crate::facts::name::{AskedName, CutNumber, SourceNumber};
+use crate::facts::question::DnameFacts;
 use dnsv_canonical::{RecordNumber, SignatureNumber};
 use dnsv_lines::{WhyNsec3, WhySource};
 use dnsv_mending::Told;
@@ -16,8 +17,8 @@ pub enum Said {
     Trust(Told),
     /// A wildcard's signature proves nothing, since a closer name may be there: the one with so many labels (RFC 4035 5.3.4).
     NoCloser(SignatureNumber, usize),
-    /// A name above has a DNAME RRset, and no answer is made of it: its labels, and the RRset (RFC 6672).
-    Dname(usize, usize),
+    /// A name above has a DNAME RRset, and no answer is made of it (RFC 6672).
+    Dname(DnameFacts),
     /// A record of a denial has the type DNAME, above the name: the labels of the record's name.
     DnameHeld(usize, RecordNumber),
     /// An NSEC3 record can't be used.
@@ -28,8 +29,8 @@ pub enum Said {
     AnswerMissing(Option<usize>),
     /// There is no answer, and the denials of the zone prove nothing.
     DenialUnproved(usize),
-    /// A name may be an unsigned delegation, and the zone doesn't prove it: the labels of both.
-    DsUnproved(usize, usize),
+    /// A name may be an unsigned delegation, and the zone doesn't prove it.
+    DsUnproved(CutNumber),
 }
 
 impl Said {
@@ -40,13 +41,13 @@ impl Said {
         match self {
             Said::Trust(told) => is_trust_reason(told),
             Said::NoCloser(..)
-            | Said::Dname(..)
+            | Said::Dname(_)
             | Said::DnameHeld(..)
             | Said::Nsec3(..)
             | Said::Source(..)
             | Said::AnswerMissing(_)
             | Said::DenialUnproved(_)
-            | Said::DsUnproved(..) => true,
+            | Said::DsUnproved(_) => true,
         }
     }
 }

@@ -1,8 +1,9 @@
 //! When two lines say the same.
 ghost use Rattle.std.specs.Prelude.{◌≡◌};
-ghost use Rattle.dnsv_remedies.specs.Same.{is_same, is_same_entry, is_same_fault, is_same_name, is_same_nsec3, is_same_number, is_same_record, is_same_role, is_same_signature, is_same_source, is_same_speaker, is_same_times, is_same_told, is_same_why, is_same_zone};
+ghost use Rattle.dnsv_remedies.specs.Same.{is_same, is_same_cut, is_same_dname, is_same_entry, is_same_fault, is_same_name, is_same_nsec3, is_same_number, is_same_record, is_same_role, is_same_signature, is_same_source, is_same_speaker, is_same_times, is_same_told, is_same_why, is_same_zone};
 
-use crate::facts::name::{AskedName, SourceNumber};
+use crate::facts::name::{AskedName, CutNumber, SourceNumber};
+use crate::facts::question::DnameFacts;
 use crate::said::Said;
 use dnsv_canonical::{RecordNumber, SignatureNumber};
 use dnsv_lines::{
@@ -19,9 +20,7 @@ pub fn is_same(one: Said, other: Said) -> bool
         (Said::NoCloser(one, name), Said::NoCloser(other, other_name)) => {
             is_same_signature(one, other) && name == other_name
         }
-        (Said::Dname(name, one), Said::Dname(other_name, other)) => {
-            name == other_name && one == other
-        }
+        (Said::Dname(one), Said::Dname(other)) => is_same_dname(one, other),
         (Said::DnameHeld(name, one), Said::DnameHeld(other_name, other)) => {
             name == other_name && is_same_record(one, other)
         }
@@ -35,9 +34,7 @@ pub fn is_same(one: Said, other: Said) -> bool
         }
         (Said::AnswerMissing(one), Said::AnswerMissing(other)) => is_same_speaker(one, other),
         (Said::DenialUnproved(one), Said::DenialUnproved(other)) => one == other,
-        (Said::DsUnproved(name, one), Said::DsUnproved(other_name, other)) => {
-            name == other_name && one == other
-        }
+        (Said::DsUnproved(one), Said::DsUnproved(other)) => is_same_cut(one, other),
         _ => false,
     }
 }
@@ -184,6 +181,20 @@ fn is_same_role(one: Role, other: Role) -> bool
             | (Role::Name, Role::Name)
             | (Role::Cut, Role::Cut)
     )
+}
+
+/// A name that owns a DNAME RRset.
+fn is_same_dname(one: DnameFacts, other: DnameFacts) -> bool
+    ensures { result ≡ is_same_dname one other }
+{
+    one.labels == other.labels && one.rrset == other.rrset
+}
+
+/// A name below a zone.
+fn is_same_cut(one: CutNumber, other: CutNumber) -> bool
+    ensures { result ≡ is_same_cut one other }
+{
+    one.zone == other.zone && one.name == other.name
 }
 
 /// A source of a zone.

@@ -65,7 +65,7 @@ fn dname_lines(alloc: Global, dnames: &[DnameFacts]) -> Result<Vec<Said>, AllocE
 {
     let mut lines = Vec::with_capacity(alloc, dnames.len())?;
     for dname in dnames {
-        lines.push(Said::Dname(dname.labels, dname.rrset))?;
+        lines.push(Said::Dname(*dname))?;
     }
     Ok(lines)
 }

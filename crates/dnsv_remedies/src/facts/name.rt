@@ -21,6 +21,13 @@ pub struct SourceNumber {
     pub place: usize,
 }
 
+/// A name below a zone, at or above the name that is asked for: how many labels both have.
+#[derive(Clone, Copy, Debug)]
+pub struct CutNumber {
+    pub zone: usize,
+    pub name: usize,
+}
+
 /// An NSEC3 record that can't be used, and why.
 #[derive(Clone, Copy, Debug)]
 pub struct UnusableFacts {
