@@ -1,5 +1,5 @@
 -- What a source of a trusted zone says proves what is asked, or what it lacks fails by itself.
-use Rattle.std.proofs.Common.{◌≡◌, ◌⊎◌, inl, inr, ⊎_elim, ℕ, Bool, true, false, if◌then◌else◌, List, [], ◌∷◌, Option, Some, None, map, refl, sym, ap, ◌∙◌, subst, slice_get}
+use Rattle.std.proofs.Common.{◌≡◌, ◌⊎◌, inl, inr, ⊎_elim, ℕ, Bool, true, false, if◌then◌else◌, List, [], ◌∷◌, Some, map, refl, subst, slice_get}
 use Rattle.std.proofs.lemmas.Option.{same_Some}
 use Rattle.dnsv_lines.specs.declared.line.denial.Role.TheVariants as role
 use Rattle.dnsv_lines.specs.declared.line.fault.denial.WhySource.TheVariants as why
@@ -16,7 +16,6 @@ use Rattle.dnsv_remedies.specs.Remedy.{Remedied, both, missing, nothing}
 use Rattle.dnsv_remedies.specs.Sources.{at_remedy, case_remedy, closed_line, encloser_remedy, held_line, next_remedy, shown_remedy, wildcard_remedy}
 use Rattle.dnsv_remedies.specs.declared.facts.cut.CutCase.{CutCase}
 use Rattle.dnsv_remedies.specs.declared.facts.cut.CutCase.TheVariants as cut
-use Rattle.dnsv_remedies.specs.declared.facts.cut.OptOutFacts.{OptOutFacts}
 use Rattle.dnsv_remedies.specs.declared.facts.denial.EncloserFacts.{EncloserFacts}
 use Rattle.dnsv_remedies.specs.declared.facts.denial.RecordsAt.{RecordsAt}
 use Rattle.dnsv_remedies.specs.declared.facts.denial.RecordsAt.TheVariants as records

@@ -3,7 +3,7 @@ use Rattle.std.proofs.Common.{◌≡◌, ◌⊎◌, inl, inr, ⊎_elim, ◌++◌
 use Rattle.std.proofs.lemmas.Bool.{false≢true, ltb-true}
 use Rattle.dnsv_mending.specs.Examples.{vec}
 use Rattle.dnsv_mending.specs.Mend.{Mended, cheapest}
-use Rattle.dnsv_mending.specs.Reasons.{HasReason, IsClosed, IsClosedSignature, IsSignedRrset}
+use Rattle.dnsv_mending.specs.Reasons.{IsClosed, IsClosedSignature, IsSignedRrset}
 use Rattle.dnsv_mending.specs.Rrset.{rrset_ways, signature_ways}
 use Rattle.dnsv_mending.specs.Ways.{IsAmong}
 use Rattle.dnsv_mending.specs.Zone.{levels_of}

@@ -1,8 +1,7 @@
 -- A question is answered, denied, or shown to be below an unsigned delegation, or what has to be mended is told.
-use Rattle.std.proofs.Common.{◌≡◌, ◌⊎◌, inl, inr, ⊎_elim, ℕ, ◌++◌, ◌&&◌, not, Bool, true, false, if◌then◌else◌, List, [], ◌∷◌, Option, Some, None, map, flat_map, refl, sym, ap, ◌∙◌, subst, slice_get, length}
-use Rattle.std.proofs.lemmas.Bool.{false≢true}
+use Rattle.std.proofs.Common.{◌≡◌, ◌⊎◌, inl, inr, ⊎_elim, ℕ, ◌&&◌, Bool, true, false, if◌then◌else◌, List, [], ◌∷◌, Option, Some, None, flat_map, refl, sym, ap, ◌∙◌, subst, slice_get}
 use Rattle.std.proofs.lemmas.Option.{same_Some}
-use Rattle.std.specs.List.{AllByRecursion, list_any}
+use Rattle.std.specs.List.{AllByRecursion}
 use Rattle.std.specs.Option.{option_map}
 use Rattle.dnsv_mending.specs.Level.{Leveled, zone_above}
 use Rattle.dnsv_mending.specs.Mend.{Mended, cheapest, is_none}
@@ -10,7 +9,6 @@ use Rattle.dnsv_mending.specs.Price as price
 use Rattle.dnsv_mending.specs.Reasons.{IsClosed}
 use Rattle.dnsv_mending.specs.Rrset.{signature_ways}
 use Rattle.dnsv_mending.specs.Ways.{IsAmong}
-use Rattle.dnsv_mending.specs.Within.{is_signer_trusted}
 use Rattle.dnsv_mending.specs.Zone.{is_zone_trusted, levels_of}
 use Rattle.dnsv_mending.specs.declared.facts.signature.SignatureFacts.{SignatureFacts}
 use Rattle.dnsv_mending.specs.declared.facts.zone.ZoneFacts.{ZoneFacts}
@@ -26,8 +24,8 @@ use Rattle.dnsv_remedies.specs.Cuts.{cut_after, cut_least, cut_source_ways, cut_
 use Rattle.dnsv_remedies.specs.Denials.{denial, denial_ways, lacking, other_ways, speaker_ways}
 use Rattle.dnsv_remedies.specs.Parts.{part, zone_kept, zone_of}
 use Rattle.dnsv_remedies.specs.Question.{answer_or_denial, is_below_dname, question_remedy, question_ways}
-use Rattle.dnsv_remedies.specs.Reasons.{HasReason, IsAnswered, IsCaseCut, IsCaseDenial, IsCloserProved, IsCut, IsDenied, IsProved, IsTrusted, IsWhole, IsWholeQuestion, IsPart}
-use Rattle.dnsv_remedies.specs.Remedy.{Remedied, after, beside, both, ended, fault, following, gap, least, missing, nothing, or_gap, unusable_lines, untold, ways_of, whole, with_unusable}
+use Rattle.dnsv_remedies.specs.Reasons.{HasReason, IsCaseCut, IsCaseDenial, IsCloserProved, IsCut, IsDenied, IsProved, IsTrusted, IsWholeQuestion, IsPart}
+use Rattle.dnsv_remedies.specs.Remedy.{Remedied, after, both, ended, fault, following, gap, least, or_gap, unusable_lines, untold, ways_of, whole, with_unusable}
 use Rattle.dnsv_remedies.specs.Sources as sources
 use Rattle.dnsv_remedies.specs.Sources.{case_remedy, source_ways}
 use Rattle.dnsv_remedies.specs.declared.facts.answer.AnswerSignature.{AnswerSignature}

@@ -1,5 +1,5 @@
 -- Remedies that fail, and what is told of them.
-use Rattle.std.proofs.Common.{◌≡◌, ◌⊎◌, inl, inr, ⊎_elim, ℕ, ◌++◌, ◌||◌, Bool, true, false, if◌then◌else◌, List, [], ◌∷◌, Option, Some, None, map, refl, sym, ap, ◌∙◌, subst}
+use Rattle.std.proofs.Common.{◌≡◌, inl, inr, ⊎_elim, ◌++◌, ◌||◌, Bool, true, false, if◌then◌else◌, List, [], ◌∷◌, Option, Some, None, map, refl, sym, ap, ◌∙◌, subst}
 use Rattle.std.proofs.lemmas.Bool.{false≢true}
 use Rattle.std.proofs.lemmas.Option.{same_Some}
 use Rattle.std.proofs.lemmas.List.Folds.{list_any-append}
@@ -9,7 +9,6 @@ use Rattle.dnsv_mending.specs.Price as price
 use Rattle.dnsv_mending.specs.Price.{is_cheaper}
 use Rattle.dnsv_mending.specs.Reasons as trust
 use Rattle.dnsv_mending.specs.declared.price.Class.{Class}
-use Rattle.dnsv_mending.specs.declared.price.Class.TheVariants as class
 use Rattle.dnsv_mending.specs.declared.told.Told.{Told}
 use Rattle.dnsv_mending.proofs.AllWays.{none_some}
 use Rattle.dnsv_mending.proofs.Cheapest.{none_first, none_second}

@@ -5,7 +5,7 @@ use Rattle.std.proofs.lemmas.List.{map-append}
 use Rattle.std.proofs.lemmas.Option.{slice_get-map}
 use Rattle.std.specs.List.{AllByRecursion, list_any}
 use Rattle.std.specs.Option.{option_map}
-use Rattle.dnsv_mending.specs.Faults.{answer_lines, or_else, signature_lines}
+use Rattle.dnsv_mending.specs.Faults.{answer_lines, signature_lines}
 use Rattle.dnsv_mending.specs.Level.{Leveled}
 use Rattle.dnsv_mending.specs.Mend.{Mended, cheapest, fault, is_none, nothing, telling}
 use Rattle.dnsv_mending.specs.Ways.{IsAmong}

@@ -1,5 +1,5 @@
 -- The ways on which a question is answered: by a signature of an RRset that has the name and the type, or is its CNAME RRset.
-use Rattle.std.specs.Prelude.{List, [], ◌∷◌, ◌&&◌, Option, Some, None, Bool, if◌then◌else◌, flat_map}
+use Rattle.std.specs.Prelude.{List, ◌&&◌, Option, Some, None, Bool, if◌then◌else◌, flat_map}
 use Rattle.dnsv_mending.specs.Level.{Leveled}
 use Rattle.dnsv_mending.specs.Mend.{Mended, cheapest, is_none}
 use Rattle.dnsv_mending.specs.Rrset.{signature_ways}

@@ -17,7 +17,6 @@ use Rattle.dnsv_remedies.specs.declared.facts.cut.ParentFacts.{ParentFacts}
 use Rattle.dnsv_remedies.specs.declared.facts.cut.SignedCutFacts.{SignedCutFacts}
 use Rattle.dnsv_remedies.specs.declared.facts.name.AskedName.TheVariants as name
 use Rattle.dnsv_remedies.specs.declared.facts.name.SourceNumber.{SourceNumber}
-use Rattle.dnsv_remedies.specs.declared.said.Said.{Said}
 use Rattle.dnsv_remedies.specs.declared.said.Said.TheVariants as said
 
 -- a record at the name that has DS or SOA

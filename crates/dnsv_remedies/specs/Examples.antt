@@ -1,14 +1,12 @@
 -- Questions that nothing answers, as facts. The zones are those of `Examples` of `dnsv_mending`; in each the zone test. has a
 -- trust anchor and is trusted, and is the one with one label.
 use Rattle.std.specs.Prelude.{ℕ, Bool, true, false, List, [], ◌∷◌, Some, None}
-use Rattle.std.specs.Global.{Vec}
 use Rattle.std.specs.declared.alloc.Global.{Global}
 use Rattle.dnsv_lines.specs.declared.line.fault.denial.WhyNsec3.TheVariants as nsec3
 use Rattle.dnsv_mending.specs.Examples.{clean, none, one, over, record_at, root, signature_at, signed_by, trusted, two}
 use Rattle.dnsv_mending.specs.Zone.{levels_of}
 use Rattle.dnsv_mending.specs.declared.facts.signature.KeyAnswer.TheVariants as answer
 use Rattle.dnsv_mending.specs.declared.facts.signature.RrsetFacts.{RrsetFacts}
-use Rattle.dnsv_mending.specs.declared.facts.signature.SignatureFacts.{SignatureFacts}
 use Rattle.dnsv_mending.specs.declared.facts.zone.ZoneFacts.{ZoneFacts}
 use Rattle.dnsv_remedies.specs.Question.{lines_told, question_remedy}
 use Rattle.dnsv_remedies.specs.declared.facts.answer.GoalFacts.{GoalFacts}

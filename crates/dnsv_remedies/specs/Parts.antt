@@ -1,5 +1,5 @@
 -- A part of a proof: that one of the RRsets of some records is signed by a zone that is taken as trusted.
-use Rattle.std.specs.Prelude.{ℕ, List, [], ◌∷◌, Option, Some, None, flat_map, slice_get}
+use Rattle.std.specs.Prelude.{ℕ, List, [], Option, Some, None, flat_map, slice_get}
 use Rattle.dnsv_mending.specs.Level.{Leveled}
 use Rattle.dnsv_mending.specs.Mend.{Mended, cheapest, ways_of}
 use Rattle.dnsv_mending.specs.Within.{within_ways}
