@@ -25,7 +25,7 @@ is_Less Less h = refl
 is_Less Equal h = absurd (false≢true h)
 is_Less Greater h = absurd (false≢true h)
 
-cheaper_than : (p q r : Price) → is_cheaper p q ≡ true → is_cheaper q r ≡ true → is_cheaper p r ≡ true
+pub cheaper_than : (p q r : Price) → is_cheaper p q ≡ true → is_cheaper q r ≡ true → is_cheaper p r ≡ true
 cheaper_than p q r a b = ap is_lt (price_total.trans p q r (is_Less (price_cmp p q) a) (is_Less (price_cmp q r) b))
 
 by_other : (p q r : Price) (o : Ordering) → price_cmp q r ≡ o → is_lt o ≡ false → price_cmp p r ≡ Less → price_cmp p q ≡ Less
@@ -34,7 +34,7 @@ by_other p q r Equal e h below = price_total.antisymm p q ∙ ap ordering_revers
 by_other p q r Greater e h below = price_total.trans p r q below (price_total.antisymm r q ∙ ap ordering_reverse e)
 
 -- what is cheaper than another is cheaper than what isn't
-cheaper_too : (p q r : Price) → is_cheaper q r ≡ false → is_cheaper p r ≡ true → is_cheaper p q ≡ true
+pub cheaper_too : (p q r : Price) → is_cheaper q r ≡ false → is_cheaper p r ≡ true → is_cheaper p q ≡ true
 cheaper_too p q r h below = ap is_lt (by_other p q r (price_cmp q r) refl h (is_Less (price_cmp p r) below))
 
 -- of ways behind a best one none is cheaper, or the first of the least of these is

@@ -14,11 +14,12 @@ pub use laws::{
     what_is_not_trusted_has_a_reason, what_is_told_is_enough,
     who_grants_nothing_has_what_is_trusted,
 };
-pub use level::{HeldMend, Level};
+pub use level::{HeldMend, Level, zone_above};
 pub use levels::levels_of;
 pub use mend::{Mend, offer, offer_after};
 pub use price::{Class, Price};
 pub use rrset::rrset_mend;
+pub use signature::offer_signature;
 pub use told::Told;
 pub use within::within_mend;
 

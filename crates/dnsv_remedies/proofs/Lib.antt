@@ -1,0 +1,12 @@
+pub mod Better
+pub mod Cases
+pub mod Leads
+pub mod Least
+pub mod Lists
+pub mod Once
+pub mod OneSignature
+pub mod Proved
+pub mod Reasons
+pub mod SameLines
+pub mod Told
+pub mod Within

@@ -1,0 +1,12 @@
+pub mod Answers
+pub mod Cuts
+pub mod Denials
+pub mod Examples
+pub mod InPlace
+pub mod Parts
+pub mod Question
+pub mod Reasons
+pub mod Remedy
+pub mod Said
+pub mod Same
+pub mod Sources
