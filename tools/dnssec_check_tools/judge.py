@@ -54,11 +54,12 @@ from .command import read, run, tell, write
 from .judge_options import INPUTS, command_line, fault_of, once
 from .judging.cluster import WAIT_SECONDS, by_workers
 from .judging.page import Page
+from .judging.processes import in_processes
 from .judging.progress import progress
 from .judging.records import texts_of
 from .judging.report import Report, Text
 from .judging.skew import around
-from .judging.spread import Results, Task, in_processes, processors
+from .judging.spread import Results, Task, processors
 from .judging.tasks import readable, tasks_of
 from .judging.text import Lines, Sums, json_line, rows_text, tsv_head, tsv_line
 from .judging.work import Common
@@ -90,8 +91,8 @@ def table_text(options: argparse.Namespace) -> Optional[Text]:
 def results_of(tasks: Iterable[Task], common: Common, options: argparse.Namespace, count: int) -> Results:
     if options.scheduler:
         return by_workers(tasks, common, once(options.scheduler), options.wait or WAIT_SECONDS)
-    program, jobs = program_of(once(options.program), sys.argv[0]), min(options.jobs or processors(), count)
-    return in_processes(tasks, common, program, jobs)
+    program = program_of(once(options.program), sys.argv[0])
+    return in_processes(tasks, common, program, options.jobs or processors(), count)
 
 
 def judge(options: argparse.Namespace) -> int:

@@ -125,7 +125,7 @@ class HandedOut:
         task = handed.task
         if task.number in self.lost:
             self.alone.discard(task.number)
-            yield task.number, of_lost(task, self.common, LOST)
+            yield task.number, of_lost(task.questions, self.common, LOST)
         else:
             self.lost.add(task.number)
             self.once_more(task)

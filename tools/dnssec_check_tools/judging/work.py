@@ -1,7 +1,8 @@
 """A capture judged: verified once, and asked each question at each moment. All that it reads is octets."""
 import contextlib
+import itertools
 import json
-from typing import Dict, List, NamedTuple, Optional, Tuple
+from typing import Dict, List, NamedTuple, Optional, Tuple, Union
 
 from ..asked import Time
 from ..asking.questions import Question, Questions
@@ -10,7 +11,7 @@ from ..explaining.explanation import Explanation
 from ..explaining.replies import Reply
 from ..explaining.sentences import FAILING
 from ..program import EXPLAIN, FAILED, SECURE, Json, Program, Told, Unlisted
-from ..started import nameless
+from ..started import content_of, nameless
 from ..verifying.verifier import Budget
 
 from .every import NOTHING, every_question
@@ -59,6 +60,15 @@ class Judged(NamedTuple):
     notes: List[str]
 
 
+class Prepared(NamedTuple):
+    """A capture whose signatures are verified and whose questions aren't asked yet."""
+
+    octets: bytes
+    asked: List[Question]
+    statements: bytes
+    notes: List[str]
+
+
 def judged(
     octets: bytes, questions: Questions, common: Common, program: Program, place: Optional[str] = None
 ) -> Judged:
@@ -67,25 +77,58 @@ def judged(
     view = View(octets, common.is_page)
     asked = every_question(view.evidence) if questions is None else questions
     with contextlib.ExitStack() as stack:
-        given = {"capture": octets, "macs": common.macs, "keys": common.keys}
-        files = {
-            name: stack.enter_context(nameless(content)).fileno()
-            for name, content in given.items()
-            if content is not None
-        }
+        files = opened(stack, octets, common)
         try:
             statements, notes = statements_on(files["capture"], common.moments, common.budget, program, place)
         except Unlisted as fault:
             return without_verdicts(questions, common, of_fault(fault.said))
         files[STATEMENTS] = stack.enter_context(statements).fileno()
-        rows, left = [], Time(common.budget.questions)
-        for moment in common.moments:
-            with nameless(common.anchors[moment]) as anchors:
-                opened = {**files, "anchors": anchors.fileno()}
-                told = program.told(EXPLAIN, opened, moment, asked or [NOTHING], left)
-                found = [view.row(moment, question, each) for each, question in zip(told, asked or [NOTHING])]
-                rows += as_one(found, bool(asked)) if questions is None else found
-    return Judged(rows, notes)
+        rows = rows_of(view, asked or [NOTHING], files, common, program)
+    return Judged(joined(rows, questions is None, bool(asked)), notes)
+
+
+def prepared(octets: bytes, asked: List[Question], common: Common, program: Program) -> Union[Prepared, Judged]:
+    """The capture, to be asked by several processes; where the program fails, the rows that say so."""
+    with contextlib.ExitStack() as stack:
+        files = opened(stack, octets, common)
+        try:
+            statements, notes = statements_on(files["capture"], common.moments, common.budget, program)
+        except Unlisted as fault:
+            return without_verdicts(asked, common, of_fault(fault.said))
+        return Prepared(octets, asked, content_of(stack.enter_context(statements)), notes)
+
+
+def share_rows(capture: Prepared, common: Common, program: Program) -> List[List[Row]]:
+    """The rows of a capture that is prepared, of each moment."""
+    with contextlib.ExitStack() as stack:
+        files = opened(stack, capture.octets, common)
+        files[STATEMENTS] = stack.enter_context(nameless(capture.statements)).fileno()
+        return rows_of(View(capture.octets, common.is_page), capture.asked, files, common, program)
+
+
+def opened(stack: contextlib.ExitStack, octets: bytes, common: Common) -> Dict[str, int]:
+    """What all runs of the program read, by the options that name it."""
+    given = {"capture": octets, "macs": common.macs, "keys": common.keys}
+    there = {name: content for name, content in given.items() if content is not None}
+    return {name: stack.enter_context(nameless(content)).fileno() for name, content in there.items()}
+
+
+def rows_of(
+    view: "View", asked: List[Question], files: Dict[str, int], common: Common, program: Program
+) -> List[List[Row]]:
+    """The rows of each moment."""
+    rows, left = [], Time(common.budget.questions)
+    for moment in common.moments:
+        with nameless(common.anchors[moment]) as anchors:
+            told = program.told(EXPLAIN, {**files, "anchors": anchors.fileno()}, moment, asked, left)
+            rows.append([view.row(moment, question, each) for each, question in zip(told, asked)])
+    return rows
+
+
+def joined(by_moment: List[List[Row]], is_of_all: bool, is_asked: bool) -> List[Row]:
+    """The rows of all moments; of all that a capture has, what is refused of it as a whole is one."""
+    rows = [as_one(each, is_asked) for each in by_moment] if is_of_all else by_moment
+    return list(itertools.chain.from_iterable(rows))
 
 
 def as_one(rows: List[Row], is_asked: bool) -> List[Row]:
