@@ -59,7 +59,7 @@ from .judging.progress import progress
 from .judging.records import texts_of
 from .judging.report import Report, Text
 from .judging.skew import around
-from .judging.spread import Results, Task, processors
+from .judging.spread import Results, Task
 from .judging.tasks import readable, tasks_of
 from .judging.text import Lines, Sums, json_line, rows_text, tsv_head, tsv_line
 from .judging.work import Common
@@ -67,6 +67,7 @@ from .outputs import is_same_output, overwritten
 from .program import FAILED, FROM_BEST, REFUSED, WRONG, program_of
 from .resuming.rows import JSONL, TSV
 from .resuming.table import Kept, Table
+from .started import processors
 from .verifying.verifier import Budget
 from .zones.audit import audit_of
 from .zones.told import ZoneText

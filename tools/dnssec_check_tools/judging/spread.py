@@ -1,5 +1,4 @@
 """A capture as it's handed to whoever judges it, and what comes back, whatever becomes of it."""
-import os
 from typing import Callable, Generator, NamedTuple, Optional, Tuple, TypeVar, Union
 
 from ..asking.captures import Unmade, octets_of
@@ -48,10 +47,6 @@ def is_of_read(fault: OSError) -> bool:
     """Whether it's one of a read: that of an open has the file's name, but for a folder's, which the program can
     open."""
     return isinstance(fault, IsADirectoryError) or (fault.errno is not None and fault.filename is None)
-
-
-def processors() -> int:
-    return len(os.sched_getaffinity(0)) if hasattr(os, "sched_getaffinity") else os.cpu_count() or 1
 
 
 def judged_task(task: Task, common: Common, program: Program, place: Optional[str] = None) -> Judged:

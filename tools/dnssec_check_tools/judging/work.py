@@ -8,6 +8,7 @@ from ..asked import Time
 from ..asking.questions import Question, Questions
 from ..capturing.frames import frames_of
 from ..explaining.explanation import Explanation
+from ..explaining.keys import Keys
 from ..explaining.replies import Reply
 from ..explaining.sentences import FAILING
 from ..program import EXPLAIN, FAILED, SECURE, Json, Program, Told, Unlisted
@@ -15,7 +16,7 @@ from ..started import content_of, nameless
 from ..verifying.verifier import Budget
 
 from .every import NOTHING, every_question
-from .evidence import Evidence
+from .evidence import Evidence, keys_of
 from .replies import replies_of
 from .statements import STATEMENTS, statements_on
 
@@ -48,9 +49,10 @@ class Row(NamedTuple):
     evidence: Json
     explained: Optional[Json]
     replies: Optional[Tuple[Reply, ...]] = None
+    keys: Optional[Keys] = None
 
     def told(self) -> Optional[Explanation]:
-        return Explanation(self.explained, self.replies) if self.explained else None
+        return Explanation(self.explained, self.replies, self.keys) if self.explained else None
 
 
 class Judged(NamedTuple):
@@ -147,6 +149,7 @@ class View:
         self.octets, self.is_whole = octets, is_whole
         self.kept: Optional[Evidence] = None
         self.kept_replies: Optional[Tuple[Reply, ...]] = None
+        self.kept_keys: Optional[Keys] = None
 
     @property
     def evidence(self) -> Evidence:
@@ -162,6 +165,13 @@ class View:
             self.kept_replies = replies_of(frames_of(self.octets)[0])
         return self.kept_replies
 
+    @property
+    def keys(self) -> Keys:
+        """Read where a page has a picture."""
+        if self.kept_keys is None:
+            self.kept_keys = keys_of(self.evidence)
+        return self.kept_keys
+
     def row(self, moment: int, question: Question, told: Told) -> Row:
         if told.value is None:
             return Row(moment, question, told.status, told.word, of_fault(told.said), None)
@@ -171,7 +181,8 @@ class View:
         if told.status == SECURE and not self.is_whole:
             told.value["why"] = [line for line in told.value["why"] if line["line"] == HOLDS]
         replies = self.replies if told.word in FAILING else None
-        return Row(moment, question, told.status, told.word, evidence, told.value, replies)
+        keys = self.keys if self.is_whole else None
+        return Row(moment, question, told.status, told.word, evidence, told.value, replies, keys)
 
     def evidence_of(self, value: Json) -> Json:
         """What carries the verdict, besides the aliases."""
