@@ -73,7 +73,7 @@ def command_line(text: Optional[str]) -> argparse.ArgumentParser:
     add_budget(parser, "of a capture")
     add_budget_octets(parser, "of a capture")
     add_budget_questions(parser, "of a capture")
-    parser.add_argument("--jobs", type=whole_number, metavar="N", help="captures at once; else as many as processors")
+    parser.add_argument("--jobs", type=whole_number, metavar="N", help="processes at once; else as many as processors")
     parser.add_argument("--scheduler", action="append", metavar="ADDRESS", help="the address of a Dask scheduler")
     parser.add_argument(
         "--wait",

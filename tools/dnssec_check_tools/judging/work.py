@@ -97,7 +97,8 @@ def prepared(octets: bytes, asked: List[Question], common: Common, program: Prog
             statements, notes = statements_on(files["capture"], common.moments, common.budget, program)
         except Unlisted as fault:
             return without_verdicts(asked, common, of_fault(fault.said))
-        return Prepared(octets, asked, content_of(stack.enter_context(statements)), notes)
+        content = content_of(stack.enter_context(statements))
+    return Prepared(octets, asked, content, notes)
 
 
 def share_rows(capture: Prepared, common: Common, program: Program) -> List[List[Row]]:
@@ -105,7 +106,8 @@ def share_rows(capture: Prepared, common: Common, program: Program) -> List[List
     with contextlib.ExitStack() as stack:
         files = opened(stack, capture.octets, common)
         files[STATEMENTS] = stack.enter_context(nameless(capture.statements)).fileno()
-        return rows_of(View(capture.octets, common.is_page), capture.asked, files, common, program)
+        rows = rows_of(View(capture.octets, common.is_page), capture.asked, files, common, program)
+    return rows
 
 
 def opened(stack: contextlib.ExitStack, octets: bytes, common: Common) -> Dict[str, int]:

@@ -53,7 +53,7 @@ def written(values: Dict[str, Any]) -> Optional[Written]:
     """The row with these values, a text or nothing, and numbers; None where they are others."""
     texts: List[str] = [values[each] or "" for each in ("capture", "name", "type")]
     numbers = [values[each] for each in NUMBERS]
-    if not all(isinstance(each, str) for each in texts) or not all(type(each) is int for each in numbers):
+    if not all(isinstance(each, str) for each in texts) or not all(isinstance(each, int) for each in numbers):
         return None
     capture, name, kind = texts
     moment, status = numbers
