@@ -102,7 +102,9 @@ def zone_without_keys(told: Explanation, name: str) -> Optional[str]:
     """The zone at or above the name that has a DS by what holds, and of whose keys nobody asked: a zone may be unsigned
     altogether."""
     with_ds = {line["owner"] for line in told.of("signed") if line["type"] == DS}
-    lacking = (line["zone"] for line in told.of("reason") if line["word"] == "dnskey-missing" and is_unasked(told, line))
+    lacking = (
+        line["zone"] for line in told.of("reason") if line["word"] == "dnskey-missing" and is_unasked(told, line)
+    )
     return next((zone for zone in lacking if zone in with_ds and f".{name}".endswith(f".{zone}")), None)
 
 

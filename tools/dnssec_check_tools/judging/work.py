@@ -21,6 +21,7 @@ from .replies import replies_of
 from .statements import STATEMENTS, statements_on
 
 DENYING = {47: "NSEC", 50: "NSEC3"}
+Signers = Dict[Tuple[int, int], Tuple[str, int]]  # the signer and the key tag, by RRset and signature
 HOLDS = "holds"  # all that is said of what is secure, but on a page: rows of many questions are to fit into memory
 
 
@@ -178,35 +179,42 @@ class View:
         if told.value is None:
             return Row(moment, question, told.status, told.word, of_fault(told.said), None)
         aliases = told.value["aliases"]
-        evidence = {"aliases": [self.of_alias(each) for each in aliases]} if aliases else {}
-        evidence.update(self.evidence_of(told.value))
+        signers = signers_of(told.value)
+        evidence = {"aliases": [self.of_alias(each, signers) for each in aliases]} if aliases else {}
+        evidence.update(self.evidence_of(told.value, signers))
         if told.status == SECURE and not self.is_whole:
             told.value["why"] = [line for line in told.value["why"] if line["line"] == HOLDS]
         replies = self.replies if told.word in FAILING else None
         keys = self.keys if self.is_whole else None
         return Row(moment, question, told.status, told.word, evidence, told.value, replies, keys)
 
-    def evidence_of(self, value: Json) -> Json:
+    def evidence_of(self, value: Json, signers: Signers) -> Json:
         """What carries the verdict, besides the aliases."""
         if "rrset" in value:
-            return self.of_signature(value["rrset"], value["signature"])
+            return self.of_signature(value["rrset"], value["signature"], signers)
         if "records" in value:
             return {"records": [[each["owner"], DENYING.get(each["type"], each["type"])] for each in value["records"]]}
         if "cut" in value:
             return {"cut": value["cut"]}
         return {"todo": len(value["todo"])} if "todo" in value else {}
 
-    def of_signature(self, rrset: int, signature: int) -> Json:
-        """The numbers, and who signed."""
+    def of_signature(self, rrset: int, signature: int, signers: Signers) -> Json:
+        """The numbers, and who signed: by the lines that say why, else by the capture, which then has to be read."""
         found: Json = {"rrset": rrset, "signature": signature}
-        signed = self.evidence.signature(rrset, signature)
+        signed = signers.get((rrset, signature)) or self.evidence.signature(rrset, signature)
         return {**found, "signer": signed[0], "key": signed[1]} if signed else found
 
-    def of_alias(self, alias: Json) -> Json:
+    def of_alias(self, alias: Json, signers: Signers) -> Json:
         """The same, between the name and its target."""
         target = self.evidence.target(alias["rrset"])
-        found = {"name": alias["name"], **self.of_signature(alias["rrset"], alias["signature"])}
+        found = {"name": alias["name"], **self.of_signature(alias["rrset"], alias["signature"], signers)}
         return {**found, "target": target} if target else found
+
+
+def signers_of(value: Json) -> Signers:
+    """Who signed what, by the lines of what holds."""
+    lines = [line for line in value["why"] if line["line"] in ("signed", "trusted")]
+    return {(line["rrset"], line["signature"]): (line.get("signer") or line["zone"], line["tag"]) for line in lines}
 
 
 def without_verdicts(questions: Questions, common: Common, evidence: Json) -> Judged:
