@@ -23,10 +23,10 @@ What isn't verified of a capture within --budget and --budget-octets stays Unkno
 hangs on it. A line on the standard error says so, and how to give more. With --skew another says what a verdict is by a
 clock that is so many seconds late, or ahead, where it's another one.
 
-With --resume TABLE, the rows of captures that are whole in a table of --tsv or --jsonl, which an earlier run wrote until
-it was interrupted, are printed as they stand there, and the others are judged: what comes out, somewhere else than in
-TABLE, is what a run without it prints. Without --at the moments are those of the table. What the machine failed at is
-judged again, and so is the last capture of the table with --every.
+With --resume TABLE, the rows of captures that are whole in a table of --tsv or --jsonl, which an earlier run wrote
+until it was interrupted, are printed as they stand there, and the others are judged: what comes out, somewhere else
+than in TABLE, is what a run without it prints. Without --at the moments are those of the table. What the machine failed
+at is judged again, and so is the last capture of the table with --every.
 
 With --scheduler, captures go as octets to the workers of a Dask scheduler. A worker needs Python with the packages
 distributed and cryptography, and `dnssec_check` on its own path; the tools' modules are sent to it. Captures of a

@@ -14,7 +14,7 @@ OF_ZONES = (DS, DNSKEY)
 
 def chain_of(told: Explanation) -> Chain:
     """The chain of an explanation."""
-    chain, signers = Chain(), {line["rrset"]: line["signer"] for line in told.of("signed")}
+    chain, signers = Chain(), {line["rrset"]: line["signer"] for line in told.lines if {"rrset", "signer"} <= set(line)}
     scene = Scene(told, chain, signers)
     for line in told.lines:
         DRAWN[line["line"]](scene, line)
@@ -78,10 +78,10 @@ class Scene:
     def of_signature(self, line: Line, state: str, text: str = "") -> None:
         """The edge from the key that signs to the RRset, whichever zone that is in."""
         tail = key_box(self.told, self.chain, line["signer"], line, FOLLOWS if state == FOLLOWS else PLAIN)
-        head = rrset_box(self.chain, line["signer"], line["rrset"], line["owner"], line["type"], state)
-        if line["type"] not in OF_ZONES:
-            self.lead(head, state)
-        self.chain.join(tail, head, state, text)
+        for head in signed_boxes(self, line, state):
+            if line["type"] not in OF_ZONES:
+                self.lead(head, state)
+            self.chain.join(tail, head, state, text)
 
 
 def trusted(scene: Scene, line: Line) -> None:
@@ -96,17 +96,17 @@ def signed(scene: Scene, line: Line) -> None:
     signing, keys = key_box(scene.told, scene.chain, zone, line, HOLDS), ("rrset", line["keys"])
     if (signing, keys, "") not in scene.chain.edges:
         scene.chain.join(keys_box(scene.chain, zone, line["keys"], HOLDS), signing, HOLDS)
-    for head in signed_boxes(scene, line):
+    for head in signed_boxes(scene, line, HOLDS):
         scene.chain.join(signing, head, HOLDS)
 
 
-def signed_boxes(scene: Scene, line: Line) -> List[Key]:
+def signed_boxes(scene: Scene, line: Line, state: str) -> List[Key]:
     """The RRset, or of a DS RRset the records that lines name."""
     zone, number = line["signer"], line["rrset"]
     records = sorted(records_of(scene.told, number)) if line["type"] == DS else []
     if not records:
-        return [rrset_box(scene.chain, zone, number, line["owner"], line["type"], HOLDS)]
-    return [ds_box(scene.chain, scene.signers, (number, record), line["owner"], HOLDS) for record in records]
+        return [rrset_box(scene.chain, zone, number, line["owner"], line["type"], state)]
+    return [ds_box(scene.chain, scene.signers, (number, record), line["owner"], state) for record in records]
 
 
 def records_of(told: Explanation, number: int) -> Set[int]:

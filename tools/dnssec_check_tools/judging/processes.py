@@ -36,7 +36,7 @@ def do(common: Common, program: Program, shares: int, thing: Thing) -> Any:
         return rows_of_share(common, program, thing)
     if shares < 2:
         return answer(common, program, thing)
-    return guarded(lambda: judged_or_prepared(common, program, thing), thing.questions, common)
+    return guarded(functools.partial(judged_or_prepared, common, program, thing), thing.questions, common)
 
 
 def rows_of_share(common: Common, program: Program, share: Share) -> Union[Answer, Rows]:

@@ -83,6 +83,14 @@ class Boxes(unittest.TestCase):
             texts = boxes_of(with_keys(TRUSTED, dict(EXPIRED, rrset=2), other))
             self.assertFalse([text for text in texts if "copies" in text], other)
 
+    def test_a_chain_that_breaks_above_leads_down(self):
+        """From the key over the DS record that it signs to the key below, also where the signature is what fails."""
+        lines = [dict(EXPIRED, owner="b.a.", type=43, rrset=2), {"line": "reason", "word": "key-missing", "ede": 9, "zone": "b.a.", "rrset": 2,
+                                                                "record": 1, "tag": 9, "algorithm": 8, "digest_type": 2}]
+        made = drawn.chain_of(with_keys(*lines))
+        self.assertEqual((made.boxes["ds", 2, 1].zone, ("rrset", 2) in made.boxes), ("a.", False))
+        self.assertIn((("key", "a.", 6, 8), ("ds", 2, 1)), {(each.tail, each.head) for each in made.edges.values()})
+
     def test_relations_are_said_in_plain_english(self):
         """No word of the program stands beside an edge."""
         words = set()
