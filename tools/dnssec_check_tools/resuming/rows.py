@@ -36,15 +36,17 @@ def of_tsv(line: bytes) -> Optional[Written]:
         values.update({each: int(values[each]) for each in NUMBERS})
     except (ValueError, KeyError):
         return None
-    return written(values) if len(fields) == len(COLUMNS) else None
+    is_row = len(fields) == len(COLUMNS) and all(map(str.isprintable, fields))
+    return written(values) if is_row else None
 
 
 def of_json(line: bytes) -> Optional[Written]:
     try:
-        values = json.loads(line)
-    except ValueError:
+        text = line.decode("ascii")
+        values = json.loads(text)
+    except (ValueError, RecursionError):
         return None
-    if not isinstance(values, dict) or list(values) != list(COLUMNS):
+    if not text.isprintable() or not isinstance(values, dict) or list(values) != list(COLUMNS):
         return None
     return written(values)
 

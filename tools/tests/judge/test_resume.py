@@ -1,7 +1,12 @@
 """Tests of tools/judge --resume: rows that an earlier run wrote are taken, and the others are as without it."""
+import json
+import random
 import shutil
 import subprocess
 import unittest
+
+from dnssec_check_tools.judging import text
+from dnssec_check_tools.resuming import rows
 
 from .helper import ANCHORS, JUDGE, NOON, Judging, capture_of, needs_dns
 
@@ -78,13 +83,13 @@ class Resume(Judging):
             self.assertEqual(self.resumed(*words), (status, output, ""))
 
     def test_what_is_no_such_table_is_refused(self):
-        rows = self.told("--tsv", self.captures, *QUESTIONS)[1].splitlines(True)
+        lines = self.told("--tsv", self.captures, *QUESTIONS)[1].splitlines(True)
         for octets, said in ((b"capture\tname\n", f"{self.table} is no table of --tsv: its first line has other columns"),
-                             (b"".join([*rows[:2], b"x\n", *rows[2:]]), f"line 3 of {self.table} is no row of --tsv"),
-                             (b"".join([*rows[:2], rows[2].replace(NOON.encode(), b"noon")]), f"line 3 of {self.table} is no row of --tsv")):
+                             (b"".join([*lines[:2], b"x\n", *lines[2:]]), f"line 3 of {self.table} is no row of --tsv"),
+                             (b"".join([*lines[:2], lines[2].replace(NOON.encode(), b"noon")]), f"line 3 of {self.table} is no row of --tsv")):
             self.table.write_bytes(octets)
             self.assertEqual(self.resumed("--tsv", self.captures, *QUESTIONS), (7, b"", f"judge: refused: {said}\n"))
-        for line in (b"[]\n", b"{}\n", b"1\n", rows[0], b'{"capture": "a"}\n'):
+        for line in (b"[]\n", b"{}\n", b"1\n", lines[0], b'{"capture": "a"}\n', b"[" * 100000 + b"\n"):
             self.table.write_bytes(line)
             told = self.resumed("--jsonl", self.captures, *QUESTIONS)
             self.assertEqual(told, (7, b"", f"judge: refused: line 1 of {self.table} is no row of --jsonl\n"))
@@ -108,6 +113,42 @@ class Resume(Judging):
             done = subprocess.run([str(word) for word in command], stdout=file, stderr=subprocess.PIPE, check=False)
         self.assertEqual((done.returncode, self.table.read_bytes()), (2, b""))
         self.assertIn(f"the standard output is {self.table}, which is read, and would be written", done.stderr.decode())
+
+
+@needs_dns
+class Rows(unittest.TestCase):
+    """What is read of a line, whatever is in it."""
+
+    VALUES = ("a.cap", 7, "b.", "A", 0, "SecureAnswer", {}, None, None, None, [])
+    TSV = b"a.cap\t7\tb.\tA\t0\tSecureAnswer\t\t\t\t\t"
+
+    def test_a_row(self):
+        row = rows.Written("a.cap", 7, "b.", "A", 0)
+        line = json.dumps(dict(zip(text.COLUMNS, self.VALUES))).encode()
+        self.assertEqual((rows.of_tsv(self.TSV), rows.of_json(line)), (row, row))
+        whole = line.replace(b'"b."', b"null").replace(b'"A"', b"null")
+        self.assertEqual(rows.of_json(whole), row._replace(name="", kind=""))
+
+    def test_what_is_none(self):
+        for old, new in ((b"7", b"x"), (b"\t0", b"\t9"), (b"b.", b"b\x1b."), (b"b.", b"b\xff."), (b"\t\t", b"\t"), (b"A", b"A\t")):
+            self.assertIsNone(rows.of_tsv(self.TSV.replace(old, new, 1)), new)
+        for place, new in ((0, 1), (1, "7"), (1, None), (2, ["b."]), (3, 1), (4, 9), (4, "0"), (4, 1.5)):
+            values = [*self.VALUES[:place], new, *self.VALUES[place + 1 :]]
+            self.assertIsNone(rows.of_json(json.dumps(dict(zip(text.COLUMNS, values))).encode()), (place, new))
+        line = json.dumps(dict(zip(text.COLUMNS, self.VALUES)))
+        for other in (line.replace("b.", "b\x7f"), line.replace("b.", "bü"), json.dumps(dict(zip(text.COLUMNS[::-1], self.VALUES)))):
+            self.assertIsNone(rows.of_json(other.encode()), other)
+
+    def test_any_octets(self):
+        """Seeded, so that what fails is found again."""
+        source = random.Random(7)
+        for line in (self.TSV, json.dumps(dict(zip(text.COLUMNS, self.VALUES))).encode()):
+            for _ in range(2000):
+                octets = bytearray(line)
+                for _ in range(source.randrange(1, 4)):
+                    octets[source.randrange(len(octets))] = source.choice(b'\t\n"{}[],:\\\x00\xff0a')
+                for read in (rows.of_tsv, rows.of_json):
+                    self.assertIsInstance(read(bytes(octets)), (rows.Written, type(None)))
 
 
 if __name__ == "__main__":
