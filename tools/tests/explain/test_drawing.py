@@ -1,6 +1,8 @@
 """Tests of what a picture shows as dnsviz does: anchors, entry points, key sizes, what holds; of copies, and how wide it is."""
 import re
+import resource
 import shutil
+import time
 import unittest
 from unittest import mock
 
@@ -8,7 +10,7 @@ from dnssec_check_tools.explaining import chain, drawn, keys, page, picture, sen
 from dnssec_check_tools.explaining.explanation import Explanation
 from dnssec_check_tools.judging.evidence import Evidence, keys_of
 from judge.helper import capture_of, needs, needs_dns
-from .helper import FORMS, lines_of, told_by, told_of
+from .helper import FORMS, NOON, lines_of, told_by, told_of
 
 needs_dot = unittest.skipUnless(shutil.which("dot"), "needs dot of Graphviz")
 TRUSTED = {"line": "trusted", "zone": "a.", "rrset": 1, "signature": 1, "tag": 5, "algorithm": 8, "anchor": 1, "digest_type": 2}
@@ -20,6 +22,11 @@ EXPIRED = {"line": "reason", "word": "expired", "ede": 7, "owner": "c.a.", "type
 def with_keys(*lines, **named):
     told = told_by(*lines, **named)
     return Explanation(told.value, None, KNOWN)
+
+
+def seconds_of_children():
+    used = resource.getrusage(resource.RUSAGE_CHILDREN)
+    return used.ru_utime + used.ru_stime
 
 
 def boxes_of(told):
@@ -148,6 +155,16 @@ class Screens(unittest.TestCase):
         self.assertRegex(text, r'<g +class="node holds entry"')
         self.assertRegex(text, r'<g +class="edge holds"')
         self.assertEqual(len(re.findall("prefers-color-scheme: dark", text)), 1)
+
+    def test_three_hundred_questions_take_little_time(self):
+        """Two seconds of a processor on the machine where it was measured; begun for each picture, Graphviz takes eleven."""
+        names = ("roll-gone", "expired-www-a", "denial3-of-another", "roll-early")
+        told = [told_of(name) for name in names]
+        entries = [page.Entry(f"n{number}. A", "Bogus", "a.cap", NOON, told[number % 4]) for number in range(300)]
+        begun = time.process_time() + seconds_of_children()
+        text = page.page_of(entries, [])
+        self.assertLess(time.process_time() + seconds_of_children() - begun, 6)
+        self.assertEqual(text.count("<svg "), 300)
 
     def test_very_many_pictures_are_laid_out_side_by_side(self):
         chains = [drawn.chain_of(told_by(name=f"n{number}.", verdict="SecureAnswer")) for number in range(103)]
