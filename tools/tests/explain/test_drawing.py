@@ -157,13 +157,13 @@ class Screens(unittest.TestCase):
         self.assertEqual(len(re.findall("prefers-color-scheme: dark", text)), 1)
 
     def test_three_hundred_questions_take_little_time(self):
-        """Two seconds of a processor on the machine where it was measured; begun for each picture, Graphviz takes eleven."""
+        """Two seconds of a processor on the machine where it was measured; begun for each picture, Graphviz takes seven."""
         names = ("roll-gone", "expired-www-a", "denial3-of-another", "roll-early")
         told = [told_of(name) for name in names]
         entries = [page.Entry(f"n{number}. A", "Bogus", "a.cap", NOON, told[number % 4]) for number in range(300)]
         begun = time.process_time() + seconds_of_children()
         text = page.page_of(entries, [])
-        self.assertLess(time.process_time() + seconds_of_children() - begun, 6)
+        self.assertLess(time.process_time() + seconds_of_children() - begun, 5)
         self.assertEqual(text.count("<svg "), 300)
 
     def test_very_many_pictures_are_laid_out_side_by_side(self):
