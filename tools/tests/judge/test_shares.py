@@ -26,12 +26,12 @@ class Shares(Judging):
             self.addCleanup(patch.stop)
         self.common = Common({moment: ANCHORS.read_bytes() for moment in MOMENTS}, None, None, MOMENTS)
 
-    def judged(self, jobs, count=1, questions=ASKED, script=":"):
+    def judged(self, jobs, count=1, questions=ASKED, script=":", octets=WWW.read_bytes()):
         """The verdicts, and how many questions each run of `explain` had at the first moment."""
         log = self.room / f"log-{jobs}-{count}"
         asked = 'for word; do case $word in --questions=*) cat "${word#--questions=}" | wc -l >> ' + str(log) + ";; esac; done"
         program = Program(str(self.stand_in(f'[ "$1" = explain ] && {{ {asked}; }}\n{script}')))
-        tasks = [Task(number, "-", WWW.read_bytes(), None, questions) for number in range(count)]
+        tasks = [Task(number, "-", octets, None, questions) for number in range(count)]
         found = dict(processes.in_processes(tasks, self.common, program, jobs, count))
         return [found[number] for number in range(count)], sorted(map(int, log.read_text().split()))
 
@@ -44,7 +44,9 @@ class Shares(Judging):
                 self.assertEqual(self.judged(jobs), (alone, wanted))
 
     def test_few_questions_and_many_captures_are_not_shared(self):
-        self.assertEqual(self.judged(4, questions=ASKED[:3])[1], [3, 3])
+        with mock.patch.object(processes, "prepared", side_effect=AssertionError):
+            found, sizes = self.judged(4, questions=ASKED[:3])
+        self.assertEqual((sizes, {row.word for row in found[0].rows} & {"fault"}), ([3, 3], set()))
         self.assertEqual(self.judged(4, count=3)[1], [10] * 6)
         self.assertEqual(self.judged(4, count=2)[1], [5] * 8)
 
@@ -62,6 +64,11 @@ class Shares(Judging):
         self.common = self.common._replace(anchors={moment: b"no anchors" for moment in MOMENTS})
         refused = self.judged(2, questions=None)[0]
         self.assertEqual(([row.question for row in refused[0].rows], {row.word for row in refused[0].rows}), ([None] * 2, {"refused"}))
+
+    def test_a_capture_with_nothing_to_ask_for_has_no_rows(self):
+        if self.room in self.program.parents:
+            self.skipTest("the double knows no such questions")
+        self.assertEqual(self.judged(4, questions=None, octets=b"")[0], [([], [])])
 
     def test_a_share_by_which_two_processes_are_lost_has_rows_that_say_so(self):
         kills = '[ "$1" = explain ] && for word; do case $word in --questions=*) grep -q "^c\\." "${word#--questions=}" && kill -KILL $PPID;; esac; done'
