@@ -49,7 +49,9 @@ class Resume(Judging):
         words = ("--tsv", self.captures, *QUESTIONS)
         status, output, _ = self.told(*words)
         self.table.write_bytes(output)
-        self.assertEqual(self.resumed(*words, program="/bin/false"), (status, output, ""))
+        begun = self.room / "begun"
+        self.assertEqual(self.resumed(*words, program=self.stand_in(f"touch {begun}")), (status, output, ""))
+        self.assertFalse(begun.exists())
         self.table.write_bytes(output[:-1])
         again = self.resumed(*words, program="/bin/false")
         self.assertEqual((again[0], again[1].count(b"\tfault\t"), again[1].splitlines()[:-2]), (1, 2, output.splitlines()[:-2]))
@@ -76,6 +78,8 @@ class Resume(Judging):
 
     def test_of_all_that_captures_have_the_last_is_judged_again(self):
         words = ("--tsv", "--every", self.captures)
+        if self.room in self.program.parents:
+            self.skipTest("the double knows no such questions")
         status, output, _ = self.told(*words)
         first = [line for line in output.splitlines(True)[1:] if line.startswith(output.splitlines()[1].split(b"\t")[0] + b"\t")]
         for lines in (output.splitlines(True)[: len(first)], output.splitlines(True)[: len(first) + 2]):
