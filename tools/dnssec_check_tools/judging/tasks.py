@@ -1,6 +1,6 @@
 """The tasks that captures are, read as late as can be."""
 import os
-from typing import Iterable, Iterator, List, Optional, Tuple
+from typing import Container, Iterable, Iterator, List, Optional, Tuple
 
 from ..asking.captures import Unmade, octets_of
 from ..asking.questions import Questions
@@ -13,9 +13,12 @@ from .work import Common
 Asked = List[Tuple[str, Questions]]  # captures with their questions
 
 
-def tasks_of(asked: Asked, page: Optional[Page], is_read_here: bool) -> Iterator[Task]:
-    """A task for each capture, read when it's its turn: by whoever judges it, or here, as is what is no file."""
+def tasks_of(asked: Asked, page: Optional[Page], is_read_here: bool, kept: Container[int] = ()) -> Iterator[Task]:
+    """A task for each capture but for those whose rows are there, read when it's its turn: by whoever judges it, or
+    here, as is what is no file."""
     for number, (path, questions) in enumerate(asked):
+        if number in kept:
+            continue
         task = Task(number, path, None, None, questions)
         if not (page or is_read_here) and path != "-" and os.path.isfile(path):
             yield task

@@ -1,24 +1,27 @@
 """A capture judged: verified once, and asked each question at each moment. All that it reads is octets."""
 import contextlib
+import itertools
 import json
-from typing import Dict, List, NamedTuple, Optional, Tuple
+from typing import Dict, List, NamedTuple, Optional, Tuple, Union
 
 from ..asked import Time
 from ..asking.questions import Question, Questions
 from ..capturing.frames import frames_of
 from ..explaining.explanation import Explanation
+from ..explaining.keys import Keys
 from ..explaining.replies import Reply
 from ..explaining.sentences import FAILING
 from ..program import EXPLAIN, FAILED, SECURE, Json, Program, Told, Unlisted
-from ..started import nameless
+from ..started import content_of, nameless
 from ..verifying.verifier import Budget
 
 from .every import NOTHING, every_question
-from .evidence import Evidence
+from .evidence import Evidence, keys_of
 from .replies import replies_of
 from .statements import STATEMENTS, statements_on
 
 DENYING = {47: "NSEC", 50: "NSEC3"}
+Signers = Dict[Tuple[int, int], Tuple[str, int]]  # the signer and the key tag, by RRset and signature
 HOLDS = "holds"  # all that is said of what is secure, but on a page: rows of many questions are to fit into memory
 
 
@@ -47,15 +50,25 @@ class Row(NamedTuple):
     evidence: Json
     explained: Optional[Json]
     replies: Optional[Tuple[Reply, ...]] = None
+    keys: Optional[Keys] = None
 
     def told(self) -> Optional[Explanation]:
-        return Explanation(self.explained, self.replies) if self.explained else None
+        return Explanation(self.explained, self.replies, self.keys) if self.explained else None
 
 
 class Judged(NamedTuple):
     """The verdicts of a capture, and why signatures could not be verified."""
 
     rows: List[Row]
+    notes: List[str]
+
+
+class Prepared(NamedTuple):
+    """A capture whose signatures are verified and whose questions aren't asked yet."""
+
+    octets: bytes
+    asked: List[Question]
+    statements: bytes
     notes: List[str]
 
 
@@ -67,25 +80,60 @@ def judged(
     view = View(octets, common.is_page)
     asked = every_question(view.evidence) if questions is None else questions
     with contextlib.ExitStack() as stack:
-        given = {"capture": octets, "macs": common.macs, "keys": common.keys}
-        files = {
-            name: stack.enter_context(nameless(content)).fileno()
-            for name, content in given.items()
-            if content is not None
-        }
+        files = opened(stack, octets, common)
         try:
             statements, notes = statements_on(files["capture"], common.moments, common.budget, program, place)
         except Unlisted as fault:
             return without_verdicts(questions, common, of_fault(fault.said))
         files[STATEMENTS] = stack.enter_context(statements).fileno()
-        rows, left = [], Time(common.budget.questions)
-        for moment in common.moments:
-            with nameless(common.anchors[moment]) as anchors:
-                opened = {**files, "anchors": anchors.fileno()}
-                told = program.told(EXPLAIN, opened, moment, asked or [NOTHING], left)
-                found = [view.row(moment, question, each) for each, question in zip(told, asked or [NOTHING])]
-                rows += as_one(found, bool(asked)) if questions is None else found
-    return Judged(rows, notes)
+        rows = rows_of(view, asked or [NOTHING], files, common, program)
+    return Judged(joined(rows, questions is None, bool(asked)), notes)
+
+
+def prepared(octets: bytes, asked: List[Question], common: Common, program: Program) -> Union[Prepared, Judged]:
+    """The capture, to be asked by several processes; where the program fails, the rows that say so."""
+    with contextlib.ExitStack() as stack:
+        files = opened(stack, octets, common)
+        try:
+            statements, notes = statements_on(files["capture"], common.moments, common.budget, program)
+        except Unlisted as fault:
+            return without_verdicts(asked, common, of_fault(fault.said))
+        content = content_of(stack.enter_context(statements))
+    return Prepared(octets, asked, content, notes)
+
+
+def share_rows(capture: Prepared, common: Common, program: Program) -> List[List[Row]]:
+    """The rows of a capture that is prepared, of each moment."""
+    with contextlib.ExitStack() as stack:
+        files = opened(stack, capture.octets, common)
+        files[STATEMENTS] = stack.enter_context(nameless(capture.statements)).fileno()
+        rows = rows_of(View(capture.octets, common.is_page), capture.asked, files, common, program)
+    return rows
+
+
+def opened(stack: contextlib.ExitStack, octets: bytes, common: Common) -> Dict[str, int]:
+    """What all runs of the program read, by the options that name it."""
+    given = {"capture": octets, "macs": common.macs, "keys": common.keys}
+    there = {name: content for name, content in given.items() if content is not None}
+    return {name: stack.enter_context(nameless(content)).fileno() for name, content in there.items()}
+
+
+def rows_of(
+    view: "View", asked: List[Question], files: Dict[str, int], common: Common, program: Program
+) -> List[List[Row]]:
+    """The rows of each moment."""
+    rows, left = [], Time(common.budget.questions)
+    for moment in common.moments:
+        with nameless(common.anchors[moment]) as anchors:
+            told = program.told(EXPLAIN, {**files, "anchors": anchors.fileno()}, moment, asked, left)
+            rows.append([view.row(moment, question, each) for each, question in zip(told, asked)])
+    return rows
+
+
+def joined(by_moment: List[List[Row]], is_of_all: bool, is_asked: bool) -> List[Row]:
+    """The rows of all moments; of all that a capture has, what is refused of it as a whole is one."""
+    rows = [as_one(each, is_asked) for each in by_moment] if is_of_all else by_moment
+    return list(itertools.chain.from_iterable(rows))
 
 
 def as_one(rows: List[Row], is_asked: bool) -> List[Row]:
@@ -104,6 +152,7 @@ class View:
         self.octets, self.is_whole = octets, is_whole
         self.kept: Optional[Evidence] = None
         self.kept_replies: Optional[Tuple[Reply, ...]] = None
+        self.kept_keys: Optional[Keys] = None
 
     @property
     def evidence(self) -> Evidence:
@@ -119,38 +168,53 @@ class View:
             self.kept_replies = replies_of(frames_of(self.octets)[0])
         return self.kept_replies
 
+    @property
+    def keys(self) -> Keys:
+        """Read where a page has a picture."""
+        if self.kept_keys is None:
+            self.kept_keys = keys_of(self.evidence)
+        return self.kept_keys
+
     def row(self, moment: int, question: Question, told: Told) -> Row:
         if told.value is None:
             return Row(moment, question, told.status, told.word, of_fault(told.said), None)
         aliases = told.value["aliases"]
-        evidence = {"aliases": [self.of_alias(each) for each in aliases]} if aliases else {}
-        evidence.update(self.evidence_of(told.value))
+        signers = signers_of(told.value)
+        evidence = {"aliases": [self.of_alias(each, signers) for each in aliases]} if aliases else {}
+        evidence.update(self.evidence_of(told.value, signers))
         if told.status == SECURE and not self.is_whole:
             told.value["why"] = [line for line in told.value["why"] if line["line"] == HOLDS]
         replies = self.replies if told.word in FAILING else None
-        return Row(moment, question, told.status, told.word, evidence, told.value, replies)
+        keys = self.keys if self.is_whole else None
+        return Row(moment, question, told.status, told.word, evidence, told.value, replies, keys)
 
-    def evidence_of(self, value: Json) -> Json:
+    def evidence_of(self, value: Json, signers: Signers) -> Json:
         """What carries the verdict, besides the aliases."""
         if "rrset" in value:
-            return self.of_signature(value["rrset"], value["signature"])
+            return self.of_signature(value["rrset"], value["signature"], signers)
         if "records" in value:
             return {"records": [[each["owner"], DENYING.get(each["type"], each["type"])] for each in value["records"]]}
         if "cut" in value:
             return {"cut": value["cut"]}
         return {"todo": len(value["todo"])} if "todo" in value else {}
 
-    def of_signature(self, rrset: int, signature: int) -> Json:
-        """The numbers, and who signed."""
+    def of_signature(self, rrset: int, signature: int, signers: Signers) -> Json:
+        """The numbers, and who signed: by the lines that say why, else by the capture, which then has to be read."""
         found: Json = {"rrset": rrset, "signature": signature}
-        signed = self.evidence.signature(rrset, signature)
+        signed = signers.get((rrset, signature)) or self.evidence.signature(rrset, signature)
         return {**found, "signer": signed[0], "key": signed[1]} if signed else found
 
-    def of_alias(self, alias: Json) -> Json:
+    def of_alias(self, alias: Json, signers: Signers) -> Json:
         """The same, between the name and its target."""
         target = self.evidence.target(alias["rrset"])
-        found = {"name": alias["name"], **self.of_signature(alias["rrset"], alias["signature"])}
+        found = {"name": alias["name"], **self.of_signature(alias["rrset"], alias["signature"], signers)}
         return {**found, "target": target} if target else found
+
+
+def signers_of(value: Json) -> Signers:
+    """Who signed what, by the lines of what holds."""
+    lines = [line for line in value["why"] if line["line"] in ("signed", "trusted")]
+    return {(line["rrset"], line["signature"]): (line.get("signer") or line["zone"], line["tag"]) for line in lines}
 
 
 def without_verdicts(questions: Questions, common: Common, evidence: Json) -> Judged:

@@ -1,10 +1,12 @@
 """Tests of tools/judge on files of which a capture is made: packets, text and JSON, packed or not."""
 import gzip
+import importlib.util
 import unittest
 from unittest import mock
 
 from dnssec_check_tools.asking import captures
 from dnssec_check_tools.capturing.frames import framed, frames_of
+from dnssec_check_tools.capturing.packed import zstd_library
 from dnssec_check_tools.capturing.sources import other_kind_of
 from tool import DATA, run
 
@@ -13,13 +15,27 @@ from .helper import EXAMPLES, Judging, needs_dns
 DIG, ATLAS, PACKETS = DATA / "dig", DATA / "atlas", DATA / "packets"
 
 
+def has_protobuf():
+    try:
+        return importlib.util.find_spec("google.protobuf") is not None
+    except ModuleNotFoundError:
+        return False
+
+
 @needs_dns
 class Kinds(unittest.TestCase):
     def test_each_kind_gives_what_the_capture_tool_makes(self):
-        for path in (DIG / "dig.txt", DIG / "all.pcap", ATLAS / "results.json", DATA / "dnsviz" / "probe.json"):
+        others = [DIG / "kdig.txt", DIG / "drill.txt"] + ([DATA / "dnstap" / "child.tap"] if has_protobuf() else [])
+        for path in (DIG / "dig.txt", DIG / "all.pcap", ATLAS / "results.json", DATA / "dnsviz" / "probe.json", *others):
             with mock.patch.object(captures, "tell") as told:
                 self.assertEqual(captures.octets_of(str(path)), run("capture", path)[1], path.name)
             self.assertEqual(told.called, path.suffix == ".txt")
+
+    @mock.patch.object(captures, "PORTS", {5300})
+    def test_packets_of_either_form_packed_or_not(self):
+        for name in ("links.pcapng", "loopback.pcap", *(["loopback.pcap.zst"] if zstd_library() else [])):
+            made = captures.octets_of(str(PACKETS / name))
+            self.assertEqual((made, len(made) > 500), (run("capture", "--port", "5300", PACKETS / name)[1], True), name)
 
     def test_what_is_packed(self):
         octets = (DIG / "all.pcap").read_bytes()
@@ -58,9 +74,10 @@ class Kinds(unittest.TestCase):
 @needs_dns
 class Words(Judging):
     def test_packets_are_judged(self):
-        for words in ((), ("--jobs", "1")):
-            status, lines, errors = self.judge(*words, "--at", "1795839900", "--anchors", DIG / "test.ds", DIG / "all.pcap",
-                                               "www.hole.test/A")
+        """From the standard input too."""
+        path = DIG / "all.pcap"
+        for words, given in (((path,), b""), ((path, "--jobs", "1"), b""), (("-",), path.read_bytes())):
+            status, lines, errors = self.judge(*words, "--at", "1795839900", "--anchors", DIG / "test.ds", "www.hole.test/A", given=given)
             self.assertEqual((status, errors), (0, ""), lines)
             self.assertTrue(lines[0].startswith("www.hole.test. A: SecureAnswer, until "))
 
