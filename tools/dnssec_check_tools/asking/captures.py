@@ -161,7 +161,8 @@ def taken_of(file: BinaryIO, path: str) -> Tuple[bytes, bool]:
 
 def capture_of(octets: bytes, kind: str, path: str) -> bytes:
     """The capture that is made of packets, text or JSON, as dnssec_check-capture makes it."""
-    answers, notes = Answers(True, lambda _: None), []
+    answers = Answers(True, lambda _: None)
+    notes: List[Note] = []
     try:
         found = entries_in(octets, kind, shown(path), PORTS, OTHER_MOST)
         answers.take_all(without_notes(found, notes), itertools.repeat(b""))

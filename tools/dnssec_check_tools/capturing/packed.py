@@ -56,8 +56,8 @@ def way_of(octets: bytes, path: str) -> Optional[Tuple[Callable[[], Any], Type[E
 
 
 def unpacked(octets: bytes, path: str, most: Optional[int] = None) -> Tuple[bytes, List[Entry]]:
-    """What the file has, and what is told of it where it is torn; a file that isn't packed as it is. It may have as much
-    as the program reads, or as is told."""
+    """What the file has, and what is told of it where it is torn; a file that isn't packed as it is. It may have as
+    much as the program reads, or as is told."""
     most = UNPACKED_MOST if most is None else most
     way = way_of(octets, path)
     if way is None:

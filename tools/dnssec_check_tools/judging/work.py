@@ -13,7 +13,7 @@ from ..program import EXPLAIN, FAILED, SECURE, Json, Program, Told, Unlisted
 from ..started import nameless
 from ..verifying.verifier import Budget
 
-from .every import NOTHING, every_question
+from .every import NOTHING, every_question, has_too_many
 from .evidence import Evidence
 from .replies import replies_of
 from .statements import STATEMENTS, statements_on
@@ -65,7 +65,7 @@ def judged(
     """The verdicts on the questions, by moment. What is too long to be kept in memory is at the place for a time, where
     one is told. Keys of TSIG never are."""
     view = View(octets, common.is_page)
-    asked = every_question(view.evidence) if questions is None else questions
+    asked = view.every_question() if questions is None else questions
     with contextlib.ExitStack() as stack:
         given = {"capture": octets, "macs": common.macs, "keys": common.keys}
         files = {
@@ -111,6 +111,10 @@ class View:
         if self.kept is None:
             self.kept = Evidence(self.octets)
         return self.kept
+
+    def every_question(self) -> List[Question]:
+        """All that the capture can be asked; nothing where it's refused, however much it has."""
+        return [] if has_too_many(self.octets) else every_question(self.evidence)
 
     @property
     def replies(self) -> Tuple[Reply, ...]:
