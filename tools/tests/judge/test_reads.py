@@ -84,6 +84,22 @@ class Tasks(Room):
         self.assertEqual(self.tasks(path, page), read)
         page.read.assert_called_once_with(0, path, SMALL)
 
+    def test_no_more_are_read_ahead_than_are_judged_at_once(self):
+        """And one that waits; a task may have all octets of a capture."""
+        ahead, given = [], 0
+
+        def tasks():
+            nonlocal given
+            for number in range(20):
+                given += 1
+                yield spread.Task(number, "-", SMALL, None, [])
+
+        with mock.patch.object(spread, "judged", lambda *_: work.Judged([], [])):
+            common = work.Common({}, None, None, [])
+            for done, _ in enumerate(spread.in_processes(tasks(), common, None, 2)):
+                ahead.append(given - done)
+        self.assertEqual((len(ahead), max(ahead)), (20, 3))
+
     def test_a_file_that_is_gone_when_it_is_read(self):
         task, common = spread.Task(0, str(self.room / "gone"), None, None, ["asked"]), work.Common({}, None, None, [5])
         row = work.Row(5, "asked", 1, "fault", {"number": 811, "file": "capture"}, None)
