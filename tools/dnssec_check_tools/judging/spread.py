@@ -17,7 +17,6 @@ MEMORY_OUT, OPEN_FAILED, READ_FAILED = 90, 811, 210
 Result = Tuple[int, Judged]  # by the number of the capture
 Results = Generator[Result, None, None]
 Answer = Union[Judged, Failure]
-Fault = Union[OSError, Unmade]
 
 
 class Task(NamedTuple):
@@ -27,16 +26,25 @@ class Task(NamedTuple):
     number: int
     path: str
     octets: Optional[bytes]
-    fault: Optional[Fault]
+    fault: Optional[Exception]
     questions: Questions
 
 
-def of_unread(task: Task, fault: Fault, common: Common) -> Judged:
+def of_unread(task: Task, fault: Exception, common: Common) -> Judged:
     """The verdicts of a capture that can't be read, or that can't be made of a file of another kind."""
     if isinstance(fault, Unmade):
         return of_unmade(task, fault, common)
+    if not isinstance(fault, OSError):
+        return of_met(task, fault, common)
     number = READ_FAILED if is_of_read(fault) else OPEN_FAILED
     return without_verdicts(task.questions, common, {"number": number, "file": "capture"})
+
+
+def of_met(task: Task, fault: Exception, common: Common) -> Judged:
+    """The rows of a capture by which this tool fails, which is no other capture's fault."""
+    is_memory = isinstance(fault, MemoryError)
+    evidence = {"number": MEMORY_OUT} if is_memory else {"said": f"{type(fault).__name__}: {fault}"}
+    return without_verdicts(task.questions, common, evidence)
 
 
 def of_unmade(task: Task, fault: Unmade, common: Common) -> Judged:
@@ -70,10 +78,8 @@ def answer(common: Common, program: Program, task: Task, place: Optional[str] = 
         return judged_task(task, common, program, place)
     except Failure as fault:
         return fault
-    except MemoryError:
-        return without_verdicts(task.questions, common, {"number": MEMORY_OUT})
     except Exception as fault:  # pylint: disable=broad-exception-caught
-        return without_verdicts(task.questions, common, {"said": f"{type(fault).__name__}: {fault}"})
+        return of_met(task, fault, common)
 
 
 def answer_of(found: Answer) -> Judged:
