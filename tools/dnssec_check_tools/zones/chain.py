@@ -181,12 +181,6 @@ class ByHash(Chain):
         ]
 
 
-class Unused(Chain):
-    """NSEC3 records that the program doesn't use. Who made them would say how long the hashes of all names take."""
-
-    lacking = f"the zone's NSEC3 records have more than {ITERATIONS_MOST} iterations, so none of them is used"
-
-
 def hash_of(label: bytes) -> Optional[bytes]:
     """The hash that the first label of an NSEC3 record's owner writes, None where it writes none (RFC 5155 3)."""
     is_hash = len(label) == 32 and not label.upper().strip(DIGITS[0])
@@ -207,4 +201,7 @@ def chain_of(contents: Contents) -> Chain:
     used = {name: each for name, each in found.items() if each.iterations <= ITERATIONS_MOST}
     if used:
         return ByHash(contents, used)
-    return Unused(contents) if found else Chain(contents)
+    none = Chain(contents)
+    if found:  # who made them would say how long the hashes of all names take
+        none.lacking = f"the zone's NSEC3 records have more than {ITERATIONS_MOST} iterations, so none of them is used"
+    return none
