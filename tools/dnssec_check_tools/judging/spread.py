@@ -42,9 +42,9 @@ def of_unread(task: Task, fault: Exception, common: Common) -> Judged:
 
 def of_met(task: Task, fault: Exception, common: Common) -> Judged:
     """The rows of a capture by which this tool fails, which is no other capture's fault."""
-    is_memory = isinstance(fault, MemoryError)
-    evidence = {"number": MEMORY_OUT} if is_memory else {"said": f"{type(fault).__name__}: {fault}"}
-    return without_verdicts(task.questions, common, evidence)
+    if isinstance(fault, MemoryError):
+        return without_verdicts(task.questions, common, {"number": MEMORY_OUT})
+    return without_verdicts(task.questions, common, {"said": f"{type(fault).__name__}: {fault}"})
 
 
 def of_unmade(task: Task, fault: Unmade, common: Common) -> Judged:
