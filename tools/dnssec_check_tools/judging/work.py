@@ -82,7 +82,7 @@ def judged(
         for moment in common.moments:
             with nameless(common.anchors[moment]) as anchors:
                 opened = {**files, "anchors": anchors.fileno()}
-                told = program.told(EXPLAIN, opened, moment, asked or [NOTHING], left)
+                told = program.told(EXPLAIN, opened, moment, asked or [NOTHING], left, common.budget.octets)
                 found = [view.row(moment, question, each) for each, question in zip(told, asked or [NOTHING])]
                 rows += as_one(found, bool(asked)) if questions is None else found
     return Judged(rows, notes)

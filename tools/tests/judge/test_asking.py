@@ -1,6 +1,8 @@
 """Tests of how judge asks the program: all questions of a capture at a moment in one run, within a time."""
+import json
 import os
 import tempfile
+import tracemalloc
 import unittest
 from unittest import mock
 
@@ -10,6 +12,7 @@ from dnssec_check_tools.asking.faults import Failure
 from dnssec_check_tools.asking.names import labels_of
 from dnssec_check_tools.asking.questions import Question
 from dnssec_check_tools.program import EXPLAIN, OtherAnswer, Program
+from dnssec_check_tools.started import nameless
 from tool import run_program
 
 from .helper import ANCHORS, Judging, capture_of, needs_dns, verdicts
@@ -141,6 +144,58 @@ class Within(Runs):
         left = Time(8, lambda: 0.0)
         self.told(questions=[Question("é.", 1)], left=left)
         self.assertTrue(0 < left.left < 8, left.left)
+
+
+class Memory(Runs):
+    """What the answers take: one that is Pending has all again that nobody verified, of 715 kB two GB."""
+
+    def files(self, size, statements=b""):
+        """The capture, of so many octets, and the statements on it, by the numbers of open files."""
+        opened = {"capture": nameless(bytes(size)), "statements": nameless(statements)}
+        for file in opened.values():
+            self.addCleanup(file.close)
+        return {name: file.fileno() for name, file in opened.items()}
+
+    def said(self, files, stop, octets=1_000_000):
+        path = os.path.join(self.room, "program")
+        with open(path, "w", encoding="ascii") as file:
+            file.write(DOUBLE.format(room=self.room, stop=stop))
+        os.chmod(path, 0o755)
+        return [each.said for each in Program(path).told(EXPLAIN, files, 7, ABC[:2], Time(60), octets)]
+
+    def test_the_program_has_what_statements_and_an_answer_take(self):
+        """It's told in KiB. A capture of which little can be listed has no limit, and a lower one stays."""
+        wait = 'sleep 0.5; [ $name = a. ] && { echo "$(ulimit -v) is the limit" >&2; exit 3; }; true'
+        for size, statements, most in ((4097, b"", 101_000_000), (4097, bytes(5000), 101_020_000), (4096, b"", None)):
+            first, _ = self.said(self.files(size, statements), wait)
+            self.assertEqual(first, f"- {most // 1024 if most else 'unlimited'} is the limit")
+
+    def test_an_answer_for_which_it_has_too_little_is_a_fault_that_says_so(self):
+        for peak, told in ((1_000_001, "- its answer takes more memory than the 101,000,000 octets that it may; --budget-octets OCTETS gives more"), (1_000_000, "90")):
+            with mock.patch.object(asked, "peak_of", lambda process, peak=peak: process.wait() * 0 + peak):
+                self.assertEqual(self.said(self.files(4097), "echo fault 90 >&2; exit 1"), [told] * 2)
+        self.assertEqual(self.said(self.files(4097), "echo fault 91 >&2; exit 1"), ["91"] * 2)
+
+    def test_what_is_to_be_verified_is_counted_and_not_kept(self):
+        entry = b'{"algorithm":13,"key":"%s","data":"%s","signature":"-"}' % (b"ab" * 500, b"01" * 500)
+        front, behind = b'{"name":"a.","type":1,"verdict":"Pending","status":4,"aliases":[],"todo":[', b'],"why":[{"line":"hope","todo":3}]}\n'
+        for count in (0, 1, 2, 3):
+            line = front + b",".join([entry] * count) + behind
+            value = json.loads(line)
+            self.assertEqual(json.loads(program.without_todo(line)), {**value, "todo": [None] * count})
+        bogus = b'{"name":"\\"todo\\":[{.","type":1,"verdict":"Bogus","status":5,"aliases":[],"why":[]}\n'
+        self.assertEqual(program.without_todo(bogus), bogus)
+        line = front + b",".join([entry] * 5000) + behind
+        tracemalloc.start()
+        told = program.told_of(ABC[0], json.loads(program.without_todo(line)))
+        peak = tracemalloc.get_traced_memory()[1]
+        tracemalloc.stop()
+        self.assertEqual((told.status, told.value["todo"]), (4, [None] * 5000))
+        self.assertLess(peak, len(line) / 10)
+
+    def test_no_answer_is_parsed_with_what_is_to_be_verified(self):
+        with mock.patch.object(program, "without_todo", lambda _: b'{"name":"a.","type":1,"verdict":"Bogus","status":5}'):
+            self.assertEqual(self.told(questions=ABC[:1]), ([BOGUS], 1))
 
 
 class Names(unittest.TestCase):

@@ -2,7 +2,7 @@
 import re
 import unittest
 
-from dnssec_check_tools import listed
+from dnssec_check_tools import listed, program
 from dnssec_check_tools.asking import captures
 from dnssec_check_tools.capturing import frames, messages, splitting
 from dnssec_check_tools.judging import cluster, workers
@@ -41,6 +41,8 @@ TOLD = {
         "a line on the standard error says what wasn't verified, and how to raise the budget",
         f"among the last {verifier.KEPT_MOST:,} of the process",
         f"The questions of a capture are asked for {BUDGET.questions} seconds of processor time",
+        f"as the octets of budget-octets and {listed.MEMORY_BESIDES:,} more, and "
+        f"{ {4: 'four'}.get(program.OF_STATEMENTS)} times the octets of the statements",
         f"{frames.MESSAGES_MOST} messages of {messages.MESSAGE_SIZE_MOST:,} octets, and one message more",
         f"A file of another kind may have twice as much, {captures.OTHER_MOST:,} octets, and no more once it is unpacked",
         "FIFOs, sockets and devices in a folder are passed over, each with a note",
