@@ -28,7 +28,8 @@ FROM_BEST = (*VERDICTS, REFUSED, FAILED)
 LIST, CHECK, EXPLAIN = "list", "check", "explain"
 
 MORE_TIME, MORE_OCTETS = "--budget-questions SECONDS gives more", "--budget-octets OCTETS gives more"
-OF_STATEMENTS = 4  # times their octets, which the program takes of memory for them at most
+# What the program takes of memory at most for an octet of a file; what it takes for a capture is a part of the rest.
+OF_STATEMENTS, OF_OTHERS = 4, 8
 TODO, BEHIND = b'"todo":[', b"}]"  # where what is to be verified begins and ends in the object of an answer
 OPEN = "/proc/self/fd"  # where a process finds the files that it has open
 
@@ -103,8 +104,7 @@ class Program:
         """What CHECK or EXPLAIN says of each question, in their order, while there is time. One run answers all, but
         for those whose names no file of questions can have; an answer takes so many octets of memory."""
         words = [subcommand, *named(files), f"--moment={moment}", "--json"]
-        memory = None if octets is None else memory_for(files, octets)
-        asking = Asking(self, words, list(files.values()), left, memory)
+        asking = Asking(self, words, files, left, octets)
         together = list(map(spelled, questions))
         answers = asking.together([each for each in together if each])
         for question, each in zip(questions, together):
@@ -112,19 +112,20 @@ class Program:
 
 
 class Asking(NamedTuple):
-    """How questions are asked: the words of each run, and the files that it keeps open."""
+    """How questions are asked: the words of each run, the files that it keeps open, and for how many octets of answers
+    it has memory."""
 
     program: Program
     words: List[str]
-    kept: List[int]
+    files: Files
     left: Time
-    memory: Optional[Memory]
+    octets: Optional[int]
 
     def alone(self, question: Question) -> Told:
         if self.left.left <= 0:
             return of_late(self.left)
         words = [*self.words, f"--name={question.name[:NAME_MOST]}", f"--type={question.kind}"]
-        done = self.program.run(words, {str(number): number for number in self.kept})
+        done = self.program.run(words, self.files)
         self.left.spend(done.seconds)
         if done.status in VERDICTS and done.output:
             return told_by(json.loads(done.output))
@@ -152,25 +153,28 @@ class Asking(NamedTuple):
 
     def run(self, questions: int) -> Asked:
         words = [self.program.path, *self.words, *named({"questions": questions})]
-        return Asked(words, [*self.kept, questions], self.left, self.memory)
+        files = {**self.files, "questions": questions}
+        memory = None if self.octets is None else memory_for(files, self.octets)
+        return Asked(words, files.values(), self.left, memory)
 
     def end_of(self, run: Asked) -> Told:
         """What is told of a question that the run didn't answer."""
         if run.is_over:
             return of_late(self.left)
-        if run.is_full and self.memory:
-            said = f"its answer takes more memory than the {self.memory.most:,} octets that it may; {MORE_OCTETS}"
+        if run.is_full and run.memory:
+            said = f"its answer takes more memory than the {run.memory.most:,} octets that it may; {MORE_OCTETS}"
             return Told(FAILED, "fault", None, f"- {said}")
         return told_without_verdict(Run(run.status, "", run.errors), self.words[0])
 
 
 def memory_for(files: Files, octets: int) -> Optional[Memory]:
-    """What a run may take of memory whose answers take so many octets of it: what statements take, and what all else
-    does. A capture of which little can be listed needs no limit."""
-    if os.fstat(files["capture"]).st_size <= LISTS_LITTLE:
+    """What a run may take of memory whose answers take so many octets of it: what the other files take, and what all
+    else does. A capture of which little can be listed needs no limit."""
+    sizes = {name: os.fstat(number).st_size for name, number in files.items()}
+    if sizes.pop("capture") <= LISTS_LITTLE:
         return None
-    statements = os.fstat(files["statements"]).st_size
-    return Memory(octets + MEMORY_BESIDES + OF_STATEMENTS * statements, octets)
+    of_files = OF_STATEMENTS * sizes.pop("statements", 0) + OF_OTHERS * sum(sizes.values())
+    return Memory(octets + MEMORY_BESIDES + of_files, octets)
 
 
 def without_todo(line: bytes) -> bytes:

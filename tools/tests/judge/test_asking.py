@@ -164,16 +164,25 @@ class Memory(Runs):
         return [each.said for each in Program(path).told(EXPLAIN, files, 7, ABC[:2], Time(60), octets)]
 
     def test_the_program_has_what_statements_and_an_answer_take(self):
-        """It's told in KiB. A capture of which little can be listed has no limit, and a lower one stays."""
+        """Told in KiB; the two questions have ten octets. A capture of which little can be listed has no limit, and a lower one stays."""
         wait = 'sleep 0.5; [ $name = a. ] && { echo "$(ulimit -v) is the limit" >&2; exit 3; }; true'
-        for size, statements, most in ((4097, b"", 101_000_000), (4097, bytes(5000), 101_020_000), (4096, b"", None)):
+        for size, statements, most in ((4097, b"", 101_000_080), (4097, bytes(5000), 101_020_080), (4096, b"", None)):
             first, _ = self.said(self.files(size, statements), wait)
             self.assertEqual(first, f"- {most // 1024 if most else 'unlimited'} is the limit")
 
+    def test_all_files_count_but_the_capture(self):
+        """Of statements each line has long fields, of others it may be a few octets."""
+        files = self.files(5000, bytes(300))
+        self.assertEqual(program.memory_for(files, 7), asked.Memory(7 + 100_000_000 + 4 * 300, 7))
+        with nameless(bytes(50)) as anchors, nameless(bytes(7)) as questions:
+            more = {**files, "anchors": anchors.fileno(), "questions": questions.fileno()}
+            self.assertEqual(program.memory_for(more, 7).most, 7 + 100_000_000 + 4 * 300 + 8 * 57)
+
     def test_an_answer_for_which_it_has_too_little_is_a_fault_that_says_so(self):
-        for peak, told in ((1_000_001, "- its answer takes more memory than the 101,000,000 octets that it may; --budget-octets OCTETS gives more"), (1_000_000, "90")):
+        text = "- its answer takes more memory than the 101,000,0{}0 octets that it may; --budget-octets OCTETS gives more"
+        for peak, told in ((1_000_001, [text.format(number) for number in (8, 4)]), (1_000_000, ["90", "90"])):
             with mock.patch.object(asked, "peak_of", lambda process, peak=peak: process.wait() * 0 + peak):
-                self.assertEqual(self.said(self.files(4097), "echo fault 90 >&2; exit 1"), [told] * 2)
+                self.assertEqual(self.said(self.files(4097), "echo fault 90 >&2; exit 1"), told)
         self.assertEqual(self.said(self.files(4097), "echo fault 91 >&2; exit 1"), ["91"] * 2)
 
     def test_what_is_to_be_verified_is_counted_and_not_kept(self):
@@ -194,8 +203,8 @@ class Memory(Runs):
         self.assertLess(peak, len(line) / 10)
 
     def test_no_answer_is_parsed_with_what_is_to_be_verified(self):
-        with mock.patch.object(program, "without_todo", lambda _: b'{"name":"a.","type":1,"verdict":"Bogus","status":5}'):
-            self.assertEqual(self.told(questions=ABC[:1]), ([BOGUS], 1))
+        with mock.patch.object(program, "without_todo", lambda _: b'{"name":"a.","type":1,"verdict":"Insecure","status":3}'):
+            self.assertEqual(self.told(questions=ABC[:1]), (["Insecure"], 1))
 
 
 class Names(unittest.TestCase):

@@ -11,6 +11,7 @@ from tool import TOOLS
 
 DOCS = TOOLS.parent / "docs"
 BUDGET = verifier.Budget()
+TIMES = {4: "four", 8: "eight"}
 SECONDS = {10: "ten"}.get(BUDGET.seconds, str(BUDGET.seconds))
 
 
@@ -41,8 +42,8 @@ TOLD = {
         "a line on the standard error says what wasn't verified, and how to raise the budget",
         f"among the last {verifier.KEPT_MOST:,} of the process",
         f"The questions of a capture are asked for {BUDGET.questions} seconds of processor time",
-        f"as the octets of budget-octets and {listed.MEMORY_BESIDES:,} more, and "
-        f"{ {4: 'four'}.get(program.OF_STATEMENTS)} times the octets of the statements",
+        f"as the octets of budget-octets and {listed.MEMORY_BESIDES:,} more, {TIMES.get(program.OF_STATEMENTS)} times the octets of the "
+        f"statements, and {TIMES.get(program.OF_OTHERS)} times those of the other files",
         f"{frames.MESSAGES_MOST} messages of {messages.MESSAGE_SIZE_MOST:,} octets, and one message more",
         f"A file of another kind may have twice as much, {captures.OTHER_MOST:,} octets, and no more once it is unpacked",
         "FIFOs, sockets and devices in a folder are passed over, each with a note",
