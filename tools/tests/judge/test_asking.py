@@ -15,7 +15,7 @@ from dnssec_check_tools.program import EXPLAIN, OtherAnswer, Program
 from dnssec_check_tools.started import nameless
 from tool import run_program
 
-from .helper import ANCHORS, Judging, capture_of, needs_dns, verdicts
+from .helper import ANCHORS, EXAMPLES, Judging, capture_of, needs_dns, verdicts
 
 WWW = capture_of("bind-www-a")
 LATE = "not asked: the {} seconds for the questions of a capture are over; --budget-questions SECONDS gives more"
@@ -201,6 +201,18 @@ class Memory(Runs):
         tracemalloc.stop()
         self.assertEqual((told.status, told.value["todo"]), (4, [None] * 5000))
         self.assertLess(peak, len(line) / 10)
+
+    def test_it_is_in_answers_of_the_program_too(self):
+        """And each other answer stays as it is."""
+        counts = []
+        for path in sorted(EXAMPLES.glob("*/explain.json")) + sorted(EXAMPLES.glob("*/check.json")):
+            for line in path.read_bytes().splitlines(keepends=True):
+                value = json.loads(line)
+                counts.append(len(value.get("todo", ())))
+                wanted = {**value, "todo": [None] * counts[-1]} if "todo" in value else value
+                self.assertEqual(json.loads(program.without_todo(line)), wanted)
+        self.assertGreater(sum(counts), 2)
+        self.assertGreater(counts.count(0), 20)
 
     def test_no_answer_is_parsed_with_what_is_to_be_verified(self):
         with mock.patch.object(program, "without_todo", lambda _: b'{"name":"a.","type":1,"verdict":"Insecure","status":3}'):
