@@ -14,7 +14,6 @@ MEMORY_OUT, OPEN_FAILED, READ_FAILED = 90, 811, 210
 Result = Tuple[int, Judged]  # by the number of the capture
 Results = Generator[Result, None, None]
 Answer = Union[Judged, Failure]
-Fault = Union[OSError, Unmade]
 Found = TypeVar("Found")
 
 
@@ -25,16 +24,25 @@ class Task(NamedTuple):
     number: int
     path: str
     octets: Optional[bytes]
-    fault: Optional[Fault]
+    fault: Optional[Exception]
     questions: Questions
 
 
-def of_unread(task: Task, fault: Fault, common: Common) -> Judged:
+def of_unread(task: Task, fault: Exception, common: Common) -> Judged:
     """The verdicts of a capture that can't be read, or that can't be made of a file of another kind."""
     if isinstance(fault, Unmade):
         return of_unmade(task, fault, common)
+    if not isinstance(fault, OSError):
+        return of_met(task.questions, fault, common)
     number = READ_FAILED if is_of_read(fault) else OPEN_FAILED
     return without_verdicts(task.questions, common, {"number": number, "file": "capture"})
+
+
+def of_met(questions: Questions, fault: Exception, common: Common) -> Judged:
+    """The rows of a capture by which this tool fails, which is no other capture's fault."""
+    if isinstance(fault, MemoryError):
+        return without_verdicts(questions, common, {"number": MEMORY_OUT})
+    return without_verdicts(questions, common, {"said": f"{type(fault).__name__}: {fault}"})
 
 
 def of_unmade(task: Task, fault: Unmade, common: Common) -> Judged:
@@ -73,10 +81,8 @@ def guarded(judge: Callable[[], Found], questions: Questions, common: Common) ->
         return judge()
     except Failure as fault:
         return fault
-    except MemoryError:
-        return without_verdicts(questions, common, {"number": MEMORY_OUT})
     except Exception as fault:  # pylint: disable=broad-exception-caught
-        return without_verdicts(questions, common, {"said": f"{type(fault).__name__}: {fault}"})
+        return of_met(questions, fault, common)
 
 
 def answer_of(found: Union[Found, Failure]) -> Found:

@@ -2,7 +2,8 @@
 import os
 from typing import Container, Iterable, Iterator, List, Optional, Tuple
 
-from ..asking.captures import Unmade, octets_of
+from ..asking.captures import octets_of
+from ..asking.faults import Failure
 from ..asking.questions import Questions
 
 from .page import Page
@@ -25,7 +26,9 @@ def tasks_of(asked: Asked, page: Optional[Page], is_read_here: bool, kept: Conta
             continue
         try:
             task = task._replace(octets=octets_of(path))
-        except (OSError, Unmade) as fault:
+        except Failure:
+            raise
+        except Exception as fault:  # pylint: disable=broad-exception-caught
             yield task._replace(fault=fault)
             continue
         if page:

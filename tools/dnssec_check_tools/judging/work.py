@@ -15,7 +15,7 @@ from ..program import EXPLAIN, FAILED, SECURE, Json, Program, Told, Unlisted
 from ..started import content_of, nameless
 from ..verifying.verifier import Budget
 
-from .every import NOTHING, every_question
+from .every import NOTHING, every_question, has_too_many
 from .evidence import Evidence, keys_of
 from .replies import replies_of
 from .statements import STATEMENTS, statements_on
@@ -78,7 +78,7 @@ def judged(
     """The verdicts on the questions, by moment. What is too long to be kept in memory is at the place for a time, where
     one is told. Keys of TSIG never are."""
     view = View(octets, common.is_page)
-    asked = every_question(view.evidence) if questions is None else questions
+    asked = view.every_question() if questions is None else questions
     with contextlib.ExitStack() as stack:
         files = opened(stack, octets, common)
         try:
@@ -125,7 +125,8 @@ def rows_of(
     rows, left = [], Time(common.budget.questions)
     for moment in common.moments:
         with nameless(common.anchors[moment]) as anchors:
-            told = program.told(EXPLAIN, {**files, "anchors": anchors.fileno()}, moment, asked, left)
+            given = {**files, "anchors": anchors.fileno()}
+            told = program.told(EXPLAIN, given, moment, asked, left, common.budget.octets)
             rows.append([view.row(moment, question, each) for each, question in zip(told, asked)])
     return rows
 
@@ -160,6 +161,10 @@ class View:
         if self.kept is None:
             self.kept = Evidence(self.octets)
         return self.kept
+
+    def every_question(self) -> List[Question]:
+        """All that the capture can be asked; nothing where it's refused, however much it has."""
+        return [] if has_too_many(self.octets) else every_question(self.evidence)
 
     @property
     def replies(self) -> Tuple[Reply, ...]:
