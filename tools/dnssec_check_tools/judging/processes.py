@@ -7,11 +7,9 @@ from typing import Any, Deque, Dict, Iterable, Iterator, List, NamedTuple, Optio
 from ..asking.captures import Unmade
 from ..program import Program
 
-from .every import every_question
-from .evidence import Evidence
 from .skew import folded, widened
 from .spread import Answer, Result, Results, Task, answer, answer_of, guarded, judged_task, of_lost, of_unread, read_now
-from .work import Common, Judged, Prepared, Row, joined, prepared, share_rows, without_verdicts
+from .work import Common, Judged, Prepared, Row, View, joined, prepared, share_rows, without_verdicts
 from .workers import Lost, Workers
 
 SHARE_LEAST = 500  # questions of a share: fewer take less time than it takes to begin with them
@@ -56,7 +54,7 @@ def judged_or_prepared(common: Common, program: Program, task: Task) -> Union[Ju
     except (OSError, Unmade) as fault:
         return of_unread(task, fault, common)
     task = task._replace(octets=octets)
-    asked = every_question(Evidence(octets)) if task.questions is None else task.questions
+    asked = View(octets).every_question() if task.questions is None else task.questions
     if len(asked) < 2 * SHARE_LEAST:
         return judged_task(task, common, program)
     found = prepared(octets, asked, widened(common), program)
