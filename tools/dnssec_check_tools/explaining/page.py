@@ -27,6 +27,7 @@ class Entry:
     capture: str
     moment: int
     told: Optional[Explanation]
+    odd: Sequence[Said] = ()
 
 
 @dataclass
@@ -45,6 +46,7 @@ class Verdict:
     capture: str
     moment: str
     chain: Optional[Chain]
+    odd: Sequence[Said]
 
 
 def library() -> Any:
@@ -112,4 +114,4 @@ def verdict_of(entry: Entry, picture: str) -> Verdict:
     if entry.told:
         lines = [sentence(entry.told, line) for line in entry.told.lines]
         chain = Chain(why(entry.told), markup(picture[len(SVG) :]), lines)
-    return Verdict(entry.question, entry.said, entry.capture, moment_text(entry.moment), chain)
+    return Verdict(entry.question, entry.said, entry.capture, moment_text(entry.moment), chain, entry.odd)

@@ -28,7 +28,7 @@ class Report:
     def say(self, path: str, found: Judged) -> None:
         for note in found.notes:
             tell(f"{escaped(path)}: {note}")
-        self.worst = max([self.worst, *(row.status for row in found.rows)], key=FROM_BEST.index)
+        self.worst = max([self.worst, *(row.ending for row in found.rows)], key=FROM_BEST.index)
         write("-", self.text(path, found.rows).encode())
         if self.page:
             self.page.take(path, found.rows)

@@ -10,6 +10,9 @@ from ..explaining.values import counted
 from ..judging.every import DENYING
 from ..judging.text import INDENT, Lines
 from ..judging.work import Row
+from ..odd.found import each_once
+from ..odd.kinds import Odd
+from ..odd.transfers import gaps_of
 from ..program import BOGUS, INSECURE, SECURE
 
 from .audit import Audit
@@ -27,6 +30,7 @@ class Found:
         self.proved: Counter[str] = Counter()
         self.words: Counter[str] = Counter()
         self.shown: Set[str] = set()  # owners of the chain's records that proofs have
+        self.odd: Set[Odd] = set()
 
     def take(self, item: Item, row: Row) -> bool:
         """Whether the row has the verdict that the item wants."""
@@ -38,6 +42,7 @@ class Found:
             self.words[row.word] += 1
         if row.status in (SECURE, INSECURE):
             self.shown.update(owners_of(row))
+        self.odd.update(row.odd or ())
         return is_wanted
 
 
@@ -92,6 +97,8 @@ class ZoneText(Lines):
         if found.words:
             yield "not proved: " + ", ".join(f"{count} {word}" for word, count in found.words.most_common())
         yield from self.of_chain(found)
+        if self.is_odd_told:
+            yield from map(str, each_once([*found.odd, *gaps_of(self.audit.chain)]))
 
     def of_chain(self, found: Found) -> Iterator[str]:
         """Which records of the chain no proof has: where no name was found that lies in their gap."""
