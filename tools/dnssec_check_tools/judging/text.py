@@ -136,6 +136,9 @@ class Sums(Lines):
         moments = itertools.groupby(rows, key=lambda row: row.moment)
         return "".join(self.of_moment(capture, list(group)) for _, group in moments)
 
+    def behind(self, row: Row) -> List[Any]:
+        return list(reasons_of(row))
+
     def of_moment(self, capture: str, rows: List[Row]) -> str:
         asked = [row for row in rows if row.question]
         others = super().text(capture, [row for row in rows if row.status != SECURE])
@@ -145,8 +148,8 @@ class Sums(Lines):
         return f"{head}\n{others}{self.odd_of(asked)}"
 
     def odd_of(self, rows: List[Row]) -> str:
-        """What is odd of all that is secure, once."""
-        found = each_once(odd for row in rows if row.status == SECURE for odd in row.odd or ())
+        """What is odd of all of them, each once."""
+        found = each_once(odd for row in rows for odd in row.odd or ())
         return "".join(f"{INDENT}{escaped(str(odd))}\n" for odd in (found if self.is_odd_told else ()))
 
 
