@@ -219,7 +219,7 @@ def audit(options: argparse.Namespace) -> int:
     paths = [path for path, _ in without_questions(options.words, options.questions, "--zone")]
     zone = audit_of(paths, set(options.port or [53]))
     lines = ZoneText(zone, len(common.moments) > 1, paths_of(options))
-    lines.is_odd_told = options.warn
+    lines.is_odd_told, lines.failing = options.warn, options.fail_on or frozenset()
     report = Report(table_text(options) or lines.text, zone.labels, None)
     judge_tasks(zone.tasks(), report, common, options)
     if not table_text(options):

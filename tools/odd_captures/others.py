@@ -98,5 +98,7 @@ def table(room: Room, zones: list[tuple[Case, Made]]) -> Iterator[str]:
     for name, of_odd in found.items():
         if not name.startswith(BESIDE):
             of_twin = found[BESIDE + name]
-            cells = [", ".join(dict.fromkeys(one for one in odd if one not in twin)) for odd, twin in zip(of_odd, of_twin)]
+            cells = [
+                ", ".join(dict.fromkeys(one for one in odd if one not in twin)) for odd, twin in zip(of_odd, of_twin)
+            ]
             yield f"| `{name.split('.')[0]}` | {' | '.join(cells)} |"

@@ -40,6 +40,15 @@ def cds_and_ds(scene: Scene, zone: Zone) -> Iterator[Odd]:
     wanted, has = set(asked_ds(scene, zone)), set(zone.ds.ds if zone.ds else ())
     if wanted and has and wanted != has:
         yield Odd("cds-and-ds", owned(zone.name, CDS), change(wanted, has))
+    keys = asked_keys(scene, zone)
+    if keys and has and not wanted and not are_of(has, keys, zone):
+        yield Odd("cds-and-ds", owned(zone.name, CDNSKEY), "the parent has DS records of other keys than it asks for")
+
+
+def are_of(records: Set[Ds], keys: List[Key], zone: Zone) -> bool:
+    """Whether each record is of one of the keys, and each key has one."""
+    pairs = [(each, key) for each in records for key in keys if is_of(each, zone.keys.labels, key)]
+    return len({each for each, _ in pairs}) == len(records) and len({key for _, key in pairs}) == len(set(keys))
 
 
 def change(wanted: Set[Ds], has: Set[Ds]) -> str:

@@ -3,9 +3,7 @@ import functools
 from importlib import resources
 from typing import Dict, NamedTuple
 
-from ..explaining.said import Said
-
-ODD = "ODD"
+from ..explaining.said import ODD, Said
 
 
 class Kind(NamedTuple):

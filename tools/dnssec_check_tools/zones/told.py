@@ -1,7 +1,7 @@
 """What is found of a zone, in lines: what isn't proved as it's proved or not, and then how much is."""
 import itertools
 from collections import Counter
-from typing import Dict, Iterator, List, Set
+from typing import Dict, FrozenSet, Iterator, List, Set
 
 from ..asking.faults import escaped
 from ..asking.moments import moment_text
@@ -13,7 +13,7 @@ from ..judging.work import Row
 from ..odd.found import each_once
 from ..odd.kinds import Odd
 from ..odd.transfers import gaps_of
-from ..program import BOGUS, INSECURE, SECURE
+from ..program import BOGUS, FROM_BEST, INSECURE, ODD, SECURE
 
 from .audit import Audit
 from .questions import GAP, RRSET, TYPE, Item
@@ -55,7 +55,10 @@ def owners_of(row: Row) -> Iterator[str]:
 
 
 class ZoneText(Lines):
-    """Lines of what isn't proved, as the captures come, and a sum of all."""
+    """Lines of what isn't proved, as the captures come, and a sum of all. Gaps of the chain are no verdict's, so that
+    they fail is told here."""
+
+    failing: FrozenSet[str] = frozenset()
 
     def __init__(self, audit: Audit, has_moments: bool, paths: Dict[str, str]) -> None:
         super().__init__(False, has_moments, paths)
@@ -81,11 +84,14 @@ class ZoneText(Lines):
     def sums(self) -> str:
         """What all of it comes to, at each moment."""
         lacking = self.audit.lacking()
-        self.worst = BOGUS if lacking else self.worst
+        gaps = list(gaps_of(self.audit.chain))
+        is_failing = any(odd.word in self.failing for odd in gaps)
+        self.worst = max(self.worst, BOGUS if lacking else ODD if is_failing else SECURE, key=FROM_BEST.index)
         lines = [f"zone {self.audit.zone}: {each}" for each in lacking]
         for moment, found in self.found.items():
             at = f" at {moment_text(moment)}" if self.has_moments else ""
-            lines += [f"zone {self.audit.zone}{at}: {each}" for each in self.of_moment(found)]
+            odd = each_once([*found.odd, *gaps] if self.is_odd_told else [])
+            lines += [f"zone {self.audit.zone}{at}: {each}" for each in (*self.of_moment(found), *odd)]
         return "".join(escaped(line) + "\n" for line in lines)
 
     def of_moment(self, found: Found) -> Iterator[str]:
@@ -97,8 +103,6 @@ class ZoneText(Lines):
         if found.words:
             yield "not proved: " + ", ".join(f"{count} {word}" for word, count in found.words.most_common())
         yield from self.of_chain(found)
-        if self.is_odd_told:
-            yield from map(str, each_once([*found.odd, *gaps_of(self.audit.chain)]))
 
     def of_chain(self, found: Found) -> Iterator[str]:
         """Which records of the chain no proof has: where no name was found that lies in their gap."""

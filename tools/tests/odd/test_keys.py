@@ -127,6 +127,8 @@ class Handovers(unittest.TestCase):
         self.assertEqual(self.told(handovers.cds_and_ds, held, [ds_of(held)]), [])
         self.assertEqual(self.told(handovers.cds_and_ds, held, [ds_of(held)], rrset(kind=CDS, rdata=[ds(0, 0, 0, b"\0")])),
                          ["it asks for no DS, and the parent has 1 DS record"])
+        for rows, count in (([held], 0), ([other], 1), ([held, other], 1)):
+            self.assertEqual(len(self.told(handovers.cds_and_ds, held, [ds_of(held)], rrset(kind=CDNSKEY, rdata=rows))), count)
         name = f"the DS of key {key_tag(other)} (ECDSAP256SHA256) by SHA-256"
         self.assertEqual(self.told(handovers.cds_and_ds, held, [ds_of(held), ds_of(other)], cds), [f"the parent has {name} besides"])
         self.assertEqual(self.told(handovers.cds_and_ds, held, [ds_of(held)], rrset(kind=CDS, rdata=[ds_of(held), ds_of(other)])),
