@@ -18,6 +18,7 @@ AT_ONCE = 3
 NUMBER = re.compile(r"\b\d+\b")
 OF_LOOPBACK = "PRIVATE_IP"
 OF_VERIFIED = re.compile(r"[1-9]\d* (?:stand-by|revoked)|.*\b(?:[Mm]issing|[Bb]ad|failed|broken|not signed)\b.*")
+UNVERIFIED = "cannot verify signature, reason unknown"
 ODD_LEVELS = ("WARNING", "ERROR", "CRITICAL", "NOTICE")
 Told = list[str]
 
@@ -63,7 +64,8 @@ def of_verify(room: Room, made: Made) -> Told:
 
 def of_validns(room: Room, made: Made) -> Told:
     words = ["validns", "-p", "all", "-z", made.name, f"{made.name}.served"]
-    return [line.partition(": ")[2] for line in ran(words, room.folder, is_checked=False).splitlines()]
+    lines = [line.partition(": ")[2] for line in ran(words, room.folder, is_checked=False).splitlines()]
+    return [line for line in lines if not line.endswith(UNVERIFIED)]  # as each is of an algorithm that it can't verify
 
 
 def of_ldns(room: Room, made: Made) -> Told:
