@@ -136,7 +136,7 @@ class View:
         aliases = told.value["aliases"]
         evidence = {"aliases": [self.of_alias(each) for each in aliases]} if aliases else {}
         evidence.update(self.evidence_of(told.value))
-        odd = self.oddities.of(self.evidence, Explanation(told.value)) if self.oddities else None
+        odd = self.oddities.of(lambda: self.evidence, Explanation(told.value)) if self.oddities else None
         if told.status == SECURE and not self.is_whole:
             told.value["why"] = [line for line in told.value["why"] if line["line"] == HOLDS]
         replies = self.replies if told.word in FAILING else None

@@ -62,12 +62,12 @@ class Oddities:
         self.records: Optional[Records] = None
         self.kept: Dict[Any, List[Odd]] = {}
 
-    def of(self, evidence: Evidence, told: Explanation) -> Tuple[Odd, ...]:
+    def of(self, read: Callable[[], Evidence], told: Explanation) -> Tuple[Odd, ...]:
         """By kind, each once; of what isn't proved nothing is said."""
         if told.value["verdict"] not in OF_CHAINS:
             return ()
         if self.records is None:
-            self.records = Records(evidence)
+            self.records = Records(read())
         return tuple(each_once(self.found_in(Scene(self.records, told, self.wish.soon))))
 
     def found_in(self, scene: Scene) -> Iterable[Odd]:

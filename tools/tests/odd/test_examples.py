@@ -1,4 +1,5 @@
 """Tests that what is odd of the examples stands on the page, with why it stays."""
+import functools
 import json
 import re
 import unittest
@@ -19,7 +20,7 @@ def found():
         capture, (line, *more) = path.parent / "capture", path.read_text().splitlines()
         if capture.exists() and not more:
             told = Explanation(json.loads(line))
-            yield path.parent.name, words_of(Oddities(Wish()).of(Evidence(capture.read_bytes()), told))
+            yield path.parent.name, words_of(Oddities(Wish()).of(functools.partial(Evidence, capture.read_bytes()), told))
 
 
 class Examples(unittest.TestCase):

@@ -1,4 +1,5 @@
 """Tests that whatever octets a capture has, what is odd of it is found without a fault: a fault would be a verdict's."""
+import functools
 import json
 import random
 import unittest
@@ -29,7 +30,8 @@ class Mutations(unittest.TestCase):
             told = Explanation(json.loads((EXAMPLES / name / "explain.json").read_text()))
             for number in range(TRIES):
                 with self.subTest(name=name, number=number):
-                    found = Oddities(Wish()).of(Evidence(changed(octets, chance)), told)
+                    read = functools.partial(Evidence, changed(octets, chance))
+                    found = Oddities(Wish()).of(read, told)
                     count += len(list(map(str, found)))
         self.assertGreater(count, 100)
 
