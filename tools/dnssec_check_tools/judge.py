@@ -177,7 +177,7 @@ def paths_of(options: argparse.Namespace) -> Dict[str, str]:
 
 def text_of(options: argparse.Namespace, has_captures: bool, has_moments: bool) -> Text:
     lines = (Sums if options.every else Lines)(has_captures, has_moments, paths_of(options))
-    lines.is_odd_told = options.warn
+    lines.is_odd_told, lines.failing = options.warn, options.fail_on or frozenset()
     return table_text(options) or lines.text
 
 

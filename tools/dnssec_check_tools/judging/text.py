@@ -2,7 +2,7 @@
 import itertools
 import json
 from collections import Counter
-from typing import Any, Callable, Dict, List, Optional, Tuple
+from typing import Any, Callable, Dict, FrozenSet, Iterable, List, Optional, Tuple
 
 from ..asking.faults import escaped
 from ..asking.kinds import mnemonic_of
@@ -12,6 +12,7 @@ from ..explaining.said import Said
 from ..explaining.sentences import holds_until, reasons, verdict, why
 from ..explaining.values import counted
 from ..odd.found import each_once, words_of
+from ..odd.kinds import Odd
 from ..program import FROM_BEST, SECURE, Json
 from .colours import coloured
 from .numbers import fault_text
@@ -99,7 +100,8 @@ def words_behind(evidence: Json) -> str:
 class Lines:
     """Lines for people; what is the same in all of them is left out."""
 
-    is_odd_told = False
+    is_odd_told = False  # what is odd; of these kinds it's told anyway, since a status may say so
+    failing: FrozenSet[str] = frozenset()
 
     def __init__(self, has_captures: bool, has_moments: bool, paths: Dict[str, str]) -> None:
         self.has_captures, self.has_moments, self.paths = has_captures, has_moments, paths
@@ -115,7 +117,10 @@ class Lines:
 
     def behind(self, row: Row) -> List[Any]:
         """The sentences below the line: why it isn't secure, and what is odd of it, where that is told."""
-        return [*reasons_of(row), *(row.odd or () if self.is_odd_told else ())]
+        return [*reasons_of(row), *self.odd_told(row.odd or ())]
+
+    def odd_told(self, found: Iterable[Odd]) -> List[Odd]:
+        return [odd for odd in each_once(found) if self.is_odd_told or odd.word in self.failing]
 
     def at(self, row: Row) -> str:
         return f" at {moment_text(row.moment)}" if self.has_moments else ""
@@ -149,8 +154,8 @@ class Sums(Lines):
 
     def odd_of(self, rows: List[Row]) -> str:
         """What is odd of all of them, each once."""
-        found = each_once(odd for row in rows for odd in row.odd or ())
-        return "".join(f"{INDENT}{escaped(str(odd))}\n" for odd in (found if self.is_odd_told else ()))
+        found = self.odd_told(odd for row in rows for odd in row.odd or ())
+        return "".join(f"{INDENT}{escaped(str(odd))}\n" for odd in found)
 
 
 def counts_text(rows: List[Row]) -> str:

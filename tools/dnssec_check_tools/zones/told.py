@@ -1,7 +1,7 @@
 """What is found of a zone, in lines: what isn't proved as it's proved or not, and then how much is."""
 import itertools
 from collections import Counter
-from typing import Dict, FrozenSet, Iterator, List, Set
+from typing import Dict, Iterator, List, Set
 
 from ..asking.faults import escaped
 from ..asking.moments import moment_text
@@ -10,7 +10,6 @@ from ..explaining.values import counted
 from ..judging.every import DENYING
 from ..judging.text import INDENT, Lines
 from ..judging.work import Row
-from ..odd.found import each_once
 from ..odd.kinds import Odd
 from ..odd.transfers import gaps_of
 from ..program import BOGUS, FROM_BEST, INSECURE, ODD, SECURE
@@ -58,8 +57,6 @@ class ZoneText(Lines):
     """Lines of what isn't proved, as the captures come, and a sum of all. Gaps of the chain are no verdict's, so that
     they fail is told here."""
 
-    failing: FrozenSet[str] = frozenset()
-
     def __init__(self, audit: Audit, has_moments: bool, paths: Dict[str, str]) -> None:
         super().__init__(False, has_moments, paths)
         self.audit, self.parts = audit, iter(audit.parts)
@@ -90,7 +87,7 @@ class ZoneText(Lines):
         lines = [f"zone {self.audit.zone}: {each}" for each in lacking]
         for moment, found in self.found.items():
             at = f" at {moment_text(moment)}" if self.has_moments else ""
-            odd = each_once([*found.odd, *gaps] if self.is_odd_told else [])
+            odd = self.odd_told([*found.odd, *gaps])
             lines += [f"zone {self.audit.zone}{at}: {each}" for each in (*self.of_moment(found), *odd)]
         return "".join(escaped(line) + "\n" for line in lines)
 

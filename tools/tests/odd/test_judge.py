@@ -41,6 +41,8 @@ class Odd(Judging):
             status, (row,), errors = self.noon("--fail-on", words, "--jsonl", WWW, "www.bind.test/A")
             value = json.loads(row)
             self.assertEqual((status, value["status"], value["verdict"], errors), (wanted, wanted, "SecureAnswer", ""))
+            status, lines, _ = self.noon("--fail-on", words, WWW, "www.bind.test/A")
+            self.assertEqual((status, lines[1:]), (wanted, [ODD] if wanted else []))
 
     def test_what_is_worse_stays(self):
         cut = capture_of("bind-cut-www")
