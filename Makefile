@@ -70,6 +70,7 @@ pages: | $(program)
 	tools/pages --installed docs/BREAKS.md
 	tools/incidents --against docs/BREAKS.md
 	tools/pages --installed docs/AUDITING.md
+	tools/pages --installed docs/ODD.md
 	tools/pages --installed examples/README.md
 	tools/pages --installed README.md dnssec_check "To install it" "The program by itself"
 

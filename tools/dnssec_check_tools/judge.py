@@ -16,8 +16,12 @@ valid, and what the aliases on the way lead to, or what is refused and what to d
 stands why: what fails first (FAIL) with its extended DNS error [EDE N], and behind that what only lacks since nobody
 asked; what the zone has beside what is wanted (HAS), what follows (THEN), and how far the chain holds (HOLDS); where
 something may be unsigned, why (WHY). --tsv has a first line with the columns: capture, moment (in seconds since 1970),
-name, type, status, verdict, evidence, until, reason, ede, reasons; --jsonl has the values by these names. The verdict
-is the program's word, or `refused` or `fault`. What can't be shown is `\\xNN`. --html writes a page that loads nothing.
+name, type, status, verdict, evidence, until, reason, ede, reasons, odd; --jsonl has the values by these names. The
+verdict is the program's word, or `refused` or `fault`. What can't be shown is `\\xNN`. --html writes a page that loads
+nothing.
+
+With --warn lines ODD say what is odd of what is proved, with the RFC that says so: an opinion that changes no verdict.
+The manual page has its kinds, by the words of the column odd, which --fail-on takes.
 
 What isn't verified of a capture within --budget and --budget-octets stays Unknown, so that a verdict is Pending that
 hangs on it. A line on the standard error says so, and how to give more. With --skew another says what a verdict is by a
@@ -38,10 +42,10 @@ signatures on curves cryptography (python3-cryptography), --scheduler distribute
 progress, which only a terminal gets, rich (python3-rich). --html needs jinja2 (python3-jinja2), and for its pictures
 Graphviz (graphviz).
 
-exit status: that of the worst verdict, as `dnssec_check check` has it. From the best to the worst: 0, secure; 3,
-Insecure; 4, Pending; 5, Bogus; 6, Indeterminate; 7, an input is refused; 1, the machine failed. 2, the command line is
-wrong, or an output is a file that is read, and nothing was judged; 130, 143, 129, it was interrupted, or ended by
-SIGTERM or SIGHUP.
+exit status: that of the worst verdict, as `dnssec_check check` has it. From the best to the worst: 0, secure; 8,
+secure, with something odd that --fail-on names; 3, Insecure; 4, Pending; 5, Bogus; 6, Indeterminate; 7, an input is
+refused; 1, the machine failed. 2, the command line is wrong, or an output is a file that is read, and nothing was
+judged; 130, 143, 129, it was interrupted, or ended by SIGTERM or SIGHUP.
 """
 import argparse
 import os
@@ -68,6 +72,7 @@ from .judging.spread import Results, Task
 from .judging.tasks import readable, tasks_of
 from .judging.text import Lines, Sums, json_line, rows_text, tsv_head, tsv_line
 from .judging.work import Common
+from .odd.options import wish_of
 from .outputs import is_same_output, overwritten
 from .program import FAILED, FROM_BEST, REFUSED, WRONG, program_of
 from .resuming.rows import JSONL, TSV
@@ -85,8 +90,9 @@ def paths_of(options: argparse.Namespace) -> Dict[str, str]:
 
 
 def text_of(options: argparse.Namespace, has_captures: bool, has_moments: bool) -> Text:
-    kind = Sums if options.every else Lines
-    return table_text(options) or kind(has_captures, has_moments, paths_of(options)).text
+    lines = (Sums if options.every else Lines)(has_captures, has_moments, paths_of(options))
+    lines.is_odd_told, lines.failing = options.warn, options.fail_on or frozenset()
+    return table_text(options) or lines.text
 
 
 def table_text(options: argparse.Namespace) -> Optional[Text]:
@@ -129,6 +135,7 @@ def audit(options: argparse.Namespace) -> int:
     paths = [path for path, _ in without_questions(options.words, options.questions, "--zone")]
     zone = audit_of(paths, set(options.port or [53]))
     lines = ZoneText(zone, len(common.moments) > 1, paths_of(options))
+    lines.is_odd_told, lines.failing = options.warn, options.fail_on or frozenset()
     report = Report(table_text(options) or lines.text, zone.labels, None)
     judge_tasks(zone.tasks(), report, common, options, {})
     if not table_text(options):
@@ -148,7 +155,7 @@ def common_of(options: argparse.Namespace, written: Iterable[int] = ()) -> Commo
     keys, macs = (read(path[0]) if path else None for path in (options.keys, options.macs))
     budget = Budget(options.budget, options.budget_octets, options.budget_questions)
     anchors = anchors_of(once(options.anchors), around(moments, options.skew))
-    return Common(anchors, keys, macs, moments, budget, bool(options.html), options.skew)
+    return Common(anchors, keys, macs, moments, budget, bool(options.html), options.skew, wish_of(options))
 
 
 def judge_tasks(

@@ -6,6 +6,7 @@ from .asking.anchors import ROOT
 from .command import parser_of
 from .judging.cluster import WAIT_SECONDS
 from .judging.skew import skew_of
+from .odd.options import add_odd
 from .program import NAME
 from .verifying.verifier import add_budget, add_budget_octets, add_budget_questions
 from .zones.audit import port
@@ -69,6 +70,7 @@ def command_line(text: Optional[str]) -> argparse.ArgumentParser:
         metavar="FILE",
         help="write a page with the sentences, a picture of each chain, and the records; needs Graphviz",
     )
+    add_odd(parser)
     parser.add_argument("--records", action="store_true", help="print the records of the captures, with their numbers")
     add_budget(parser, "of a capture")
     add_budget_octets(parser, "of a capture")

@@ -23,8 +23,9 @@ BUILT = os.path.join("crates", NAME, "out", NAME)
 NAME_MOST = 4096
 QUESTIONS_MOST = 1 << 20  # that a file of questions may have
 SECURE, INSECURE, PENDING, BOGUS, INDETERMINATE, REFUSED, FAILED, WRONG = 0, 3, 4, 5, 6, 7, 1, 2
+ODD = 8  # of a verdict that is secure, where something odd of it is to fail
 VERDICTS = (SECURE, INSECURE, PENDING, BOGUS, INDETERMINATE)
-FROM_BEST = (*VERDICTS, REFUSED, FAILED)
+FROM_BEST = (SECURE, ODD, *VERDICTS[1:], REFUSED, FAILED)
 LIST, CHECK, EXPLAIN = "list", "check", "explain"
 
 MORE_TIME, MORE_OCTETS = "--budget-questions SECONDS gives more", "--budget-octets OCTETS gives more"

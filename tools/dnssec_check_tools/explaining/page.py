@@ -27,6 +27,7 @@ class Entry:
     capture: str
     moment: int
     told: Optional[Explanation]
+    odd: Sequence[Said] = ()
 
 
 @dataclass
@@ -47,6 +48,7 @@ class Verdict:
     capture: str
     moment: str
     chain: Optional[Chain]
+    odd: Sequence[Said]
 
 
 def library() -> Any:
@@ -115,4 +117,4 @@ def verdict_of(entry: Entry, picture: Optional[Picture]) -> Verdict:
         lines = [sentence(entry.told, line) for line in entry.told.lines]
         place = None if picture.broken_at is None else round(100 * picture.broken_at)
         chain = Chain(why(entry.told), markup(picture.svg[len(SVG) :]), picture.width, place, lines)
-    return Verdict(entry.question, entry.said, entry.capture, moment_text(entry.moment), chain)
+    return Verdict(entry.question, entry.said, entry.capture, moment_text(entry.moment), chain, entry.odd)

@@ -36,7 +36,7 @@ class Report:
     def say(self, path: str, found: Judged) -> None:
         for note in found.notes:
             tell(f"{escaped(path)}: {note}")
-        self.write(self.text(path, found.rows).encode(), [row.status for row in found.rows])
+        self.write(self.text(path, found.rows).encode(), [row.ending for row in found.rows])
         if self.page:
             self.page.take(path, found.rows)
 

@@ -11,7 +11,9 @@ from ..explaining.explanation import Explanation
 from ..explaining.keys import Keys
 from ..explaining.replies import Reply
 from ..explaining.sentences import FAILING
-from ..program import EXPLAIN, FAILED, SECURE, Json, Program, Told, Unlisted
+from ..odd.found import Oddities, Wish
+from ..odd.kinds import Odd
+from ..program import EXPLAIN, FAILED, ODD, SECURE, Json, Program, Told, Unlisted
 from ..started import content_of, nameless
 from ..verifying.verifier import Budget
 
@@ -36,6 +38,7 @@ class Common(NamedTuple):
     budget: Budget = Budget()
     is_page: bool = False
     skew: int = 0
+    wish: Optional[Wish] = None  # what is odd, where that is to be looked for
 
 
 class Row(NamedTuple):
@@ -51,9 +54,16 @@ class Row(NamedTuple):
     explained: Optional[Json]
     replies: Optional[Tuple[Reply, ...]] = None
     keys: Optional[Keys] = None
+    odd: Optional[Tuple[Odd, ...]] = None  # None where nobody looked
+    is_failing: bool = False  # for something odd, though it's secure
 
     def told(self) -> Optional[Explanation]:
         return Explanation(self.explained, self.replies, self.keys) if self.explained else None
+
+    @property
+    def ending(self) -> int:
+        """The exit status of the verdict."""
+        return ODD if self.is_failing and self.status == SECURE else self.status
 
 
 class Judged(NamedTuple):
@@ -77,7 +87,7 @@ def judged(
 ) -> Judged:
     """The verdicts on the questions, by moment. What is too long to be kept in memory is at the place for a time, where
     one is told. Keys of TSIG never are."""
-    view = View(octets, common.is_page)
+    view = View(octets, common.is_page, common.wish)
     asked = view.every_question() if questions is None else questions
     with contextlib.ExitStack() as stack:
         files = opened(stack, octets, common)
@@ -107,7 +117,7 @@ def share_rows(capture: Prepared, common: Common, program: Program) -> List[List
     with contextlib.ExitStack() as stack:
         files = opened(stack, capture.octets, common)
         files[STATEMENTS] = stack.enter_context(nameless(capture.statements)).fileno()
-        rows = rows_of(View(capture.octets, common.is_page), capture.asked, files, common, program)
+        rows = rows_of(View(capture.octets, common.is_page, common.wish), capture.asked, files, common, program)
     return rows
 
 
@@ -149,8 +159,9 @@ def as_one(rows: List[Row], is_asked: bool) -> List[Row]:
 class View:
     """What the records of a capture say of verdicts."""
 
-    def __init__(self, octets: bytes, is_whole: bool = False) -> None:
+    def __init__(self, octets: bytes, is_whole: bool = False, wish: Optional[Wish] = None) -> None:
         self.octets, self.is_whole = octets, is_whole
+        self.oddities = Oddities(wish) if wish else None
         self.kept: Optional[Evidence] = None
         self.kept_replies: Optional[Tuple[Reply, ...]] = None
         self.kept_keys: Optional[Keys] = None
@@ -187,11 +198,13 @@ class View:
         signers = signers_of(told.value)
         evidence = {"aliases": [self.of_alias(each, signers) for each in aliases]} if aliases else {}
         evidence.update(self.evidence_of(told.value, signers))
+        odd = self.oddities.of(lambda: self.evidence, Explanation(told.value)) if self.oddities else None
         if told.status == SECURE and not self.is_whole:
             told.value["why"] = [line for line in told.value["why"] if line["line"] == HOLDS]
         replies = self.replies if told.word in FAILING else None
         keys = self.keys if self.is_whole else None
-        return Row(moment, question, told.status, told.word, evidence, told.value, replies, keys)
+        is_failing = bool(self.oddities and self.oddities.is_failing(odd or ()))
+        return Row(moment, question, told.status, told.word, evidence, told.value, replies, keys, odd, is_failing)
 
     def evidence_of(self, value: Json, signers: Signers) -> Json:
         """What carries the verdict, besides the aliases."""

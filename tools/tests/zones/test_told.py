@@ -3,6 +3,7 @@ import unittest
 from unittest import mock
 
 from dnssec_check_tools.judging.work import Row
+from dnssec_check_tools.odd.kinds import Odd
 from dnssec_check_tools.zones import told
 from dnssec_check_tools.zones.audit import Audit
 from dnssec_check_tools.zones.names import Hashing
@@ -56,6 +57,16 @@ class Told(unittest.TestCase):
             self.assertEqual((len(lines), worst), (1, 0))
             self.assertTrue(lines[0].endswith(f": {word}"))
             self.assertIn("zone example.: 13 RRsets: 12 proved", sums)
+
+    def test_gaps_of_the_chain_are_odd(self):
+        """Which a status tells where that is asked for."""
+        rows, gap = [self.row(item) for item in self.audit.items], Odd("chain-gap", "a. NSEC", "it names b.")
+        with mock.patch.object(told, "gaps_of", lambda _: [gap]):
+            self.assertEqual([self.said(rows)[1][-1] == f"zone example.: {gap}", self.said(rows)[2]], [False, 0])
+            with mock.patch.multiple(ZoneText, is_odd_told=True, failing={"chain-gap"}):
+                self.assertEqual([self.said(rows)[1][-1], self.said(rows)[2]], [f"zone example.: {gap}", 8])
+            with mock.patch.multiple(ZoneText, is_odd_told=True, failing={"rsa-short"}):
+                self.assertEqual(self.said(rows)[2], 0)
 
     def test_moments_are_summed_up_by_themselves(self):
         rows = [self.row(item, moment=moment) for moment in (0, 7) for item in self.audit.items]
