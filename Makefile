@@ -70,31 +70,39 @@ pages: | $(program)
 	tools/pages --installed docs/BREAKS.md
 	tools/incidents --against docs/BREAKS.md
 	tools/pages --installed docs/AUDITING.md
+	tools/pages --installed docs/ODD.md
 	tools/pages --installed examples/README.md
 	tools/pages --installed README.md dnssec_check "To install it" "The program by itself"
 
-# The program, the tools as dnssec_check-capture, -verify and -judge, their manual pages, bash's completions, and the
-# schema of what the program writes in JSON. A tool starts the package that lies beside it; `pip install .` installs the
+# The program, the tools as dnssec_check-capture, -verify and -judge, their manual pages, the completions of bash, zsh and
+# fish, and the schema of what the program writes in JSON. A tool starts the package that lies beside it; `pip install .` installs the
 # tools alone, into Python's own place.
 tools = capture verify judge
 package = dnssec_check_tools
 modules = $(shell cd tools && find $(package) -type f ! -path '*/__pycache__/*')
 lib = $(DESTDIR)$(PREFIX)/lib/dnssec_check
 man = $(DESTDIR)$(PREFIX)/share/man/man1
-completions = $(DESTDIR)$(PREFIX)/share/bash-completion/completions
+of_bash = $(DESTDIR)$(PREFIX)/share/bash-completion/completions
+# Where zsh looks, which is another folder for Debian's packages.
+ZSH_FOLDER = site-functions
+of_zsh = $(DESTDIR)$(PREFIX)/share/zsh/$(ZSH_FOLDER)
+of_fish = $(DESTDIR)$(PREFIX)/share/fish/vendor_completions.d
 install: | $(program)
-	install -d $(DESTDIR)$(PREFIX)/bin $(lib) $(man) $(completions)
+	install -d $(DESTDIR)$(PREFIX)/bin $(lib) $(man) $(of_bash) $(of_zsh) $(of_fish)
 	install -m 755 $(program) $(DESTDIR)$(PREFIX)/bin
 	rm -rf $(lib)/$(package)
 	for module in $(modules); do install -D -m 644 tools/$$module $(lib)/$$module; done
 	install -m 644 docs/dnssec_check.1 $(tools:%=docs/dnssec_check-%.1) $(man)
-	install -m 644 tools/completion/dnssec_check $(completions)
+	install -m 644 tools/completion/dnssec_check $(of_bash)
+	install -m 644 tools/completion/_dnssec_check $(of_zsh)
+	install -m 644 tools/completion/dnssec_check.fish $(of_fish)
 	install -D -m 644 docs/schema.json $(DESTDIR)$(PREFIX)/share/dnssec_check/schema.json
 	for tool in $(tools); do \
 		sed '1s|.*|#!$(PYTHON)|' tools/$$tool > $(lib)/$$tool; \
 		chmod 755 $(lib)/$$tool; \
 		ln -sf ../lib/dnssec_check/$$tool $(DESTDIR)$(PREFIX)/bin/dnssec_check-$$tool; \
-		ln -sf dnssec_check $(completions)/dnssec_check-$$tool; \
+		ln -sf dnssec_check $(of_bash)/dnssec_check-$$tool; \
+		ln -sf dnssec_check.fish $(of_fish)/dnssec_check-$$tool.fish; \
 	done
 
 # The same as a Debian package, out/dnssec-check_VERSION_amd64.deb; needs the packages debhelper, dh-python and dpkg-dev.

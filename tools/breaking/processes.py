@@ -3,6 +3,7 @@
 from __future__ import annotations
 
 import contextlib
+import secrets
 import socket
 import subprocess
 import time
@@ -10,8 +11,8 @@ from pathlib import Path
 from typing import Iterator
 
 SECONDS = 60  # that a command may take
-SECONDS_TO_BEGIN, SECONDS_TO_END, SECONDS_TO_LOOK = 10.0, 5.0, 0.05
-SOON = 0.5  # behind which a packet that was sent is written
+SECONDS_TO_BEGIN, SECONDS_TO_END, SECONDS_TO_LOOK, SECONDS_TO_WRITE = 10.0, 5.0, 0.05, 30.0
+MARKED = ("127.0.77.9", 5390)  # to where the datagram goes that ends a capture, and where nobody listens
 
 
 class Broken(Exception):
@@ -81,8 +82,10 @@ def wait_for_server(process: subprocess.Popen[str], address: tuple[str, int]) ->
 
 @contextlib.contextmanager
 def captured(path: Path, what: str) -> Iterator[None]:
-    """Keeps the packets of loopback to which the filter of tcpdump applies, as long as the block lasts."""
-    words = ["tcpdump", "-i", "lo", "-U", "--immediate-mode", "-Z", "root", "-w", str(path), what]
+    """Keeps the packets of loopback to which the filter of tcpdump applies, as long as the block lasts. Behind it a
+    datagram is sent by which one sees that all before it is written, however busy the machine is."""
+    kept = f"({what}) or (udp dst port {MARKED[1]} and dst host {MARKED[0]})"
+    words = ["tcpdump", "-i", "lo", "-U", "--immediate-mode", "-Z", "root", "-w", str(path), kept]
     with running(words, path.parent) as process:
         last = time.monotonic() + SECONDS_TO_BEGIN
         while not path.exists() or not path.stat().st_size:
@@ -90,4 +93,17 @@ def captured(path: Path, what: str) -> Iterator[None]:
                 raise Broken("tcpdump doesn't begin")
             time.sleep(SECONDS_TO_LOOK)
         yield
-        time.sleep(SOON)
+        wait_for_packets(path)
+
+
+def wait_for_packets(path: Path) -> None:
+    """Waits until all is in the file that was sent until now."""
+    mark, last = secrets.token_bytes(16), time.monotonic() + SECONDS_TO_WRITE
+    with socket.socket(socket.AF_INET, socket.SOCK_DGRAM) as ahead:
+        while time.monotonic() < last:
+            ahead.sendto(mark, MARKED)
+            for _ in range(10):
+                if mark in path.read_bytes():
+                    return
+                time.sleep(SECONDS_TO_LOOK)
+    raise Broken("tcpdump doesn't write what was sent")

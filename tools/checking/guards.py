@@ -102,5 +102,6 @@ def guards() -> list[Guard]:
         Guard("examples", ("tools/examples",), built=(PROGRAM,)),
         of_page("README.md", "dnssec_check", "To install it", "The program by itself"),
         of_page("docs/AUDITING.md", packages=(*OF_TOOLS, "parallel")),
+        of_page("docs/ODD.md"),
         of_page("examples/README.md"),
     ]

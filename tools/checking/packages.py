@@ -35,6 +35,7 @@ PACKAGES = (
     Package("dh-python", command="dh_python3"),
     Package("dns-root-data", file="/usr/share/dns/root.ds"),
     Package("dpkg-dev", command="dpkg-buildpackage"),
+    Package("fish", command="fish"),
     Package("gcc", command="cc"),
     Package("graphviz", command="dot"),
     Package("ldnsutils", command="ldns-signzone"),
@@ -52,6 +53,7 @@ PACKAGES = (
     Package("python3-rich", module="rich"),
     Package("python3-zstandard", module="zstandard"),
     Package("tshark", command="tshark"),
+    Package("zsh", command="zsh"),
 )
 
 

@@ -9,10 +9,10 @@ import signal
 from dataclasses import dataclass
 from typing import Any, Dict, Iterator, List, NamedTuple, Optional
 
-from .asked import Asked, Time
+from .asked import Asked, Memory, Time
 from .asking.faults import Failure
 from .asking.questions import Question, spelled
-from .listed import Listed
+from .listed import LISTS_LITTLE, MEMORY_BESIDES, Listed
 from .started import Process, content_of, nameless
 
 NAME = "dnssec_check"
@@ -23,11 +23,15 @@ BUILT = os.path.join("crates", NAME, "out", NAME)
 NAME_MOST = 4096
 QUESTIONS_MOST = 1 << 20  # that a file of questions may have
 SECURE, INSECURE, PENDING, BOGUS, INDETERMINATE, REFUSED, FAILED, WRONG = 0, 3, 4, 5, 6, 7, 1, 2
+ODD = 8  # of a verdict that is secure, where something odd of it is to fail
 VERDICTS = (SECURE, INSECURE, PENDING, BOGUS, INDETERMINATE)
-FROM_BEST = (*VERDICTS, REFUSED, FAILED)
+FROM_BEST = (SECURE, ODD, *VERDICTS[1:], REFUSED, FAILED)
 LIST, CHECK, EXPLAIN = "list", "check", "explain"
 
-MORE_TIME = "--budget-questions SECONDS gives more"
+MORE_TIME, MORE_OCTETS = "--budget-questions SECONDS gives more", "--budget-octets OCTETS gives more"
+# What the program takes of memory at most for an octet of a file; what it takes for a capture is a part of the rest.
+OF_STATEMENTS, OF_OTHERS = 4, 8
+TODO, BEHIND = b'"todo":[', b"}]"  # where what is to be verified begins and ends in the object of an answer
 OPEN = "/proc/self/fd"  # where a process finds the files that it has open
 
 Json = Dict[str, Any]
@@ -89,10 +93,19 @@ class Program:
         """The lines that a verifier has to answer at the moment, of which so many octets are read."""
         return Listed([self.path, LIST, *named({"capture": capture}), f"--moment={moment}"], capture, most)
 
-    def told(self, subcommand: str, files: Files, moment: int, questions: List[Question], left: Time) -> Iterator[Told]:
+    def told(
+        self,
+        subcommand: str,
+        files: Files,
+        moment: int,
+        questions: List[Question],
+        left: Time,
+        octets: Optional[int] = None,
+    ) -> Iterator[Told]:
         """What CHECK or EXPLAIN says of each question, in their order, while there is time. One run answers all, but
-        for those whose names no file of questions can have."""
-        asking = Asking(self, [subcommand, *named(files), f"--moment={moment}", "--json"], list(files.values()), left)
+        for those whose names no file of questions can have; an answer takes so many octets of memory."""
+        words = [subcommand, *named(files), f"--moment={moment}", "--json"]
+        asking = Asking(self, words, files, left, octets)
         together = list(map(spelled, questions))
         answers = asking.together([each for each in together if each])
         for question, each in zip(questions, together):
@@ -100,18 +113,20 @@ class Program:
 
 
 class Asking(NamedTuple):
-    """How questions are asked: the words of each run, and the files that it keeps open."""
+    """How questions are asked: the words of each run, the files that it keeps open, and for how many octets of answers
+    it has memory."""
 
     program: Program
     words: List[str]
-    kept: List[int]
+    files: Files
     left: Time
+    octets: Optional[int]
 
     def alone(self, question: Question) -> Told:
         if self.left.left <= 0:
             return of_late(self.left)
         words = [*self.words, f"--name={question.name[:NAME_MOST]}", f"--type={question.kind}"]
-        done = self.program.run(words, {str(number): number for number in self.kept})
+        done = self.program.run(words, self.files)
         self.left.spend(done.seconds)
         if done.status in VERDICTS and done.output:
             return told_by(json.loads(done.output))
@@ -129,7 +144,7 @@ class Asking(NamedTuple):
             with nameless("".join(map(line_of, questions)).encode()) as file:
                 run = self.run(file.fileno())
                 for line in run.lines():
-                    yield told_of(questions[count], json.loads(line))
+                    yield told_of(questions[count], json.loads(without_todo(line)))
                     count += 1
             questions = questions[count:]
             end = self.end_of(run)
@@ -139,13 +154,39 @@ class Asking(NamedTuple):
 
     def run(self, questions: int) -> Asked:
         words = [self.program.path, *self.words, *named({"questions": questions})]
-        return Asked(words, [*self.kept, questions], self.left)
+        files = {**self.files, "questions": questions}
+        memory = None if self.octets is None else memory_for(files, self.octets)
+        return Asked(words, files.values(), self.left, memory)
 
     def end_of(self, run: Asked) -> Told:
         """What is told of a question that the run didn't answer."""
         if run.is_over:
             return of_late(self.left)
+        if run.is_full and run.memory:
+            said = f"its answer takes more memory than the {run.memory.most:,} octets that it may; {MORE_OCTETS}"
+            return Told(FAILED, "fault", None, f"- {said}")
         return told_without_verdict(Run(run.status, "", run.errors), self.words[0])
+
+
+def memory_for(files: Files, octets: int) -> Optional[Memory]:
+    """What a run may take of memory whose answers take so many octets of it: what the other files take, and what all
+    else does. A capture of which little can be listed needs no limit."""
+    sizes = {name: os.fstat(number).st_size for name, number in files.items()}
+    if sizes.pop("capture") <= LISTS_LITTLE:
+        return None
+    of_files = OF_STATEMENTS * sizes.pop("statements", 0) + OF_OTHERS * sum(sizes.values())
+    return Memory(octets + MEMORY_BESIDES + of_files, octets)
+
+
+def without_todo(line: bytes) -> bytes:
+    """The object of an answer with nothing in place of each signature that is to be verified, which has digits and no
+    brace: parsed they would take some times as much again, and only how many there are is told."""
+    front = line.find(TODO + b"{")
+    if front < 0:
+        return line
+    front += len(TODO)
+    end = line.index(BEHIND, front) + 1
+    return line[:front] + b",".join([b"null"] * line.count(b"{", front, end)) + line[end:]
 
 
 def line_of(question: Question) -> str:

@@ -12,6 +12,10 @@ DEFAULT = [number for number in (signal.SIGPIPE, getattr(signal, "SIGXFSZ", None
 FIRST_OTHER = 3  # behind the standard input, output and error
 
 
+def processors() -> int:
+    return len(os.sched_getaffinity(0)) if hasattr(os, "sched_getaffinity") else os.cpu_count() or 1
+
+
 def beyond_standard(number: int) -> int:
     """The open file under a number that is none of the standard ones, which a process may have closed."""
     if number >= FIRST_OTHER:

@@ -60,6 +60,8 @@ class Package(unittest.TestCase):
         for name in COMMANDS:
             self.assertIn(f"./usr/share/man/man1/{name}.1.gz", paths)
             self.assertIn(f"./usr/share/bash-completion/completions/{name}", paths)
+            self.assertIn(f"./usr/share/fish/vendor_completions.d/{name}.fish", paths)
+        self.assertIn("./usr/share/zsh/vendor-completions/_dnssec_check", paths)
         for name in ("README.md", "CHANGELOG.md", "SECURITY.md", "docs/AUDITING.md", "docs/CAPTURING.md", "docs/GUARANTEES.md",
                      "examples/README.md", "crates/dnsv_names/GUARANTEES.md"):
             self.assertIn(f"./usr/share/doc/dnssec-check/{name}", paths)

@@ -27,8 +27,12 @@ class Install(unittest.TestCase):
             self.runs(place / "bin", place / "capture")
 
     def has_its_pages(self, share):
-        """The manual page of each command as it is in docs/, and a completion that bash finds by the command's name."""
+        """The manual page of each command as it is in docs/, and completions: bash and fish find them by the command's name,
+        zsh by the first line of one file."""
+        self.assertEqual((share / "zsh/site-functions/_dnssec_check").read_bytes(), (TOOLS / "completion/_dnssec_check").read_bytes())
         for name in COMMANDS:
+            of_fish = share / "fish/vendor_completions.d" / f"{name}.fish"
+            self.assertEqual(of_fish.read_bytes(), (TOOLS / "completion/dnssec_check.fish").read_bytes())
             page = f"{name}.1"
             self.assertEqual((share / "man/man1" / page).read_bytes(), (DOCS / page).read_bytes())
             completion = share / "bash-completion/completions" / name

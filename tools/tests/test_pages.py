@@ -1,5 +1,6 @@
 """Tests of tools/pages: which commands of a page run, and what passes."""
 import pathlib
+import re
 import shutil
 import tempfile
 import unittest
@@ -74,6 +75,18 @@ class Pages(unittest.TestCase):
             with self.subTest(name):
                 text = (TOOLS.parent / name).read_text()
                 self.assertTrue(any(step.shown for step in load("pages").steps_of(text, [])))
+
+class Recipes(unittest.TestCase):
+    def test_delv_asks_with_checking_disabled(self):
+        """Behind a resolver that validates it else gets nothing of a zone that is broken. A recipe with a function that asks by
+        it, as one of docs/BREAKS.md, hands the option over."""
+        asks = re.compile(r"^(?:    |.*`)\s*(delv (?!\+cd).*)$", re.MULTILINE)
+        for page in ("README.md", "docs/CAPTURING.md", "docs/BREAKS.md"):
+            text = (TOOLS.parent / page).read_text()
+            self.assertIn("delv +cd", text)
+            asked = [line for line in asks.findall(text) if "+cd" not in line and '"${@:2}"' not in line]
+            self.assertEqual(asked, [], page)
+
 
 
 if __name__ == "__main__":

@@ -7,9 +7,9 @@ from tool import PACKAGE, TOOLS
 
 SCRIPTS = (
     "pages", "faults", "examples", "as-json", "cases.py", "check", "packages", "lint", "does-not-compile", "wrong-bodies",
-    "fuzz", "incidents"
+    "fuzz", "incidents", "odd-captures"
 )
-FOLDERS = (PACKAGE, *(TOOLS / name for name in ("failing", "as_json", "checking", "wrong_bodies", "fuzzing", "breaking")))
+FOLDERS = (PACKAGE, *(TOOLS / name for name in ("failing", "as_json", "checking", "wrong_bodies", "fuzzing", "breaking", "odd_captures")))
 NAMES = [*SCRIPTS, *(str(path.relative_to(TOOLS)) for folder in FOLDERS for path in sorted(folder.rglob("*.py")))]
 # What each part imports besides itself; dnspython (`dns`), distributed and rich only where they're needed.
 PARTS = {
@@ -18,6 +18,8 @@ PARTS = {
     "failing": {"cases", "dnssec_check_tools", "messages", "zones"},  # the last two of rows
     "incidents": {"breaking", "dnssec_check_tools"},
     "breaking": {"dns"},
+    "odd-captures": {"breaking", "dnssec_check_tools", "odd_captures"},
+    "odd_captures": {"breaking", "cryptography", "dns", "dnssec_check_tools"},
     "fuzz": {"dnssec_check_tools", "fuzzing"},
     "fuzzing": {"dnssec_check_tools"},
     "fuzzing/targets": {"cryptography", "dns", "dnssec_check_tools"},
@@ -31,7 +33,7 @@ PARTS = {
     "wrong-bodies": {"dnssec_check_tools", "wrong_bodies"},
     "dnssec_check_tools/verify.py": {"command", "outputs", "verifying"},
     "dnssec_check_tools/capture.py": {"command", "capturing", "outputs"},
-    "dnssec_check_tools/judge.py": {"command", "asking", "judging", "outputs", "program", "verifying", "zones"},
+    "dnssec_check_tools/judge.py": {"command", "asking", "judging", "odd", "outputs", "program", "verifying", "zones"},
     "dnssec_check_tools/command.py": {"outputs"},
     "dnssec_check_tools/program.py": {"asked", "asking", "listed", "started"},
     "dnssec_check_tools/asked.py": {"asking", "started"},
@@ -45,8 +47,9 @@ PARTS = {
     "dnssec_check_tools/explaining": {"asking"},
     "dnssec_check_tools/explaining/page.py": {"asking", "jinja2", "markupsafe"},
     "dnssec_check_tools/wire.py": {"dns"},
-    "dnssec_check_tools/judging": {"asked", "asking", "capturing", "explaining", "program", "started", "verifying", "dns"},
-    "dnssec_check_tools/zones": {"asking", "capturing", "command", "dns", "explaining", "judging", "program"},
+    "dnssec_check_tools/judging": {"asked", "asking", "capturing", "explaining", "odd", "program", "started", "verifying", "dns"},
+    "dnssec_check_tools/odd": {"capturing", "explaining", "judging", "zones"},
+    "dnssec_check_tools/zones": {"asking", "capturing", "command", "dns", "explaining", "judging", "odd", "program"},
     "dnssec_check_tools/judging/report.py": {"asking", "command", "program"},
     "dnssec_check_tools/judging/cluster.py": {"asking", "distributed", "program"},
     "dnssec_check_tools/judging/workers.py": {"command", "program"},

@@ -4,10 +4,10 @@ import itertools
 import os
 import stat
 import sys
-from typing import BinaryIO, List, NamedTuple, Optional, Tuple
+from typing import BinaryIO, Iterable, Iterator, List, NamedTuple, Optional, Tuple
 
 from ..capturing.answers import Answers
-from ..capturing.entries import Note, of_messages
+from ..capturing.entries import Entry, Found, Note, PassedOver
 from ..capturing.entries import Refusal as Unmakable
 from ..capturing.frames import FRAME_SIZE_MOST, MESSAGES_MOST, framed, frames_of
 from ..capturing.sources import entries_in, other_kind_of
@@ -18,8 +18,9 @@ from .questions import Question, Questions, question_of_word, questions_of_file,
 
 # Octets of a file that are read: all of a capture, and one message more, by which the program refuses it.
 SIZE_MOST = (MESSAGES_MOST + 1) * FRAME_SIZE_MOST
-# Octets of a file of another kind, of which a capture is made: packets, text or JSON.
-OTHER_MOST, PORTS = 64_000_000, {53}
+# Octets of a file of another kind, of which a capture is made: packets, text or JSON. Each of them may take thirty of
+# memory, so of what is packed no more are unpacked. In hex all of a capture has so many.
+OTHER_MOST, PORTS = 2 * SIZE_MOST, {53}
 # What a read may wait for, or never end with; who means one names it.
 UNREAD_KINDS = {stat.S_IFIFO: "a FIFO", stat.S_IFSOCK: "a socket", stat.S_IFCHR: "a device", stat.S_IFBLK: "a device"}
 
@@ -160,18 +161,27 @@ def taken_of(file: BinaryIO, path: str) -> Tuple[bytes, bool]:
 
 def capture_of(octets: bytes, kind: str, path: str) -> bytes:
     """The capture that is made of packets, text or JSON, as dnssec_check-capture makes it."""
+    answers = Answers(True, lambda _: None)
+    notes: List[Note] = []
     try:
-        found = entries_in(octets, kind, shown(path), PORTS)
-        answers = Answers(True, lambda _: None)
-        answers.take_all(of_messages(found), itertools.repeat(b""))
+        found = entries_in(octets, kind, shown(path), PORTS, OTHER_MOST)
+        answers.take_all(without_notes(found, notes), itertools.repeat(b""))
     except Unmakable as fault:
         raise Unmade(str(fault)) from fault
     if not answers.kept:
         raise Unmade("no answer is in it; dnssec_check-capture says what else is")
+    for note in notes:
+        tell(f"{escaped(path)}: {note.text}")
+    return framed(octets for octets, _ in answers.kept)
+
+
+def without_notes(found: Iterable[Found], notes: List[Note]) -> Iterator[Entry]:
+    """The messages, and what is dropped of them, one after another; notes are put into the list."""
     for each in found:
         if isinstance(each, Note):
-            tell(f"{escaped(path)}: {each.text}")
-    return framed(octets for octets, _ in answers.kept)
+            notes.append(each)
+        elif not isinstance(each, PassedOver):
+            yield each
 
 
 def shown_of(path: str) -> bytes:

@@ -69,7 +69,7 @@ class Answers:
         self.queries = 0
         self.earlier: Dict[bytes, Place] = {}
 
-    def take_all(self, entries: List[Entry], macs: Iterable[Optional[bytes]]) -> None:
+    def take_all(self, entries: Iterable[Entry], macs: Iterable[Optional[bytes]]) -> None:
         for each, mac in zip(entries, macs):
             if isinstance(each, Omission):
                 self.say(f"dropped {each.place}: {each.why}")

@@ -2,10 +2,10 @@
 import base64
 import json
 import re
-from typing import Any, Dict, List
+from typing import Any, Dict, Iterator, List
 
 from ..command import shown
-from .entries import Entry, Found, Message, Omission, Refusal
+from .entries import Entry, Message, Omission, Refusal
 
 # What a result has, by which it's told from other JSON, and how far is looked for that.
 MARK, LOOKED_AT = re.compile(rb'"(?:msm_id|prb_id|abuf)"\s*:'), 4096
@@ -54,9 +54,8 @@ def entry_of(part: Any, probe: str, path: str) -> Entry:
         return Omission(place, "it isn't base64")
 
 
-def entries_of_atlas(octets: bytes, path: str) -> List[Found]:
-    found: List[Found] = []
+def entries_of_atlas(octets: bytes, path: str) -> Iterator[Entry]:
     for result in results_of(octets, path):
         probe = shown(str(result.get("prb_id", "unknown")))
-        found += [entry_of(part, probe, path) for part in parts_of(result)]
-    return found
+        for part in parts_of(result):
+            yield entry_of(part, probe, path)

@@ -5,7 +5,7 @@ import warnings
 from typing import Any, Iterator, List, Optional
 
 from ..asking.faults import lacking
-from .entries import Entry, Found, Message, Omission, Refusal
+from .entries import Entry, Message, Omission, Refusal
 from .packets import Datagram, Segment
 
 # A frame of length 0 is a control frame: its own length, and what it controls; a stream begins with START.
@@ -98,14 +98,12 @@ def entries_of_frame(octets: bytes, place: str) -> List[Entry]:
     return [Message(octets, place, connection) for octets in messages]
 
 
-def entries_of_dnstap(octets: bytes, path: str) -> List[Found]:
+def entries_of_dnstap(octets: bytes, path: str) -> Iterator[Entry]:
     if not is_dnstap(octets):
         raise Refusal(f"{path}: no frame stream of dnstap")
     reader()
-    found: List[Found] = []
     for number, frame in enumerate(frames_in(octets), 1):
         if frame is None:
-            found.append(Omission(f"the end of {path}", "the frame stream is torn"))
+            yield Omission(f"the end of {path}", "the frame stream is torn")
         else:
-            found += entries_of_frame(frame, f"frame {number} of {path}")
-    return found
+            yield from entries_of_frame(frame, f"frame {number} of {path}")

@@ -1,6 +1,6 @@
 """Messages each behind its length in two octets, as TCP carries them and capture files have them (RFC 1035 4.2.2)."""
 from typing import Iterable, List, Optional, Tuple
-from .messages import MESSAGE_SIZE_MOST, is_message
+from .messages import HEADER_SIZE, MESSAGE_SIZE_MOST, read_as_message
 from .octets import Octets, number_at
 
 MESSAGES_MOST = 64  # of a capture file
@@ -23,8 +23,12 @@ def framed(messages: Iterable[bytes]) -> bytes:
     return b"".join(len(octets).to_bytes(2, "big") + octets for octets in messages)
 
 
-def frame_at(octets: Octets, place: int) -> Optional[bytes]:
-    """The message there where it is one as a whole, else None."""
+def frame_at(octets: Octets, place: int) -> Tuple[Optional[bytes], int]:
+    """The message there where it is one as a whole, with at most one question (RFC 9619), else None; and how many
+    records were read to find that out."""
     front, size = place + 2, int.from_bytes(octets[place : place + 2], "big")
     message = bytes(octets[front : front + size])
-    return message if len(message) == size and is_message(message) else None
+    if len(message) < size or size < HEADER_SIZE or number_at(message, 4, 2) > 1:
+        return None, 0
+    is_whole, count = read_as_message(message)
+    return message if is_whole else None, count

@@ -177,10 +177,16 @@ def is_with_do(octets: Octets) -> bool:
 
 def is_message(octets: Octets) -> bool:
     """Whether the octets are a message as a whole, with a question or a record."""
+    return read_as_message(octets)[0]
+
+
+def read_as_message(octets: Octets) -> Tuple[bool, int]:
+    """Whether they are, and how many records were read to find that out."""
+    count = 0
     try:
         questions, end = questions_of(octets)
-        for record in records_of(octets):
+        for count, record in enumerate(records_of(octets), 1):
             end = record.end
-        return len(questions) == number_at(octets, 4, 2) and HEADER_SIZE < end == len(octets)
+        return len(questions) == number_at(octets, 4, 2) and HEADER_SIZE < end == len(octets), count
     except Incomplete:
-        return False
+        return False, count

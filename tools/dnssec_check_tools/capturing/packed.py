@@ -55,8 +55,10 @@ def way_of(octets: bytes, path: str) -> Optional[Tuple[Callable[[], Any], Type[E
     return (lambda: new().decompressobj()) if hasattr(new, "decompressobj") else new, library.ZstdError
 
 
-def unpacked(octets: bytes, path: str) -> Tuple[bytes, List[Entry]]:
-    """What the file has, and what is told of it where it is torn; a file that isn't packed as it is."""
+def unpacked(octets: bytes, path: str, most: Optional[int] = None) -> Tuple[bytes, List[Entry]]:
+    """What the file has, and what is told of it where it is torn; a file that isn't packed as it is. It may have as
+    much as the program reads, or as is told."""
+    most = UNPACKED_MOST if most is None else most
     way = way_of(octets, path)
     if way is None:
         return octets, []
@@ -67,7 +69,7 @@ def unpacked(octets: bytes, path: str) -> Tuple[bytes, List[Entry]]:
             unpacker.take(octets[place : place + PIECE])
         except fault_of_way as fault:
             raise Refusal(f"{path}: it can't be unpacked: {fault}") from fault
-        if len(unpacker.octets) > UNPACKED_MOST:
-            raise Refusal(f"{path}: unpacked it is longer than {UNPACKED_MOST} octets")
+        if len(unpacker.octets) > most:
+            raise Refusal(f"{path}: unpacked it is longer than {most} octets")
     told: List[Entry] = [Omission(f"the end of {path}", "it is packed, and torn")] if unpacker.member else []
     return bytes(unpacker.octets), told

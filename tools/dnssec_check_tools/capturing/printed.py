@@ -1,5 +1,6 @@
 """Answers as dig, kdig and drill print them, of which messages are written again: with the same records, and in other
 octets than those of the server."""
+import io
 import re
 import struct
 from typing import Any, Dict, Iterator, List, Optional, Tuple
@@ -83,9 +84,14 @@ def whole(line: str, lines: Lines) -> str:
     return "\n".join(parts)
 
 
-def answers_of(text: str) -> Iterator[Printed]:
+def lines_of(octets: bytes) -> Lines:
+    for number, line in enumerate(io.BytesIO(octets), 1):
+        yield number, line.rstrip(b"\n").decode("latin-1")
+
+
+def answers_of(octets: bytes) -> Iterator[Printed]:
     found: Optional[Printed] = None
-    lines = iter([*enumerate(text.split("\n"), 1)])
+    lines = lines_of(octets)
     for number, line in lines:
         header = HEADER.match(line)
         if header:
@@ -171,11 +177,10 @@ def bit_of(word: str) -> int:
     return BITS[word.lower()]
 
 
-def entries_of_printed(octets: bytes, path: str) -> List[Found]:
-    writer = Writer(path)
-    found: List[Found] = []
-    for number, printed in enumerate(answers_of(octets.decode("latin-1")), 1):
-        found.append(Message(writer.message(printed), f"answer {number} of {path}"))
-    if not found:
+def entries_of_printed(octets: bytes, path: str) -> Iterator[Found]:
+    writer, number = Writer(path), 0
+    for number, printed in enumerate(answers_of(octets), 1):
+        yield Message(writer.message(printed), f"answer {number} of {path}")
+    if not number:
         raise Refusal(f"{path}: no answer as dig prints it")
-    return [*found, Note(f"the messages of {path} are written anew from text, so their octets aren't the server's")]
+    yield Note(f"the messages of {path} are written anew from text, so their octets aren't the server's")

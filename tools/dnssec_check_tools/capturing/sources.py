@@ -1,6 +1,8 @@
 """What the files that are named have in them: their kind, and the messages of each kind."""
+import io
+import itertools
 import re
-from typing import Callable, Counter, Dict, List, Optional, Sequence, Set
+from typing import Callable, Counter, Dict, Iterable, Iterator, List, Optional, Sequence, Set
 
 from ..command import read, shown
 
@@ -20,13 +22,14 @@ from .tshark import entries_of_tshark
 # Streams of one file, and lists in hex
 
 
-def entries_of_stream(octets: bytes, path: str) -> List[Entry]:
+def entries_of_stream(octets: bytes, path: str) -> Iterator[Entry]:
     messages, end = frames_of(octets)
     if octets[end : end + 2] == b"\x00\x00":
         raise Refusal(f"{path}: a message of length 0 at octet {end}")
     if end < len(octets):
         raise Refusal(f"{path}: it ends within the message at octet {end}")
-    return [Message(message, f"message {number} of {path}") for number, message in enumerate(messages, 1)]
+    for number, message in enumerate(messages, 1):
+        yield Message(message, f"message {number} of {path}")
 
 
 def octets_of_line(line: str, place: str) -> bytes:
@@ -36,10 +39,12 @@ def octets_of_line(line: str, place: str) -> bytes:
         raise Refusal(f"{place}: no message in hex") from fault
 
 
-def entries_of_hex(octets: bytes, path: str) -> List[Entry]:
-    lines = enumerate(octets.decode("ascii", "replace").split("\n"), 1)
-    places = [(f"line {number} of {path}", line.strip()) for number, line in lines]
-    return [Message(octets_of_line(line, place), place) for place, line in places if line and line[0] not in "#;"]
+def entries_of_hex(octets: bytes, path: str) -> Iterator[Entry]:
+    for number, octets_of_it in enumerate(io.BytesIO(octets), 1):
+        line = octets_of_it.decode("ascii", "replace").strip()
+        if line and line[0] not in "#;":
+            place = f"line {number} of {path}"
+            yield Message(octets_of_line(line, place), place)
 
 
 # Packets
@@ -104,7 +109,8 @@ def kind_of(octets: bytes) -> str:
     return "hex"
 
 
-READERS: Dict[str, Callable[[bytes, str], Sequence[Found]]] = {
+# Entries come as they are asked for: there may be many times as many of them as a capture takes.
+READERS: Dict[str, Callable[[bytes, str], Iterable[Found]]] = {
     "stream": entries_of_stream,
     "hex": entries_of_hex,
     "dnsviz": entries_of_dnsviz,
@@ -125,13 +131,12 @@ def other_kind_of(octets: bytes) -> Optional[str]:
     return None if kind == "stream" or (kind == "hex" and not LISTED.match(octets)) else kind
 
 
-def entries_in(octets: bytes, kind: str, name: str, ports: Set[int]) -> Sequence[Found]:
-    """The entries of octets of this kind."""
-    octets, torn = unpacked(octets, name)
+def entries_in(octets: bytes, kind: str, name: str, ports: Set[int], most: Optional[int] = None) -> Iterator[Found]:
+    """The entries of octets of this kind, of which no more are unpacked than are told."""
+    octets, torn = unpacked(octets, name, most)
     kind = kind_of(octets) if kind == PACKED else kind
-    if kind == "pcap":
-        return [*entries_of_pcap(octets, name, ports), *torn]
-    return [*READERS[kind](octets, name), *torn]
+    found = entries_of_pcap(octets, name, ports) if kind == "pcap" else READERS[kind](octets, name)
+    return itertools.chain(found, torn)
 
 
 def entries_of(kind: Optional[str], path: str, ports: Set[int]) -> Sequence[Found]:
@@ -140,4 +145,6 @@ def entries_of(kind: Optional[str], path: str, ports: Set[int]) -> Sequence[Foun
     if kind == "tshark":
         return entries_of_tshark(path, name, ports)
     octets = read(path)
-    return entries_of_stream(octets, name) if kind == "stream" else entries_in(octets, kind or PACKED, name, ports)
+    return list(
+        entries_of_stream(octets, name) if kind == "stream" else entries_in(octets, kind or PACKED, name, ports)
+    )

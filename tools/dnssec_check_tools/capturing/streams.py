@@ -9,6 +9,22 @@ from .packets import Segment
 
 WINDOW = 2**30  # more than this no receiver takes ahead (RFC 7323 2.3)
 TRIES = 2**14  # segments behind a gap in which a message has to begin; a transfer may have thousands before one does
+RECORDS_MOST = 2**18  # of a file that are read in vain for that; of what isn't made to look like a message few are
+
+
+class Search:
+    """Looks for messages behind the gaps of a file, until too much was read in vain."""
+
+    def __init__(self) -> None:
+        self.left = RECORDS_MOST
+
+    def at(self, octets: bytearray, place: int) -> Optional[bytes]:
+        """The message there; None where there is none, or where that isn't looked for any more."""
+        if self.left <= 0:
+            return None
+        message, count = frame_at(octets, place)
+        self.left -= 0 if message else count
+        return message
 
 
 class Run:
@@ -27,24 +43,25 @@ class Run:
         self.places.append(max([place, *self.places[-1:]]))
         self.octets += octets
 
-    def messages(self) -> Tuple[List[Tuple[bytes, Place]], bool]:
+    def messages(self, search: Search) -> Tuple[List[Tuple[bytes, Place]], bool]:
         """Whole messages, from a segment on that begins with one, with where they end; and whether they are all."""
         found, end, tries = [], 0, 0
         for start in self.starts:
             if start < end or tries == TRIES:
                 continue
-            message, tries = frame_at(self.octets, start), tries + 1
+            message, tries = search.at(self.octets, start), tries + 1
             while message:
                 end, tries = start + 2 + len(message), 0
                 found.append((message, self.places[bisect.bisect_left(self.fronts, end) - 1]))
-                start, message = end, frame_at(self.octets, end)
+                start, message = end, search.at(self.octets, end)
         return found, sum(2 + len(message) for message, _ in found) == len(self.octets)
 
 
 class Stream:
     """One direction of a TCP connection; its octets are numbered on from the first segment's, past 2**32."""
 
-    def __init__(self, segment: Segment, path: str) -> None:
+    def __init__(self, segment: Segment, path: str, search: Search) -> None:
+        self.search = search
         self.name = f"the TCP stream of {path} from {segment.source} to {segment.target}"
         self.ends = frozenset((segment.source, segment.target))
         self.has_beginning, self.is_closed = segment.is_syn, False
@@ -109,7 +126,7 @@ class Stream:
             why = "what begins with a message of length 0"
         elif self.buffer:
             why = "it ends within a message"
-        found = [run.messages() for run in self.runs()]
+        found = [run.messages(self.search) for run in self.runs()]
         if not self.has_beginning:
             is_read = all(is_whole for _, is_whole in found)
             why = (gap if len(found) > 1 else None) if is_read else "its beginning isn't in the packet capture"
@@ -121,7 +138,7 @@ class Streams:
     """The streams of a packet capture that are open."""
 
     def __init__(self, path: str) -> None:
-        self.path = path
+        self.path, self.search = path, Search()
         self.streams: Dict[Tuple[str, str], Stream] = {}
 
     def take(self, segment: Segment, place: Place) -> List[Entry]:
@@ -134,7 +151,7 @@ class Streams:
         if stream is None:
             if not segment.is_syn and not segment.octets:
                 return entries
-            stream = self.streams[ends] = Stream(segment, self.path)
+            stream = self.streams[ends] = Stream(segment, self.path, self.search)
         return entries + stream.take(segment, place)
 
     def rest(self) -> List[Entry]:

@@ -1,8 +1,9 @@
 """The chain of trust as boxes and edges: what a picture of an explanation has, whoever draws it."""
-from typing import Any, Dict, List, NamedTuple, Optional, Sequence, Tuple
+from typing import Any, Dict, List, NamedTuple, Optional, Sequence, Set, Tuple
 
-from .explanation import DNSKEY, DS, Line
-from .values import algorithm_name, digest_name, owned
+from .explanation import DNSKEY, DS, Explanation, Line
+from .keys import SEP, key_lines
+from .values import digest_name, flag_names, owned
 
 # How a box or an edge stands: it holds; it fails; it isn't there; it follows from what fails; or it just is. An edge
 # may only say what stands under what.
@@ -11,6 +12,7 @@ HOLDS, FAILS, MISSING, FOLLOWS, PLAIN, UNDER = "holds", "fails", "missing", "fol
 FROM_WORST = (FAILS, MISSING, HOLDS, PLAIN, FOLLOWS, UNDER)
 
 Key = Tuple[Any, ...]
+Sight = Tuple[Any, ...]  # by which boxes are told apart
 
 # What stands beside an edge, in place of the program's word.
 SHORT = {
@@ -35,6 +37,30 @@ SHORT = {
     "type-held": "has the type",
     "unanswered": "not verified",
 }
+# What a record says of a name in a denial.
+RELATIONS = {
+    "apex": "it is the zone itself",
+    "matched": "is at it",
+    "exists": "it is there",
+    "covered": "it isn't there",
+    "non-terminal": "only names below it",
+    "opt-out": "may be unsigned (Opt-Out)",
+}
+# What stands in the box of what isn't there.
+ABSENT = {
+    "no-anchor": "no trust anchor",
+    "dnskey-missing": "no DNSKEY",
+    "ds-missing": "no DS",
+    "answer-missing": "no answer",
+    "denial-unproved": "no proof",
+    "ds-unproved": "no proof that it is unsigned",
+    "not-vouched": "no DS or anchor that fits",
+}
+# What a box is besides: a trust anchor, or a key that is said to be a zone's entry point.
+QUESTION: Key = ("question",)
+ANCHOR, ENTRY = "anchor", "entry"
+# What a capture may have several times.
+COPIED = ("rrset", "ds", "record")
 
 
 class Box(NamedTuple):
@@ -44,6 +70,11 @@ class Box(NamedTuple):
     zone: Optional[str]
     lines: Tuple[str, ...]
     state: str
+    mark: str = ""
+    copies: int = 1
+
+    def all_lines(self) -> Tuple[str, ...]:
+        return (*self.lines, *([f"{self.copies} copies"] if self.copies > 1 else []))
 
 
 class Edge(NamedTuple):
@@ -60,13 +91,13 @@ class Chain:
         self.boxes: Dict[Key, Box] = {}
         self.edges: Dict[Tuple[Key, Key, str], Edge] = {}
 
-    def add(self, key: Key, zone: Optional[str], lines: Sequence[str], state: str) -> Key:
+    def add(self, key: Key, zone: Optional[str], lines: Sequence[str], state: str, mark: str = "") -> Key:
         """A box; of one that is there only the state may change, and what is longer to say."""
         old = self.boxes.get(key)
         if old is not None:
             state = min(old.state, state, key=FROM_WORST.index)
             zone, lines = old.zone, max(old.lines, tuple(lines), key=len)
-        self.boxes[key] = Box(key, zone, tuple(lines), state)
+        self.boxes[key] = Box(key, zone, tuple(lines), state, mark)
         return key
 
     def join(self, tail: Key, head: Key, state: str, text: str = "") -> None:
@@ -75,6 +106,43 @@ class Chain:
         if old is not None:
             state = min(old.state, state, key=FROM_WORST.index)
         self.edges[tail, head, text] = Edge(tail, head, state, text)
+
+    def with_copies_together(self) -> "Chain":
+        """The chain with one box for RRsets that are copies of each other: they say the same and stand the same, and
+        edges of the same kind come from the same boxes and lead to the same."""
+        sights = self.sights()
+        groups: Dict[Sight, List[Box]] = {}
+        for box in self.boxes.values():
+            groups.setdefault(sights[box.key], []).append(box)
+        if len(groups) == len(self.boxes):
+            return self
+        first = {box.key: boxes[0].key for boxes in groups.values() for box in boxes}
+        chain = Chain()
+        for boxes in groups.values():
+            chain.boxes[boxes[0].key] = boxes[0]._replace(copies=sum(box.copies for box in boxes))
+        for edge in self.edges.values():
+            chain.join(first[edge.tail], first[edge.head], edge.state, edge.text)
+        return chain.with_copies_together()
+
+    def sights(self) -> Dict[Key, Sight]:
+        """What is seen of each box; of what is no copy of an RRset or of its record, the box itself."""
+        seen: Dict[Key, Set[Key]] = {key: set() for key in self.boxes}
+        for each in self.edges.values():
+            if each.state == UNDER:
+                continue
+            seen[each.head].add(("from", each.tail, each.state, each.text))
+            seen[each.tail].add(("to", each.head, each.state, each.text))
+        return {box.key: self.sight_of(box, seen[box.key]) for box in self.boxes.values()}
+
+    @staticmethod
+    def sight_of(box: Box, edges: Set[Key]) -> Sight:
+        return (box.key[0], *box[1:4], frozenset(edges)) if box.key[0] in COPIED else (box.key,)
+
+    @property
+    def broken(self) -> Optional[Key]:
+        """The first box of what fails, or isn't there; None where all is as it has to be. The question is no break."""
+        breaks = (box.key for box in self.boxes.values() if box.state in (FAILS, MISSING) and box.key != QUESTION)
+        return next(breaks, None)
 
     def zones(self) -> Dict[str, List[Box]]:
         """The frames, each with its boxes."""
@@ -85,15 +153,18 @@ class Chain:
         return frames
 
 
-def key_box(chain: Chain, zone: str, line: Line, state: str, flags: Sequence[str] = ()) -> Key:
-    """The box of a key, by its tag and algorithm."""
-    lines = (f"key {line['tag']}", algorithm_name(line["algorithm"]), *flags)
-    return chain.add(("key", zone, line["tag"], line["algorithm"]), zone, lines, state)
+def key_box(told: Explanation, chain: Chain, zone: str, line: Line, state: str) -> Key:
+    """The box of a key, by its tag and algorithm, with its flags where they are known."""
+    key = told.known_key(zone, line)
+    flags = key.flags if key else line.get("flags")
+    lines = (*key_lines(line["tag"], line["algorithm"], key), *([flag_names(flags)] if flags is not None else []))
+    mark = ENTRY if flags is not None and flags & SEP else ""
+    return chain.add(("key", zone, line["tag"], line["algorithm"]), zone, lines, state, mark)
 
 
 def anchor_box(chain: Chain, number: int, zone: str, state: str, digest: Optional[int] = None) -> Key:
     lines = (f"anchor {number}", zone) + ((digest_name(digest),) if digest is not None else ())
-    return chain.add(("anchor", number), None, lines, state)
+    return chain.add(("anchor", number), None, lines, state, ANCHOR)
 
 
 def ds_box(

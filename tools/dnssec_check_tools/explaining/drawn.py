@@ -1,29 +1,34 @@
 """The boxes and edges that each line of an explanation puts into the picture of the chain."""
 from typing import Dict, List, Set, Tuple
 from .explanation import DNSKEY, DS, Explanation, Line
-from .chain import FAILS, FOLLOWS, HOLDS, MISSING, PLAIN, SHORT, UNDER
+from .chain import ABSENT, FAILS, FOLLOWS, HOLDS, MISSING, PLAIN, QUESTION, RELATIONS, SHORT, UNDER
 from .chain import Chain, Key, anchor_box, ds_box, key_box, keys_box, rrset_box
 from .holding import UNUSABLE
 from .missing import DNAME, ROLES, is_unasked
-from .values import date, flag_names, owned
+from .values import date, owned
 from .vouchers import is_voucher
 
-QUESTION = ("question",)
 # The types that only lead on to a zone; all others are what is asked for, or deny it.
 OF_ZONES = (DS, DNSKEY)
 
 
 def chain_of(told: Explanation) -> Chain:
     """The chain of an explanation."""
-    chain, signers = Chain(), {line["rrset"]: line["signer"] for line in told.of("signed")}
+    chain, signers = Chain(), {line["rrset"]: line["signer"] for line in told.lines if {"rrset", "signer"} <= set(line)}
     scene = Scene(told, chain, signers)
     for line in told.lines:
         DRAWN[line["line"]](scene, line)
     value = told.value
-    state = FAILS if value["verdict"] in ("Bogus", "Indeterminate") else PLAIN
-    chain.add(QUESTION, None, (owned(value["name"], value["type"]), value["verdict"]), state)
+    chain.add(QUESTION, None, (owned(value["name"], value["type"]), value["verdict"]), state_of(value["verdict"]))
     scene.join_question()
-    return chain
+    return chain.with_copies_together()
+
+
+def state_of(verdict: str) -> str:
+    """How the question's own box stands."""
+    if verdict in ("Bogus", "Indeterminate"):
+        return FAILS
+    return HOLDS if verdict.startswith("Secure") else PLAIN
 
 
 class Scene:
@@ -72,36 +77,36 @@ class Scene:
 
     def of_signature(self, line: Line, state: str, text: str = "") -> None:
         """The edge from the key that signs to the RRset, whichever zone that is in."""
-        tail = key_box(self.chain, line["signer"], line, FOLLOWS if state == FOLLOWS else PLAIN)
-        head = rrset_box(self.chain, line["signer"], line["rrset"], line["owner"], line["type"], state)
-        if line["type"] not in OF_ZONES:
-            self.lead(head, state)
-        self.chain.join(tail, head, state, text)
+        tail = key_box(self.told, self.chain, line["signer"], line, FOLLOWS if state == FOLLOWS else PLAIN)
+        for head in signed_boxes(self, line, state):
+            if line["type"] not in OF_ZONES:
+                self.lead(head, state)
+            self.chain.join(tail, head, state, text)
 
 
 def trusted(scene: Scene, line: Line) -> None:
     zone = line["zone"]
-    signing = key_box(scene.chain, zone, line, HOLDS)
+    signing = key_box(scene.told, scene.chain, zone, line, HOLDS)
     scene.chain.join(scene.voucher(line, zone, HOLDS), signing, HOLDS)
     scene.chain.join(signing, keys_box(scene.chain, zone, line["rrset"], HOLDS), HOLDS)
 
 
 def signed(scene: Scene, line: Line) -> None:
     zone = line["signer"]
-    signing, keys = key_box(scene.chain, zone, line, HOLDS), ("rrset", line["keys"])
+    signing, keys = key_box(scene.told, scene.chain, zone, line, HOLDS), ("rrset", line["keys"])
     if (signing, keys, "") not in scene.chain.edges:
         scene.chain.join(keys_box(scene.chain, zone, line["keys"], HOLDS), signing, HOLDS)
-    for head in signed_boxes(scene, line):
+    for head in signed_boxes(scene, line, HOLDS):
         scene.chain.join(signing, head, HOLDS)
 
 
-def signed_boxes(scene: Scene, line: Line) -> List[Key]:
+def signed_boxes(scene: Scene, line: Line, state: str) -> List[Key]:
     """The RRset, or of a DS RRset the records that lines name."""
     zone, number = line["signer"], line["rrset"]
     records = sorted(records_of(scene.told, number)) if line["type"] == DS else []
     if not records:
-        return [rrset_box(scene.chain, zone, number, line["owner"], line["type"], HOLDS)]
-    return [ds_box(scene.chain, scene.signers, (number, record), line["owner"], HOLDS) for record in records]
+        return [rrset_box(scene.chain, zone, number, line["owner"], line["type"], state)]
+    return [ds_box(scene.chain, scene.signers, (number, record), line["owner"], state) for record in records]
 
 
 def records_of(told: Explanation, number: int) -> Set[int]:
@@ -121,7 +126,7 @@ def proof(_scene: Scene, _line: Line) -> None:
 def part(scene: Scene, line: Line) -> None:
     if "owner" in line:
         cuts = [("cut", each["cut"]) for each in scene.told.of("case")]
-        text = f"{ROLES[line['role']]}\n{line['relation']}"
+        text = f"{ROLES[line['role']]}\n{RELATIONS[line['relation']]}"
         scene.lead(("rrset", line["rrset"]), HOLDS, text, cuts[0] if cuts else QUESTION)
 
 
@@ -145,7 +150,7 @@ def unseen(_scene: Scene, _line: Line) -> None:
 
 def key(scene: Scene, line: Line) -> None:
     zone = line["zone"]
-    box = key_box(scene.chain, zone, line, PLAIN, (flag_names(line["flags"]),))
+    box = key_box(scene.told, scene.chain, zone, line, PLAIN)
     keys = keys_box(scene.chain, zone, line["rrset"], PLAIN)
     if "signature" in line:
         scene.chain.join(box, keys, HOLDS)
@@ -183,12 +188,12 @@ def of_voucher(scene: Scene, line: Line) -> None:
         tail = ds_box(scene.chain, scene.signers, (line["rrset"], line["record"]), zone, FAILS, line)
     known = {(each["tag"], each["algorithm"]) for each in scene.told.keys(zone)}
     is_there = (line["tag"], line["algorithm"]) in known
-    head = key_box(scene.chain, zone, line, PLAIN if is_there else MISSING)
+    head = key_box(scene.told, scene.chain, zone, line, PLAIN if is_there else MISSING)
     scene.chain.join(tail, head, MISSING, SHORT[line["word"]])
 
 
 def not_self_signed(scene: Scene, line: Line) -> None:
-    box = key_box(scene.chain, line["zone"], line, PLAIN)
+    box = key_box(scene.told, scene.chain, line["zone"], line, PLAIN)
     keys = keys_box(scene.chain, line["zone"], line["rrset"], PLAIN)
     scene.chain.join(box, keys, MISSING, SHORT[line["word"]])
 
@@ -253,15 +258,6 @@ def follows(scene: Scene, line: Line) -> None:
     scene.of_signature(line, FOLLOWS)
 
 
-ABSENT = {
-    "no-anchor": "no trust anchor",
-    "dnskey-missing": "no DNSKEY",
-    "ds-missing": "no DS",
-    "answer-missing": "no answer",
-    "denial-unproved": "no proof",
-    "ds-unproved": "no proof that it is unsigned",
-    "not-vouched": "no DS or anchor that fits",
-}
 REASONS = {
     "no-anchor": at_zone,
     "dnskey-missing": at_zone,

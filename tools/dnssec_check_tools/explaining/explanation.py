@@ -2,6 +2,7 @@
 import functools
 from typing import Any, Dict, List, Optional, Sequence, Tuple
 
+from .keys import Key, Keys
 from .replies import Replies, Reply
 
 DNSKEY, DS = 48, 43
@@ -11,11 +12,12 @@ Asked = Tuple[str, int]  # a name and a type
 
 
 class Explanation:
-    """An object of `explain --json`, with the replies of the capture, None where these aren't known."""
+    """An object of `explain --json`, with the replies of the capture, None where these aren't known, and its keys."""
 
-    def __init__(self, value: Line, replies: Optional[Sequence[Reply]] = None) -> None:
+    def __init__(self, value: Line, replies: Optional[Sequence[Reply]] = None, keys: Optional[Keys] = None) -> None:
         self.value, self.now, self.lines = value, value["moment"], value["why"]
         self.replies = None if replies is None else Replies(replies)
+        self.known_keys = keys or {}
 
     def of(self, line: str) -> List[Line]:
         """The lines that begin with this word."""
@@ -24,6 +26,10 @@ class Explanation:
     def keys(self, zone: str) -> List[Line]:
         """The lines of the zone's keys."""
         return [each for each in self.of("key") if each["zone"] == zone]
+
+    def known_key(self, zone: str, line: Line) -> Optional[Key]:
+        """The zone's key with the tag and the algorithm of the line, where the capture has it."""
+        return self.known_keys.get((zone, line["tag"], line["algorithm"]))
 
     def tags(self, zone: str, *others: int) -> List[int]:
         """The tags of the zone's keys, each once and rising, but for these."""

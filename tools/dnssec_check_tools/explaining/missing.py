@@ -91,8 +91,21 @@ def not_vouched(_told: Explanation, line: Line) -> Words:
     return owned(line["zone"], DNSKEY), "no trust anchor and no DS of the zone fits one of its keys"
 
 
-def unsigned(_told: Explanation, line: Line) -> Words:
-    return owned(line["owner"], line["type"]), "it has no signature beside it"
+def unsigned(told: Explanation, line: Line) -> Words:
+    text = "it has no signature beside it"
+    zone = zone_without_keys(told, line["owner"])
+    asks = f"; nobody asked whether {zone}, which has a DS, has keys: ask for {owned(zone, DNSKEY)}" if zone else ""
+    return owned(line["owner"], line["type"]), text + asks
+
+
+def zone_without_keys(told: Explanation, name: str) -> Optional[str]:
+    """The zone at or above the name that has a DS by what holds, and of whose keys nobody asked: a zone may be unsigned
+    altogether."""
+    with_ds = {line["owner"] for line in told.of("signed") if line["type"] == DS}
+    lacking = (
+        line["zone"] for line in told.of("reason") if line["word"] == "dnskey-missing" and is_unasked(told, line)
+    )
+    return next((zone for zone in lacking if zone in with_ds and f".{name}".endswith(f".{zone}")), None)
 
 
 def dname(_told: Explanation, line: Line) -> Words:

@@ -8,7 +8,7 @@ from ..asking.faults import escaped, lacking
 from ..asking.moments import moment_text
 from .drawn import chain_of
 from .explanation import Explanation
-from .picture import svgs_of
+from .picture import Picture, pictures_of
 from .said import Said
 from .sentences import sentence, why
 
@@ -27,6 +27,7 @@ class Entry:
     capture: str
     moment: int
     told: Optional[Explanation]
+    odd: Sequence[Said] = ()
 
 
 @dataclass
@@ -35,6 +36,8 @@ class Chain:
 
     why: List[Said]
     picture_markup: Any
+    width: float
+    broken_at: Optional[int]
     lines: List[Said]
 
 
@@ -45,6 +48,7 @@ class Verdict:
     capture: str
     moment: str
     chain: Optional[Chain]
+    odd: Sequence[Said]
 
 
 def library() -> Any:
@@ -103,13 +107,14 @@ def title_of(entries: Sequence[Entry]) -> str:
 def verdicts_of(entries: Sequence[Entry]) -> List[Verdict]:
     """The verdicts with their pictures, which are laid out at once."""
     told = [entry.told for entry in entries if entry.told]
-    pictures = iter(svgs_of([chain_of(each) for each in told]))
-    return [verdict_of(entry, next(pictures) if entry.told else "") for entry in entries]
+    pictures = iter(pictures_of([chain_of(each) for each in told]))
+    return [verdict_of(entry, next(pictures) if entry.told else None) for entry in entries]
 
 
-def verdict_of(entry: Entry, picture: str) -> Verdict:
+def verdict_of(entry: Entry, picture: Optional[Picture]) -> Verdict:
     chain = None
-    if entry.told:
+    if entry.told and picture:
         lines = [sentence(entry.told, line) for line in entry.told.lines]
-        chain = Chain(why(entry.told), markup(picture[len(SVG) :]), lines)
-    return Verdict(entry.question, entry.said, entry.capture, moment_text(entry.moment), chain)
+        place = None if picture.broken_at is None else round(100 * picture.broken_at)
+        chain = Chain(why(entry.told), markup(picture.svg[len(SVG) :]), picture.width, place, lines)
+    return Verdict(entry.question, entry.said, entry.capture, moment_text(entry.moment), chain, entry.odd)

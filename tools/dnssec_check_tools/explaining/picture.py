@@ -1,15 +1,18 @@
 """A picture of the chain as SVG, which Graphviz lays out."""
+import concurrent.futures
 import re
 import shutil
 import subprocess
-from typing import Dict, Iterable, List, Sequence
+from typing import Dict, Iterable, List, NamedTuple, Optional, Sequence
 
 from ..asking.faults import Failure
+from ..started import processors
 
-from .chain import FAILS, FOLLOWS, MISSING, UNDER, Box, Chain, Edge, Key
+from .chain import ANCHOR, FAILS, FOLLOWS, MISSING, UNDER, Box, Chain, Edge, Key
 
 DOT = "dot"
 # How a box or an edge is drawn so that it can be told without colour; colours are given by the page, by class.
+DOUBLE = "peripheries=2"  # the edge of a trust anchor
 BOX_STYLES = {FAILS: "style=bold penwidth=2.5", MISSING: "style=dashed", FOLLOWS: "style=dotted"}
 EDGE_STYLES = {
     FAILS: "style=bold penwidth=2.5",
@@ -29,6 +32,8 @@ PICTURE = re.compile(r"<svg .*?</svg>\n?", re.DOTALL)
 # What Graphviz writes besides: comments, titles, which would be numbers of nodes, and ids, which each picture of a page
 # would have again.
 BESIDES = re.compile(r"<!--.*?-->\n?|<title>.*?</title>\n?|(?<=<g) id=\"[^\"]*\"", re.DOTALL)
+WIDTH = re.compile(r"<svg width=\"([0-9.]+)pt\"")
+TOGETHER = 50  # pictures that one process lays out before another one is worth its start
 WIDE = 26  # a longer name is broken at a dot
 NO_BREAK = "\u00a0"  # a blank that stays beside the text of an edge
 
@@ -63,8 +68,9 @@ def dot_of(chain: Chain) -> str:
 
 
 def node(numbers: Dict[Key, str], box: Box) -> str:
-    lines = [piece for line in box.lines for piece in broken(line)]
-    return f"{numbers[box.key]} [label={quoted(lines)} class={box.state} {BOX_STYLES.get(box.state, '')}]\n"
+    lines = [piece for line in box.all_lines() for piece in broken(line)]
+    style = f"{BOX_STYLES.get(box.state, '')} {DOUBLE if box.mark == ANCHOR else ''}"
+    return f'{numbers[box.key]} [label={quoted(lines)} class="{box.state} {box.mark}" {style}]\n'
 
 
 def edge(numbers: Dict[Key, str], each: Edge) -> str:
@@ -82,13 +88,40 @@ def program() -> str:
     return path
 
 
-def svgs_of(chains: Sequence[Chain]) -> List[str]:
-    """The pictures, each as an element of HTML; Graphviz is begun once for all."""
-    if not chains:
-        return []
+class Picture(NamedTuple):
+    """A picture as an element of HTML, how wide it is where its text has the size that it was laid out for, in points,
+    and how far to the right its first break is, as a part of that; None where nothing breaks."""
+
+    svg: str
+    width: float
+    broken_at: Optional[float]
+
+
+def pictures_of(chains: Sequence[Chain]) -> List[Picture]:
+    """The pictures. Graphviz is begun once for many, and several times side by side where there are very many."""
+    size = max(TOGETHER, -(-len(chains) // processors()))
+    shares = [chains[first : first + size] for first in range(0, len(chains), size)]
+    with concurrent.futures.ThreadPoolExecutor(max(1, len(shares))) as threads:
+        return [picture for pictures in threads.map(laid_out, shares) for picture in pictures]
+
+
+def laid_out(chains: Sequence[Chain]) -> List[Picture]:
     text = "".join(map(dot_of, chains))
     done = subprocess.run([program(), "-Tsvg"], input=text.encode(), capture_output=True, check=False)
-    pictures = PICTURE.findall(done.stdout.decode())
-    if done.returncode or len(pictures) != len(chains):
+    svgs = PICTURE.findall(done.stdout.decode())
+    if done.returncode or len(svgs) != len(chains):
         raise Failure(f"{DOT}: {done.stderr.decode(errors='replace').strip() or 'a picture lacks'}")
-    return [BESIDES.sub("", each) for each in pictures]
+    return [picture_of(chain, svg) for chain, svg in zip(chains, svgs)]
+
+
+def picture_of(chain: Chain, svg: str) -> Picture:
+    found = WIDTH.search(svg)
+    width = float(found[1]) if found else 0
+    place = place_of(svg, list(chain.boxes).index(chain.broken)) if chain.broken is not None else None
+    return Picture(BESIDES.sub("", svg), width, place / width if place is not None and width else None)
+
+
+def place_of(svg: str, number: int) -> Optional[float]:
+    """How far to the right the middle of the box is that has the number."""
+    found = re.search(rf"<title>n{number}</title>\n.*?<text [^>]*? x=\"([-0-9.]+)\"", svg, re.DOTALL)
+    return float(found[1]) if found else None

@@ -1,7 +1,7 @@
 """A sentence: its mark, what it is about, what it says, and the extended DNS error (RFC 8914), 0 where none fits."""
 from typing import NamedTuple, Tuple
 
-FAIL, HAS, THEN, HOLDS, WHY = "FAIL", "HAS", "THEN", "HOLDS", "WHY"
+FAIL, HAS, THEN, HOLDS, WHY, ODD = "FAIL", "HAS", "THEN", "HOLDS", "WHY", "ODD"
 
 
 Words = Tuple[str, str]  # what a sentence is about, and what it says

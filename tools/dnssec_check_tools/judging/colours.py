@@ -3,10 +3,10 @@ import os
 import re
 import sys
 
-from ..explaining.said import FAIL, HOLDS, WHY
+from ..explaining.said import FAIL, HOLDS, ODD, WHY
 
-# What a terminal is told before and behind a word (ECMA-48 8.3.117): bold and red, green, bold.
-COLOURS = {FAIL: "1;31", HOLDS: "32", WHY: "1"}
+# What a terminal is told before and behind a word (ECMA-48 8.3.117): bold and red, green, bold, yellow.
+COLOURS = {FAIL: "1;31", HOLDS: "32", WHY: "1", ODD: "33"}
 END = "\x1b[0m"
 MARKS = re.compile(rf"^( +)({'|'.join(COLOURS)})(?= )", re.MULTILINE)
 

@@ -2,12 +2,26 @@
 from typing import Any, Dict, List, NamedTuple, Optional, Tuple
 
 from ..capturing.frames import frames_of
-from ..capturing.messages import TYPE_CNAME, TYPE_RRSIG, Labels, Record, lower, name_at, name_text, records_of
+from ..capturing.messages import (
+    TYPE_CNAME,
+    TYPE_DNSKEY,
+    TYPE_RRSIG,
+    Labels,
+    Record,
+    key_tag,
+    lower,
+    name_at,
+    name_text,
+    records_of,
+)
 from ..capturing.octets import Incomplete, number_at
+from ..explaining.keys import Key as KeyThere
+from ..explaining.keys import Keys, bits_of
 
 CLASS_IN = 1
 # The types below 128 that form no RRset: 0, the legacy ones, OPT and RRSIG; those of 128 to 255 don't either.
 UNGROUPED = {0, 3, 4, 7, 8, 9, 14, 17, 18, 21, 24, 26, 30, 35, 36, 38, 41, 46}
+KEY_FIELD = 4  # where the key stands in the RDATA of a DNSKEY record (RFC 4034 2.1)
 TAG, SIGNER = 16, 18  # where the key tag and the signer's name stand in the RDATA of an RRSIG record (RFC 4034 3.1)
 
 Key = Tuple[int, Labels, int]
@@ -143,3 +157,16 @@ class Evidence:
     def target(self, rrset: int) -> Optional[str]:
         targets = self.rrsets[rrset - 1].targets if rrset <= len(self.rrsets) else []
         return targets[0] if targets else None
+
+
+def keys_of(evidence: Evidence) -> Keys:
+    """The keys of all DNSKEY records of the capture."""
+    found: Keys = {}
+    for message, placed in zip(evidence.messages, evidence.placed):
+        for each in placed:
+            rdata = bytes(message[each.record.front : each.record.end])
+            if each.rrset and each.record.kind == TYPE_DNSKEY and len(rdata) > KEY_FIELD:
+                flags, algorithm = number_at(rdata, 0, 2), rdata[KEY_FIELD - 1]
+                key = KeyThere(flags, bits_of(algorithm, rdata[KEY_FIELD:]))
+                found[name_text(each.rrset.owner), key_tag(rdata), algorithm] = key
+    return found

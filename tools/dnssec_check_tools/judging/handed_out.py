@@ -9,7 +9,7 @@ from typing import Any, Counter, Dict, Iterator, List, NamedTuple, Optional, Set
 from ..asking.faults import Failure
 
 from .spread import Result, Task, answer_of, of_lost
-from .work import Common
+from .work import Common, Judged
 
 AHEAD = 2  # captures for each thread of a worker: what it judges, and what comes next
 LOOK_SECONDS = 0.5
@@ -87,7 +87,7 @@ class HandedOut:
     def result(self, key: str, handed: Handed) -> Iterator[Result]:
         task, future, _ = handed
         try:
-            found = answer_of(future.result(timeout=GATHER_SECONDS))
+            found: Judged = answer_of(future.result(timeout=GATHER_SECONDS))
         except self.dask.CancelledError:
             self.is_cut_off = True
             self.once_more(task)
@@ -125,7 +125,7 @@ class HandedOut:
         task = handed.task
         if task.number in self.lost:
             self.alone.discard(task.number)
-            yield task.number, of_lost(task, self.common, LOST)
+            yield task.number, of_lost(task.questions, self.common, LOST)
         else:
             self.lost.add(task.number)
             self.once_more(task)

@@ -26,7 +26,8 @@ class Page:
         """The verdicts on a capture."""
         for row in rows:
             question = asked_text(row.question) or "-"
-            self.entries.append(Entry(question, self.lines.said(path, row), path, row.moment, row.told()))
+            odd = [each.said() for each in row.odd or ()]
+            self.entries.append(Entry(question, self.lines.said(path, row), path, row.moment, row.told(), odd))
 
     def octets(self) -> bytes:
         captures = [self.records[number] for number in sorted(self.records)]

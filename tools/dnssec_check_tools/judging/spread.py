@@ -1,7 +1,5 @@
-"""Captures judged several at once on this machine, each by a process of its own."""
-import functools
-import os
-from typing import Generator, Iterable, Iterator, NamedTuple, Optional, Set, Tuple, Union
+"""A capture as it's handed to whoever judges it, and what comes back, whatever becomes of it."""
+from typing import Callable, Generator, NamedTuple, Optional, Tuple, TypeVar, Union
 
 from ..asking.captures import Unmade, octets_of
 from ..asking.faults import Failure
@@ -10,14 +8,13 @@ from ..program import REFUSED, Program
 
 from .skew import folded, widened
 from .work import Common, Judged, judged, without_verdicts
-from .workers import Lost, Workers
 
 MEMORY_OUT, OPEN_FAILED, READ_FAILED = 90, 811, 210
 
 Result = Tuple[int, Judged]  # by the number of the capture
 Results = Generator[Result, None, None]
 Answer = Union[Judged, Failure]
-Fault = Union[OSError, Unmade]
+Found = TypeVar("Found")
 
 
 class Task(NamedTuple):
@@ -27,16 +24,25 @@ class Task(NamedTuple):
     number: int
     path: str
     octets: Optional[bytes]
-    fault: Optional[Fault]
+    fault: Optional[Exception]
     questions: Questions
 
 
-def of_unread(task: Task, fault: Fault, common: Common) -> Judged:
+def of_unread(task: Task, fault: Exception, common: Common) -> Judged:
     """The verdicts of a capture that can't be read, or that can't be made of a file of another kind."""
     if isinstance(fault, Unmade):
         return of_unmade(task, fault, common)
+    if not isinstance(fault, OSError):
+        return of_met(task.questions, fault, common)
     number = READ_FAILED if is_of_read(fault) else OPEN_FAILED
     return without_verdicts(task.questions, common, {"number": number, "file": "capture"})
+
+
+def of_met(questions: Questions, fault: Exception, common: Common) -> Judged:
+    """The rows of a capture by which this tool fails, which is no other capture's fault."""
+    if isinstance(fault, MemoryError):
+        return without_verdicts(questions, common, {"number": MEMORY_OUT})
+    return without_verdicts(questions, common, {"said": f"{type(fault).__name__}: {fault}"})
 
 
 def of_unmade(task: Task, fault: Unmade, common: Common) -> Judged:
@@ -51,62 +57,41 @@ def is_of_read(fault: OSError) -> bool:
     return isinstance(fault, IsADirectoryError) or (fault.errno is not None and fault.filename is None)
 
 
-def processors() -> int:
-    return len(os.sched_getaffinity(0)) if hasattr(os, "sched_getaffinity") else os.cpu_count() or 1
-
-
 def judged_task(task: Task, common: Common, program: Program, place: Optional[str] = None) -> Judged:
     """The verdicts of a capture, which is read where it wasn't."""
     try:
-        octets = octets_of(task.path) if task.octets is None else task.octets
+        octets = read_now(task)
     except (OSError, Unmade) as fault:
         return of_unread(task, fault, common)
     return folded(judged(octets, task.questions, widened(common), program, place), common)
 
 
+def read_now(task: Task) -> bytes:
+    return octets_of(task.path) if task.octets is None else task.octets
+
+
 def answer(common: Common, program: Program, task: Task, place: Optional[str] = None) -> Answer:
-    """The verdicts, or what ends all. A fault that a capture leads to, of whatever kind, is no other capture's."""
+    """The verdicts, or what ends all."""
+    return guarded(lambda: judged_task(task, common, program, place), task.questions, common)
+
+
+def guarded(judge: Callable[[], Found], questions: Questions, common: Common) -> Union[Found, Answer]:
+    """What comes of it. A fault that a capture leads to, of whatever kind, is no other capture's."""
     try:
-        return judged_task(task, common, program, place)
+        return judge()
     except Failure as fault:
         return fault
-    except MemoryError:
-        return without_verdicts(task.questions, common, {"number": MEMORY_OUT})
     except Exception as fault:  # pylint: disable=broad-exception-caught
-        return without_verdicts(task.questions, common, {"said": f"{type(fault).__name__}: {fault}"})
+        return of_met(questions, fault, common)
 
 
-def answer_of(found: Answer) -> Judged:
+def answer_of(found: Union[Found, Failure]) -> Found:
     if isinstance(found, Failure):
         raise found
     return found
 
 
-def in_processes(tasks: Iterable[Task], common: Common, program: Program, jobs: int) -> Results:
-    """Each capture's number with its verdicts, as they are done."""
-    lost: Set[int] = set()
-    with Workers(functools.partial(answer, common, program)) as workers:
-        for task in tasks:
-            while len(workers.busy) >= jobs:
-                yield from done_of(workers, lost, common)
-            workers.give(task)
-        while workers.busy:
-            yield from done_of(workers, lost, common)
-
-
-def done_of(workers: Workers, lost: Set[int], common: Common) -> Iterator[Result]:
-    """Those that are done. A capture by which a process is lost is given to another one, once."""
-    for task, found in workers.done():
-        if not isinstance(found, Lost):
-            yield task.number, answer_of(found)
-        elif task.number in lost:
-            yield task.number, of_lost(task, common, found.how)
-        else:
-            lost.add(task.number)
-            workers.give(task)
-
-
-def of_lost(task: Task, common: Common, how: str) -> Judged:
-    """The verdicts of a capture by which two processes were lost."""
+def of_lost(questions: Questions, common: Common, how: str) -> Judged:
+    """The verdicts of a capture, or a share of it, by which two processes were lost."""
     said = f"the process that judged it {how}, the second that was lost by it"
-    return without_verdicts(task.questions, common, {"said": said})
+    return without_verdicts(questions, common, {"said": said})

@@ -2,7 +2,7 @@
 import itertools
 import json
 from collections import Counter
-from typing import Callable, Dict, List, Optional, Tuple
+from typing import Any, Callable, Dict, FrozenSet, Iterable, List, Optional, Tuple
 
 from ..asking.faults import escaped
 from ..asking.kinds import mnemonic_of
@@ -11,12 +11,17 @@ from ..asking.questions import Question
 from ..explaining.said import Said
 from ..explaining.sentences import holds_until, reasons, verdict, why
 from ..explaining.values import counted
+from ..odd.found import each_once, words_of
+from ..odd.kinds import Odd
 from ..program import FROM_BEST, SECURE, Json
 from .colours import coloured
 from .numbers import fault_text
 from .work import Row
 
-COLUMNS = ("capture", "moment", "name", "type", "status", "verdict", "evidence", "until", "reason", "ede", "reasons")
+COLUMNS = (
+    *("capture", "moment", "name", "type", "status", "verdict", "evidence", "until", "reason", "ede", "reasons"),
+    "odd",
+)
 PLACES = ("message", "record", "line", "file")
 INDENT = "  "
 BETWEEN = " | "  # two reasons of a table
@@ -25,7 +30,7 @@ BETWEEN = " | "  # two reasons of a table
 def fields_of(capture: str, row: Row) -> Json:
     """The values of a row, by column."""
     name, kind = (row.question.name, mnemonic_of(row.question.kind)) if row.question else (None, None)
-    values = (capture, row.moment, name, kind, row.status, row.word, row.evidence, *why_fields(row))
+    values = (capture, row.moment, name, kind, row.ending, row.word, row.evidence, *why_fields(row), odd_words(row))
     return dict(zip(COLUMNS, values))
 
 
@@ -45,13 +50,22 @@ def why_fields(row: Row) -> Tuple[Optional[int], Optional[str], Optional[int], L
     return (holds_until(told) if told else None), first["reason"], first["ede"], said
 
 
+def odd_words(row: Row) -> Optional[Tuple[str, ...]]:
+    """The kinds of what is odd; None where nobody looked for it."""
+    return None if row.odd is None else words_of(row.odd)
+
+
 def json_line(capture: str, row: Row) -> str:
     return json.dumps(fields_of(capture, row))
 
 
 def tsv_line(capture: str, row: Row) -> str:
     fields = fields_of(capture, row)
-    fields.update(evidence=evidence_words(row.evidence), reasons=reasons_words(fields["reasons"]))
+    fields.update(
+        evidence=evidence_words(row.evidence),
+        reasons=reasons_words(fields["reasons"]),
+        odd=",".join(fields["odd"] or ()),
+    )
     return "\t".join("" if value is None else escaped(str(value)) for value in fields.values())
 
 
@@ -86,6 +100,9 @@ def words_behind(evidence: Json) -> str:
 class Lines:
     """Lines for people; what is the same in all of them is left out."""
 
+    is_odd_told = False  # what is odd; of these kinds it's told anyway, since a status may say so
+    failing: FrozenSet[str] = frozenset()
+
     def __init__(self, has_captures: bool, has_moments: bool, paths: Dict[str, str]) -> None:
         self.has_captures, self.has_moments, self.paths = has_captures, has_moments, paths
 
@@ -96,7 +113,14 @@ class Lines:
         about = asked_text(row.question)
         front = f"{capture}: " if self.has_captures and about else ""
         line = f"{front}{about or capture}{self.at(row)}: {self.said(capture, row)}"
-        return coloured("\n".join(map(escaped, [line, *(f"{INDENT}{each}" for each in reasons_of(row))])))
+        return coloured("\n".join(map(escaped, [line, *(f"{INDENT}{each}" for each in self.behind(row))])))
+
+    def behind(self, row: Row) -> List[Any]:
+        """The sentences below the line: why it isn't secure, and what is odd of it, where that is told."""
+        return [*reasons_of(row), *self.odd_told(row.odd or ())]
+
+    def odd_told(self, found: Iterable[Odd]) -> List[Odd]:
+        return [odd for odd in each_once(found) if self.is_odd_told or odd.word in self.failing]
 
     def at(self, row: Row) -> str:
         return f" at {moment_text(row.moment)}" if self.has_moments else ""
@@ -117,13 +141,21 @@ class Sums(Lines):
         moments = itertools.groupby(rows, key=lambda row: row.moment)
         return "".join(self.of_moment(capture, list(group)) for _, group in moments)
 
+    def behind(self, row: Row) -> List[Any]:
+        return list(reasons_of(row))
+
     def of_moment(self, capture: str, rows: List[Row]) -> str:
         asked = [row for row in rows if row.question]
         others = super().text(capture, [row for row in rows if row.status != SECURE])
         if not asked:
             return others
         head = escaped(f"{capture}: {counted(len(asked), 'question')}{self.at(asked[0])}: {counts_text(asked)}")
-        return f"{head}\n{others}"
+        return f"{head}\n{others}{self.odd_of(asked)}"
+
+    def odd_of(self, rows: List[Row]) -> str:
+        """What is odd of all of them, each once."""
+        found = self.odd_told(odd for row in rows for odd in row.odd or ())
+        return "".join(f"{INDENT}{escaped(str(odd))}\n" for odd in found)
 
 
 def counts_text(rows: List[Row]) -> str:

@@ -1,24 +1,29 @@
 """A capture judged: verified once, and asked each question at each moment. All that it reads is octets."""
 import contextlib
+import itertools
 import json
-from typing import Dict, List, NamedTuple, Optional, Tuple
+from typing import Dict, List, NamedTuple, Optional, Tuple, Union
 
 from ..asked import Time
 from ..asking.questions import Question, Questions
 from ..capturing.frames import frames_of
 from ..explaining.explanation import Explanation
+from ..explaining.keys import Keys
 from ..explaining.replies import Reply
 from ..explaining.sentences import FAILING
-from ..program import EXPLAIN, FAILED, SECURE, Json, Program, Told, Unlisted
-from ..started import nameless
+from ..odd.found import Oddities, Wish
+from ..odd.kinds import Odd
+from ..program import EXPLAIN, FAILED, ODD, SECURE, Json, Program, Told, Unlisted
+from ..started import content_of, nameless
 from ..verifying.verifier import Budget
 
-from .every import NOTHING, every_question
-from .evidence import Evidence
+from .every import NOTHING, every_question, has_too_many
+from .evidence import Evidence, keys_of
 from .replies import replies_of
 from .statements import STATEMENTS, statements_on
 
 DENYING = {47: "NSEC", 50: "NSEC3"}
+Signers = Dict[Tuple[int, int], Tuple[str, int]]  # the signer and the key tag, by RRset and signature
 HOLDS = "holds"  # all that is said of what is secure, but on a page: rows of many questions are to fit into memory
 
 
@@ -33,6 +38,7 @@ class Common(NamedTuple):
     budget: Budget = Budget()
     is_page: bool = False
     skew: int = 0
+    wish: Optional[Wish] = None  # what is odd, where that is to be looked for
 
 
 class Row(NamedTuple):
@@ -47,9 +53,17 @@ class Row(NamedTuple):
     evidence: Json
     explained: Optional[Json]
     replies: Optional[Tuple[Reply, ...]] = None
+    keys: Optional[Keys] = None
+    odd: Optional[Tuple[Odd, ...]] = None  # None where nobody looked
+    is_failing: bool = False  # for something odd, though it's secure
 
     def told(self) -> Optional[Explanation]:
-        return Explanation(self.explained, self.replies) if self.explained else None
+        return Explanation(self.explained, self.replies, self.keys) if self.explained else None
+
+    @property
+    def ending(self) -> int:
+        """The exit status of the verdict."""
+        return ODD if self.is_failing and self.status == SECURE else self.status
 
 
 class Judged(NamedTuple):
@@ -59,33 +73,78 @@ class Judged(NamedTuple):
     notes: List[str]
 
 
+class Prepared(NamedTuple):
+    """A capture whose signatures are verified and whose questions aren't asked yet."""
+
+    octets: bytes
+    asked: List[Question]
+    statements: bytes
+    notes: List[str]
+
+
 def judged(
     octets: bytes, questions: Questions, common: Common, program: Program, place: Optional[str] = None
 ) -> Judged:
     """The verdicts on the questions, by moment. What is too long to be kept in memory is at the place for a time, where
     one is told. Keys of TSIG never are."""
-    view = View(octets, common.is_page)
-    asked = every_question(view.evidence) if questions is None else questions
+    view = View(octets, common.is_page, common.wish)
+    asked = view.every_question() if questions is None else questions
     with contextlib.ExitStack() as stack:
-        given = {"capture": octets, "macs": common.macs, "keys": common.keys}
-        files = {
-            name: stack.enter_context(nameless(content)).fileno()
-            for name, content in given.items()
-            if content is not None
-        }
+        files = opened(stack, octets, common)
         try:
             statements, notes = statements_on(files["capture"], common.moments, common.budget, program, place)
         except Unlisted as fault:
             return without_verdicts(questions, common, of_fault(fault.said))
         files[STATEMENTS] = stack.enter_context(statements).fileno()
-        rows, left = [], Time(common.budget.questions)
-        for moment in common.moments:
-            with nameless(common.anchors[moment]) as anchors:
-                opened = {**files, "anchors": anchors.fileno()}
-                told = program.told(EXPLAIN, opened, moment, asked or [NOTHING], left)
-                found = [view.row(moment, question, each) for each, question in zip(told, asked or [NOTHING])]
-                rows += as_one(found, bool(asked)) if questions is None else found
-    return Judged(rows, notes)
+        rows = rows_of(view, asked or [NOTHING], files, common, program)
+    return Judged(joined(rows, questions is None, bool(asked)), notes)
+
+
+def prepared(octets: bytes, asked: List[Question], common: Common, program: Program) -> Union[Prepared, Judged]:
+    """The capture, to be asked by several processes; where the program fails, the rows that say so."""
+    with contextlib.ExitStack() as stack:
+        files = opened(stack, octets, common)
+        try:
+            statements, notes = statements_on(files["capture"], common.moments, common.budget, program)
+        except Unlisted as fault:
+            return without_verdicts(asked, common, of_fault(fault.said))
+        content = content_of(stack.enter_context(statements))
+    return Prepared(octets, asked, content, notes)
+
+
+def share_rows(capture: Prepared, common: Common, program: Program) -> List[List[Row]]:
+    """The rows of a capture that is prepared, of each moment."""
+    with contextlib.ExitStack() as stack:
+        files = opened(stack, capture.octets, common)
+        files[STATEMENTS] = stack.enter_context(nameless(capture.statements)).fileno()
+        rows = rows_of(View(capture.octets, common.is_page, common.wish), capture.asked, files, common, program)
+    return rows
+
+
+def opened(stack: contextlib.ExitStack, octets: bytes, common: Common) -> Dict[str, int]:
+    """What all runs of the program read, by the options that name it."""
+    given = {"capture": octets, "macs": common.macs, "keys": common.keys}
+    there = {name: content for name, content in given.items() if content is not None}
+    return {name: stack.enter_context(nameless(content)).fileno() for name, content in there.items()}
+
+
+def rows_of(
+    view: "View", asked: List[Question], files: Dict[str, int], common: Common, program: Program
+) -> List[List[Row]]:
+    """The rows of each moment."""
+    rows, left = [], Time(common.budget.questions)
+    for moment in common.moments:
+        with nameless(common.anchors[moment]) as anchors:
+            given = {**files, "anchors": anchors.fileno()}
+            told = program.told(EXPLAIN, given, moment, asked, left, common.budget.octets)
+            rows.append([view.row(moment, question, each) for each, question in zip(told, asked)])
+    return rows
+
+
+def joined(by_moment: List[List[Row]], is_of_all: bool, is_asked: bool) -> List[Row]:
+    """The rows of all moments; of all that a capture has, what is refused of it as a whole is one."""
+    rows = [as_one(each, is_asked) for each in by_moment] if is_of_all else by_moment
+    return list(itertools.chain.from_iterable(rows))
 
 
 def as_one(rows: List[Row], is_asked: bool) -> List[Row]:
@@ -100,10 +159,12 @@ def as_one(rows: List[Row], is_asked: bool) -> List[Row]:
 class View:
     """What the records of a capture say of verdicts."""
 
-    def __init__(self, octets: bytes, is_whole: bool = False) -> None:
+    def __init__(self, octets: bytes, is_whole: bool = False, wish: Optional[Wish] = None) -> None:
         self.octets, self.is_whole = octets, is_whole
+        self.oddities = Oddities(wish) if wish else None
         self.kept: Optional[Evidence] = None
         self.kept_replies: Optional[Tuple[Reply, ...]] = None
+        self.kept_keys: Optional[Keys] = None
 
     @property
     def evidence(self) -> Evidence:
@@ -112,6 +173,10 @@ class View:
             self.kept = Evidence(self.octets)
         return self.kept
 
+    def every_question(self) -> List[Question]:
+        """All that the capture can be asked; nothing where it's refused, however much it has."""
+        return [] if has_too_many(self.octets) else every_question(self.evidence)
+
     @property
     def replies(self) -> Tuple[Reply, ...]:
         """Read where a verdict fails."""
@@ -119,38 +184,55 @@ class View:
             self.kept_replies = replies_of(frames_of(self.octets)[0])
         return self.kept_replies
 
+    @property
+    def keys(self) -> Keys:
+        """Read where a page has a picture."""
+        if self.kept_keys is None:
+            self.kept_keys = keys_of(self.evidence)
+        return self.kept_keys
+
     def row(self, moment: int, question: Question, told: Told) -> Row:
         if told.value is None:
             return Row(moment, question, told.status, told.word, of_fault(told.said), None)
         aliases = told.value["aliases"]
-        evidence = {"aliases": [self.of_alias(each) for each in aliases]} if aliases else {}
-        evidence.update(self.evidence_of(told.value))
+        signers = signers_of(told.value)
+        evidence = {"aliases": [self.of_alias(each, signers) for each in aliases]} if aliases else {}
+        evidence.update(self.evidence_of(told.value, signers))
+        odd = self.oddities.of(lambda: self.evidence, Explanation(told.value)) if self.oddities else None
         if told.status == SECURE and not self.is_whole:
             told.value["why"] = [line for line in told.value["why"] if line["line"] == HOLDS]
         replies = self.replies if told.word in FAILING else None
-        return Row(moment, question, told.status, told.word, evidence, told.value, replies)
+        keys = self.keys if self.is_whole else None
+        is_failing = bool(self.oddities and self.oddities.is_failing(odd or ()))
+        return Row(moment, question, told.status, told.word, evidence, told.value, replies, keys, odd, is_failing)
 
-    def evidence_of(self, value: Json) -> Json:
+    def evidence_of(self, value: Json, signers: Signers) -> Json:
         """What carries the verdict, besides the aliases."""
         if "rrset" in value:
-            return self.of_signature(value["rrset"], value["signature"])
+            return self.of_signature(value["rrset"], value["signature"], signers)
         if "records" in value:
             return {"records": [[each["owner"], DENYING.get(each["type"], each["type"])] for each in value["records"]]}
         if "cut" in value:
             return {"cut": value["cut"]}
         return {"todo": len(value["todo"])} if "todo" in value else {}
 
-    def of_signature(self, rrset: int, signature: int) -> Json:
-        """The numbers, and who signed."""
+    def of_signature(self, rrset: int, signature: int, signers: Signers) -> Json:
+        """The numbers, and who signed: by the lines that say why, else by the capture, which then has to be read."""
         found: Json = {"rrset": rrset, "signature": signature}
-        signed = self.evidence.signature(rrset, signature)
+        signed = signers.get((rrset, signature)) or self.evidence.signature(rrset, signature)
         return {**found, "signer": signed[0], "key": signed[1]} if signed else found
 
-    def of_alias(self, alias: Json) -> Json:
+    def of_alias(self, alias: Json, signers: Signers) -> Json:
         """The same, between the name and its target."""
         target = self.evidence.target(alias["rrset"])
-        found = {"name": alias["name"], **self.of_signature(alias["rrset"], alias["signature"])}
+        found = {"name": alias["name"], **self.of_signature(alias["rrset"], alias["signature"], signers)}
         return {**found, "target": target} if target else found
+
+
+def signers_of(value: Json) -> Signers:
+    """Who signed what, by the lines of what holds."""
+    lines = [line for line in value["why"] if line["line"] in ("signed", "trusted")]
+    return {(line["rrset"], line["signature"]): (line.get("signer") or line["zone"], line["tag"]) for line in lines}
 
 
 def without_verdicts(questions: Questions, common: Common, evidence: Json) -> Judged:

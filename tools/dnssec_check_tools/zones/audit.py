@@ -48,7 +48,7 @@ class Audit:
         """What the transfer lacks by itself, which no question has to be asked for."""
         said = [] if self.transfer.is_whole else ["the transfer doesn't end with the zone's SOA record"]
         if not self.chain.owners:
-            said.append("the zone has no NSEC or NSEC3 records of one kind: nothing that it denies is asked")
+            said.append(f"{self.chain.lacking}: nothing that it denies is asked")
         return said + self.chain.faults()
 
 

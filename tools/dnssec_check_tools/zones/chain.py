@@ -11,6 +11,7 @@ from .transfer import Key, kinds_of, only, parsed
 
 # Hashes that are made to find names for the gaps between others, and names that are tried for each gap.
 HASHES_MOST, TRIES_MOST = 4_000_000, 64
+ITERATIONS_MOST = 500  # of more the program uses no record
 # The digits of base32 with extended hex, and those of base32 (RFC 4648 7 and 6).
 DIGITS = b"0123456789ABCDEFGHIJKLMNOPQRSTUV", b"ABCDEFGHIJKLMNOPQRSTUVWXYZ234567"
 FROM_HEX, TO_HEX = bytes.maketrans(*DIGITS), bytes.maketrans(*DIGITS[::-1])
@@ -32,6 +33,7 @@ class Chain:
     """The records of a chain in their order: at each place its owner, and what the library reads of it."""
 
     kind = 0
+    lacking = "the zone has no NSEC or NSEC3 records of one kind"  # where it has no record
 
     def __init__(self, contents: Contents) -> None:
         self.contents = contents
@@ -196,4 +198,10 @@ def chain_of(contents: Contents) -> Chain:
     hashed = [name for name, kinds in contents.kinds.items() if TYPE_NSEC3 in kinds]
     read = {name: parsed(TYPE_NSEC3, only(contents.rrset(name, TYPE_NSEC3).rdata) or b"") for name in hashed}
     found = {name: each for name, each in read.items() if each}
-    return ByHash(contents, found) if found else Chain(contents)
+    used = {name: each for name, each in found.items() if each.iterations <= ITERATIONS_MOST}
+    if used:
+        return ByHash(contents, used)
+    none = Chain(contents)
+    if found:  # who made them would say how long the hashes of all names take
+        none.lacking = f"the zone's NSEC3 records have more than {ITERATIONS_MOST} iterations, so none of them is used"
+    return none

@@ -10,7 +10,9 @@ from ..explaining.values import counted
 from ..judging.every import DENYING
 from ..judging.text import INDENT, Lines
 from ..judging.work import Row
-from ..program import BOGUS, INSECURE, SECURE
+from ..odd.kinds import Odd
+from ..odd.transfers import gaps_of
+from ..program import BOGUS, FROM_BEST, INSECURE, ODD, SECURE
 
 from .audit import Audit
 from .questions import GAP, RRSET, TYPE, Item
@@ -27,6 +29,7 @@ class Found:
         self.proved: Counter[str] = Counter()
         self.words: Counter[str] = Counter()
         self.shown: Set[str] = set()  # owners of the chain's records that proofs have
+        self.odd: Set[Odd] = set()
 
     def take(self, item: Item, row: Row) -> bool:
         """Whether the row has the verdict that the item wants."""
@@ -38,6 +41,7 @@ class Found:
             self.words[row.word] += 1
         if row.status in (SECURE, INSECURE):
             self.shown.update(owners_of(row))
+        self.odd.update(row.odd or ())
         return is_wanted
 
 
@@ -50,7 +54,8 @@ def owners_of(row: Row) -> Iterator[str]:
 
 
 class ZoneText(Lines):
-    """Lines of what isn't proved, as the captures come, and a sum of all."""
+    """Lines of what isn't proved, as the captures come, and a sum of all. Gaps of the chain are no verdict's, so that
+    they fail is told here."""
 
     def __init__(self, audit: Audit, has_moments: bool, paths: Dict[str, str]) -> None:
         super().__init__(False, has_moments, paths)
@@ -76,11 +81,14 @@ class ZoneText(Lines):
     def sums(self) -> str:
         """What all of it comes to, at each moment."""
         lacking = self.audit.lacking()
-        self.worst = BOGUS if lacking else self.worst
+        gaps = list(gaps_of(self.audit.chain))
+        is_failing = any(odd.word in self.failing for odd in gaps)
+        self.worst = max(self.worst, BOGUS if lacking else ODD if is_failing else SECURE, key=FROM_BEST.index)
         lines = [f"zone {self.audit.zone}: {each}" for each in lacking]
         for moment, found in self.found.items():
             at = f" at {moment_text(moment)}" if self.has_moments else ""
-            lines += [f"zone {self.audit.zone}{at}: {each}" for each in self.of_moment(found)]
+            odd = self.odd_told([*found.odd, *gaps])
+            lines += [f"zone {self.audit.zone}{at}: {each}" for each in (*self.of_moment(found), *odd)]
         return "".join(escaped(line) + "\n" for line in lines)
 
     def of_moment(self, found: Found) -> Iterator[str]:

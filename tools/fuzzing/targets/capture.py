@@ -6,6 +6,7 @@ import gzip
 import itertools
 from typing import Iterable, Optional, Sequence
 
+from dnssec_check_tools.asking import captures
 from dnssec_check_tools.asking.questions import Question, question_of_line
 from dnssec_check_tools.capturing import packed, tshark
 from dnssec_check_tools.capturing.answers import MAC_SIZE, Answers, macs_of
@@ -14,7 +15,7 @@ from dnssec_check_tools.capturing.frames import MESSAGES_MOST, framed, frames_of
 from dnssec_check_tools.capturing.messages import is_query, is_truncated, name_text, opcode_of
 from dnssec_check_tools.capturing.notes import notes_of
 from dnssec_check_tools.capturing.pcap import is_packet_capture
-from dnssec_check_tools.capturing.sources import entries_of
+from dnssec_check_tools.capturing.sources import entries_of, other_kind_of
 from dnssec_check_tools.capturing.splitting import RECORDS_MOST, Parts, file_name, part_of
 from dnssec_check_tools.command import tell
 
@@ -65,7 +66,7 @@ def found_by_tshark(octets: bytes) -> Sequence[Found]:
 
 
 def found_in(octets: bytes, kind: Optional[str]) -> Sequence[Found]:
-    packed.UNPACKED_MOST = UNPACKED_MOST
+    packed.UNPACKED_MOST = captures.OTHER_MOST = UNPACKED_MOST
     return found_by_tshark(octets) if kind == "tshark" else entries_of(kind, "-", PORTS)
 
 
@@ -83,6 +84,8 @@ def ended_of(octets: bytes, kind: Optional[str], desk: Desk) -> Ended:
             kept = kept_of(of_messages(found))
         except Refusal as refusal:
             return refused(refusal)
+        if kind is None:
+            check_judged(octets, kept[0])
     for messages in kept:
         check_kept(messages)
         check_split(messages)
@@ -109,6 +112,19 @@ def answers_of(entries: list[Entry], macs: Iterable[Optional[bytes]]) -> list[by
     for note in notes_of(messages, answers.truncated):
         must(note.isprintable(), f"a note that can't be shown: {note!r}")
     return messages
+
+
+def check_judged(octets: bytes, messages: list[bytes]) -> None:
+    """What judge makes of a file of another kind is the same capture, if it's one."""
+    kind, captures.PORTS = other_kind_of(octets), PORTS
+    if kind is None:
+        return
+    try:
+        made = captures.capture_of(octets, kind, "-")
+    except captures.Unmade as refusal:
+        must(not 0 < len(messages) <= MESSAGES_MOST, f"judge refuses what is a capture: {refusal}")
+    else:
+        must(made == framed(messages), "judge makes another capture of it")
 
 
 def check_kept(messages: list[bytes]) -> None:

@@ -1,8 +1,13 @@
 """Tests of tools/capture: how the segments of TCP become messages."""
+import struct
 import time
 import unittest
+from unittest import mock
 
-from dnssec_check_tools.capturing.packets import segment_of
+from dnssec_check_tools.capturing import messages, streams
+from dnssec_check_tools.capturing.entries import InPacket
+from dnssec_check_tools.capturing.messages import end_of_name
+from dnssec_check_tools.capturing.packets import Segment, segment_of
 from dnssec_check_tools.capturing.streams import Streams
 
 from .build import CLIENT, SERVER, framed, message, record, tcp, udp
@@ -96,6 +101,31 @@ class Segments(PacketCase):
         segments = self.stream(framed(ONE), *pieces, framed(TWO), framed(FOUR))
         self.takes_of(segments[:2] + segments[3:], [ONE, TWO, FOUR], "octets before its end aren't")
         self.takes_of(segments[3:], [TWO, FOUR], "its beginning isn't in the packet capture")
+
+    def test_what_is_read_in_vain_behind_gaps_has_an_end(self):
+        """Each segment begins what would be a message of some 5,900 records but for its end. Were all of them read, a file
+        of 8 MB would take a minute."""
+        begin = b"\xff\xff" + struct.pack("!6H", 0, 0x8400, 0, 5957, 0, 0)
+        piece = begin + record(65280, b"") * 130 + record(65280, bytes(5 + len(begin)))[:-len(begin)]
+        pieces, read = [piece] * 100 + [framed(FOUR)], []
+        with mock.patch.object(messages, "end_of_name", lambda *where: read.append(where) or end_of_name(*where)):
+            for most, found in ((40_000, []), (1 << 20, [FOUR])):
+                read.clear()
+                with mock.patch.object(streams, "RECORDS_MOST", most):
+                    told = self.streams_of(pieces)
+                self.assertEqual([each.octets for each in told[:-1]], found)
+                self.assertEqual(told[-1].why, "its beginning isn't in the packet capture")
+                self.assertLess(len(read), most + 6000)
+        self.assertGreater(len(read), 300_000)
+
+    @staticmethod
+    def streams_of(pieces):
+        """What is found in segments with these octets, of which the first isn't there."""
+        found, sequence = Streams("x"), 7
+        for number, piece in enumerate(pieces, 1):
+            found.take(Segment("a port 53", "b port 5", sequence, False, False, False, piece), InPacket(number, "x"))
+            sequence += len(piece)
+        return found.rest()
 
     def test_what_only_looks_like_a_message_behind_a_gap_is_dropped(self):
         told = "octets before its end aren't in the packet capture"

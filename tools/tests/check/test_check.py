@@ -1,5 +1,7 @@
 """What tools/check makes of guards that pass, fail and lack something, and which guards there are."""
+import os
 import signal
+import sys
 import unittest
 from unittest import mock
 
@@ -7,7 +9,7 @@ from checking import guards, packages, running
 from checking.counts import BROKEN, Count, of_status
 from checking.guards import TESTS, TREE, Guard
 from fuzzing.targets import TARGETS
-from tool import load, run
+from tool import TOOLS, load, run, run_program
 
 
 def shell(name, script, **others):
@@ -102,6 +104,21 @@ class Guards(unittest.TestCase):
     def test_each_target_of_fuzz_is_there(self):
         names = {guard.name for guard in guards.guards()}
         self.assertLessEqual({f"fuzz/{target}" for target in TARGETS}, names)
+        self.assertLessEqual({"capture", "verify", "anchors", "zone", "xml"}, set(TARGETS))
+
+    def test_what_a_stranger_sends_is_tried_for_a_minute_by_one_seed(self):
+        """And for as long as is asked for, as an hour before a version."""
+        for seconds in (60, 3600):
+            with mock.patch.object(guards, "FUZZ_SECONDS", seconds):
+                for target in ("capture", "verify", "anchors", "zone", "xml"):
+                    words = ("tools/fuzz", target, "--seconds", str(seconds), "--seed", "1")
+                    self.assertEqual(guards.of_fuzz(target).words, words)
+        script = "from checking import guards; print(guards.FUZZ_SECONDS)"
+        for environment, seconds in (({}, b"60\n"), ({"FUZZ_SECONDS": "3600"}, b"3600\n")):
+            with mock.patch.dict(os.environ, environment):
+                if not environment:
+                    os.environ.pop("FUZZ_SECONDS", None)
+                self.assertEqual(run_program(sys.executable, "-c", script, folder=TOOLS)[1], seconds)
 
     def test_each_has_its_command_and_its_packages(self):
         for guard in guards.guards():

@@ -207,5 +207,27 @@ class Order(unittest.TestCase):
             self.assertEqual([each.ede for each in sentences.reasons(told)], [line["ede"] for line in order])
 
 
+@needs_dns
+class Unsigned(unittest.TestCase):
+    """What has no signature, of a zone that has a DS and of whose keys nobody asked."""
+
+    UNSIGNED = reason("unsigned", 10, owner="www.unsig.test.", type=A, rrset=4)
+    HELD = {"line": "signed", "owner": "unsig.test.", "type": DS, "rrset": 2, "signature": 1, "tag": 1, "algorithm": 13, "signer": "test.", "keys": 1}
+    LACKS = reason("dnskey-missing", 9, zone="unsig.test.")
+    ASKS = "; nobody asked whether unsig.test., which has a DS, has keys: ask for unsig.test. DNSKEY"
+
+    def text(self, *lines, replies=()):
+        return sentences.reasons(told_by(self.UNSIGNED, *lines, replies=replies))[0].text
+
+    def test_it_says_what_to_ask_for(self):
+        self.assertEqual(self.text(self.LACKS, self.HELD), "it has no signature beside it" + self.ASKS)
+
+    def test_it_does_not_where_all_was_asked_or_no_ds_is_there(self):
+        none = replies_of([message("unsig.test.", DNSKEY, authority=[soa("unsig.test.")])])
+        for lines, replies in (((self.LACKS, self.HELD), none), ((self.LACKS, self.HELD), None), ((self.LACKS,), ()), ((self.HELD,), ()),
+                               ((dict(self.LACKS, zone="sig.test."), dict(self.HELD, owner="sig.test.")), ())):
+            self.assertEqual(self.text(*lines, replies=replies), "it has no signature beside it", lines)
+
+
 if __name__ == "__main__":
     unittest.main()

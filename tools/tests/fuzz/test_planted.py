@@ -3,7 +3,7 @@ import re
 import unittest
 from unittest import mock
 
-from dnssec_check_tools.asking import anchors, questions, zone_file
+from dnssec_check_tools.asking import anchors, captures, questions, zone_file
 from dnssec_check_tools.capturing import answers, dnsviz, packets, sources, splitting
 from dnssec_check_tools.judging import evidence
 from dnssec_check_tools.verifying import entries, rsa
@@ -46,6 +46,7 @@ PLANTED = {
     "a server's name as it is": ("capture", dnsviz, "shown", str, "can't be shown"),
     "hex that isn't looked at": ("capture", sources, "octets_of_line", lambda line, _: bytes.fromhex(line), "ValueError"),
     "packets whose end isn't looked at": ("capture", packets, "number_at", lambda octets, place, _: octets[place], "IndexError"),
+    "a capture of judge's own": ("capture", captures, "framed", lambda _: b"", "judge makes another capture of it"),
     "numbers that begin elsewhere": ("records", evidence, "Rrset", rrset_of_the_next_number, "numbers that don't rise"),
     "RDATA that isn't looked at": ("records", evidence, "readable_records", lambda octets: [(each, ()) for each in evidence.records_of(octets)], "Incomplete"),
     "digits that are odd": ("verify", entries, "any", lambda _: False, "is taken"),

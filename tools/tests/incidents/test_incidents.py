@@ -1,10 +1,11 @@
 """Tests of tools/incidents: its lines by what programs say, and where root has what it needs, the incidents against the page."""
 import os
+import pathlib
 import tempfile
 import unittest
 from unittest import mock
 
-from breaking import others, table
+from breaking import others, processes, table
 from breaking.incidents import INCIDENTS
 from judge.helper import needs_dns
 from tool import PROGRAM, TOOLS, load, run
@@ -49,6 +50,40 @@ class Lines(unittest.TestCase):
         page = BREAKS.read_text()
         for each in INCIDENTS:
             self.assertEqual(page.count(f"\n| {each.what} | "), 1, each.what)
+
+
+# Stands in for tcpdump on a busy machine: it writes what comes before the mark a second after that has come.
+LATE = """#!/usr/bin/env python3
+import socket, sys, time
+path = sys.argv[sys.argv.index("-w") + 1]
+ahead = socket.socket(socket.AF_INET, socket.SOCK_DGRAM)
+ahead.bind(%r)
+with open(path, "wb", buffering=0) as file:
+    file.write(b"begins ")
+    mark = ahead.recv(100)
+    time.sleep(1)
+    file.write(b"last packet " + mark)
+    time.sleep(60)
+"""
+
+
+class Captured(unittest.TestCase):
+    def captured(self, script):
+        with tempfile.TemporaryDirectory() as folder:
+            program, path = pathlib.Path(folder, "tcpdump"), pathlib.Path(folder, "x.pcap")
+            program.write_text(script)
+            program.chmod(0o755)
+            with mock.patch.dict(os.environ, PATH=f"{folder}:{os.environ['PATH']}"), processes.captured(path, "port 53"):
+                begun = path.read_bytes()
+            return begun, path.read_bytes()
+
+    def test_all_that_was_sent_is_written(self):
+        begun, ended = self.captured(LATE % (processes.MARKED,))
+        self.assertEqual((begun, ended[:19]), (b"begins ", b"begins last packet "))
+
+    def test_a_capture_that_is_never_written_is_told(self):
+        with mock.patch.object(processes, "SECONDS_TO_WRITE", 1), self.assertRaisesRegex(processes.Broken, "doesn't write"):
+            self.captured('#!/bin/sh\nwhile [ "$1" != -w ]; do shift; done\necho begins > "$2"\nexec sleep 60\n')
 
 
 @needs_dns

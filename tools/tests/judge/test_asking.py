@@ -1,6 +1,8 @@
 """Tests of how judge asks the program: all questions of a capture at a moment in one run, within a time."""
+import json
 import os
 import tempfile
+import tracemalloc
 import unittest
 from unittest import mock
 
@@ -10,9 +12,10 @@ from dnssec_check_tools.asking.faults import Failure
 from dnssec_check_tools.asking.names import labels_of
 from dnssec_check_tools.asking.questions import Question
 from dnssec_check_tools.program import EXPLAIN, OtherAnswer, Program
+from dnssec_check_tools.started import nameless
 from tool import run_program
 
-from .helper import ANCHORS, Judging, capture_of, needs_dns, verdicts
+from .helper import ANCHORS, EXAMPLES, Judging, capture_of, needs_dns, verdicts
 
 WWW = capture_of("bind-www-a")
 LATE = "not asked: the {} seconds for the questions of a capture are over; --budget-questions SECONDS gives more"
@@ -141,6 +144,79 @@ class Within(Runs):
         left = Time(8, lambda: 0.0)
         self.told(questions=[Question("é.", 1)], left=left)
         self.assertTrue(0 < left.left < 8, left.left)
+
+
+class Memory(Runs):
+    """What the answers take: one that is Pending has all again that nobody verified, of 715 kB two GB."""
+
+    def files(self, size, statements=b""):
+        """The capture, of so many octets, and the statements on it, by the numbers of open files."""
+        opened = {"capture": nameless(bytes(size)), "statements": nameless(statements)}
+        for file in opened.values():
+            self.addCleanup(file.close)
+        return {name: file.fileno() for name, file in opened.items()}
+
+    def said(self, files, stop, octets=1_000_000):
+        path = os.path.join(self.room, "program")
+        with open(path, "w", encoding="ascii") as file:
+            file.write(DOUBLE.format(room=self.room, stop=stop))
+        os.chmod(path, 0o755)
+        return [each.said for each in Program(path).told(EXPLAIN, files, 7, ABC[:2], Time(60), octets)]
+
+    def test_the_program_has_what_statements_and_an_answer_take(self):
+        """Told in KiB; the two questions have ten octets. A capture of which little can be listed has no limit, and a lower one stays."""
+        wait = 'sleep 0.5; [ $name = a. ] && { echo "$(ulimit -v) is the limit" >&2; exit 3; }; true'
+        for size, statements, most in ((4097, b"", 101_000_080), (4097, bytes(5000), 101_020_080), (4096, b"", None)):
+            first, _ = self.said(self.files(size, statements), wait)
+            self.assertEqual(first, f"- {most // 1024 if most else 'unlimited'} is the limit")
+
+    def test_all_files_count_but_the_capture(self):
+        """Of statements each line has long fields, of others it may be a few octets."""
+        files = self.files(5000, bytes(300))
+        self.assertEqual(program.memory_for(files, 7), asked.Memory(7 + 100_000_000 + 4 * 300, 7))
+        with nameless(bytes(50)) as anchors, nameless(bytes(7)) as questions:
+            more = {**files, "anchors": anchors.fileno(), "questions": questions.fileno()}
+            self.assertEqual(program.memory_for(more, 7).most, 7 + 100_000_000 + 4 * 300 + 8 * 57)
+
+    def test_an_answer_for_which_it_has_too_little_is_a_fault_that_says_so(self):
+        text = "- its answer takes more memory than the 101,000,0{}0 octets that it may; --budget-octets OCTETS gives more"
+        for peak, told in ((1_000_001, [text.format(number) for number in (8, 4)]), (1_000_000, ["90", "90"])):
+            with mock.patch.object(asked, "peak_of", lambda process, peak=peak: process.wait() * 0 + peak):
+                self.assertEqual(self.said(self.files(4097), "echo fault 90 >&2; exit 1"), told)
+        self.assertEqual(self.said(self.files(4097), "echo fault 91 >&2; exit 1"), ["91"] * 2)
+
+    def test_what_is_to_be_verified_is_counted_and_not_kept(self):
+        entry = b'{"algorithm":13,"key":"%s","data":"%s","signature":"-"}' % (b"ab" * 500, b"01" * 500)
+        front, behind = b'{"name":"a.","type":1,"verdict":"Pending","status":4,"aliases":[],"todo":[', b'],"why":[{"line":"hope","todo":3}]}\n'
+        for count in (0, 1, 2, 3):
+            line = front + b",".join([entry] * count) + behind
+            value = json.loads(line)
+            self.assertEqual(json.loads(program.without_todo(line)), {**value, "todo": [None] * count})
+        bogus = b'{"name":"\\"todo\\":[{.","type":1,"verdict":"Bogus","status":5,"aliases":[],"why":[]}\n'
+        self.assertEqual(program.without_todo(bogus), bogus)
+        line = front + b",".join([entry] * 5000) + behind
+        tracemalloc.start()
+        told = program.told_of(ABC[0], json.loads(program.without_todo(line)))
+        peak = tracemalloc.get_traced_memory()[1]
+        tracemalloc.stop()
+        self.assertEqual((told.status, told.value["todo"]), (4, [None] * 5000))
+        self.assertLess(peak, len(line) / 10)
+
+    def test_it_is_in_answers_of_the_program_too(self):
+        """And each other answer stays as it is."""
+        counts = []
+        for path in sorted(EXAMPLES.glob("*/explain.json")) + sorted(EXAMPLES.glob("*/check.json")):
+            for line in path.read_bytes().splitlines(keepends=True):
+                value = json.loads(line)
+                counts.append(len(value.get("todo", ())))
+                wanted = {**value, "todo": [None] * counts[-1]} if "todo" in value else value
+                self.assertEqual(json.loads(program.without_todo(line)), wanted)
+        self.assertGreater(sum(counts), 2)
+        self.assertGreater(counts.count(0), 20)
+
+    def test_no_answer_is_parsed_with_what_is_to_be_verified(self):
+        with mock.patch.object(program, "without_todo", lambda _: b'{"name":"a.","type":1,"verdict":"Insecure","status":3}'):
+            self.assertEqual(self.told(questions=ABC[:1]), (["Insecure"], 1))
 
 
 class Names(unittest.TestCase):

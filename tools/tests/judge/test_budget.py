@@ -5,7 +5,7 @@ import unittest
 from unittest import mock
 
 from dnssec_check_tools import listed
-from dnssec_check_tools.judging import spread, statements, work
+from dnssec_check_tools.judging import processes, spread, statements, work
 from dnssec_check_tools.program import Program, Unlisted
 from dnssec_check_tools.started import content_of
 from dnssec_check_tools.verifying import verifier
@@ -121,7 +121,7 @@ class Once(Room):
 
         tasks = [spread.Task(number, "-", b"x", None, []) for number in range(3)]
         with mock.patch.object(verifier, "is_verified_good", is_verified_good):
-            told = list(spread.in_processes(tasks, work.Common({5: b""}, None, None, [5]), program, 1))
+            told = list(processes.in_processes(tasks, work.Common({5: b""}, None, None, [5]), program, 1, 3))
         self.assertEqual(told, [(number, work.Judged([], [])) for number in range(3)])
         with open(path, encoding="ascii") as file:
             self.assertEqual(file.read(), "todo 13 0a 0b 0c")

@@ -9,15 +9,15 @@ from dnssec_check_tools.judging import colours
 
 from .helper import ANCHORS, JUDGE, NOON, Judging, capture_of, needs_dns
 
-TEXT = "a. A: Bogus\n  FAIL a. A: it HOLDS [EDE 9]\n  HAS a.: FAIL b\n  HOLDS a.: c\n  WHY a.: d"
-RED, GREEN, BOLD, END = "\x1b[1;31m", "\x1b[32m", "\x1b[1m", "\x1b[0m"
+TEXT = "a. A: Bogus\n  FAIL a. A: it HOLDS [EDE 9]\n  HAS a.: FAIL b\n  HOLDS a.: c\n  WHY a.: d\n  ODD a.: e"
+RED, GREEN, BOLD, YELLOW, END = "\x1b[1;31m", "\x1b[32m", "\x1b[1m", "\x1b[33m", "\x1b[0m"
 
 
 class Marks(unittest.TestCase):
     def test_the_first_words_alone(self):
         with mock.patch.object(colours, "is_coloured", lambda: True):
             self.assertEqual(colours.coloured(TEXT), TEXT.replace("  FAIL", f"  {RED}FAIL{END}").replace(
-                "  HOLDS", f"  {GREEN}HOLDS{END}").replace("  WHY", f"  {BOLD}WHY{END}"))
+                "  HOLDS", f"  {GREEN}HOLDS{END}").replace("  WHY", f"  {BOLD}WHY{END}").replace("  ODD", f"  {YELLOW}ODD{END}"))
         with mock.patch.object(colours, "is_coloured", lambda: False):
             self.assertEqual(colours.coloured(TEXT), TEXT)
 

@@ -1,8 +1,12 @@
 """Tests of --every: what a capture is asked, how it's summed up, and what becomes of a capture that can't be judged."""
 import json
 import shutil
+import struct
+from unittest import mock
 
-from dnssec_check_tools.judging.every import can_be_asked, every_question
+from dnssec_check_tools.capturing.frames import framed
+from dnssec_check_tools.judging import work
+from dnssec_check_tools.judging.every import can_be_asked, every_question, has_too_many
 from dnssec_check_tools.judging.evidence import Evidence
 from dnssec_check_tools.judging.text import Sums
 from dnssec_check_tools.judging.work import Row
@@ -85,6 +89,38 @@ class Every(Judging):
     def test_it_goes_without_questions(self):
         for words in (("www.bind.test/A", WWW), ("--questions", ANCHORS, WWW), ()):
             self.assertEqual(self.noon("--every", *words)[:2], (2, []))
+
+
+def message(count, more=(0, 0), is_torn=False):
+    """One with records of which the last of its counts tell."""
+    record = b"\1a\0" + struct.pack(">HHIH", 65280, 1, 5, 0)
+    return struct.pack(">6H", 1, 0x8400, 0, count, *more) + record * (count + sum(more) - is_torn)
+
+
+class Excess(Judging):
+    """Captures of more records than the program takes, of which as many names as a stranger likes would be read."""
+
+    def test_what_the_program_refuses_is_not_read(self):
+        for messages in ([message(4097)], [message(2000), message(2096, (0, 1))], [message(1, (0, 4096))], [message(60000, is_torn=True)]):
+            self.assertTrue(has_too_many(framed(each[:65535] for each in messages)))
+        script = "echo refused 403 message 1 >&2; exit 7"
+        common = work.Common({7: b""}, None, None, [7])
+        with mock.patch.object(work, "Evidence", side_effect=AssertionError("it is read")):
+            found = work.judged(framed([message(4097)]), None, common, work.Program(str(self.stand_in(script))))
+        self.assertEqual(found.rows, [Row(7, None, 7, "refused", {"number": 403, "message": 1}, None)])
+
+    def test_what_it_takes_is_read(self):
+        for messages in ([], [b"octets"], [message(4096)], [message(2000), message(2094, (1, 1))]):
+            self.assertFalse(has_too_many(framed(messages)), messages)
+
+    def test_the_limit_is_the_programs(self):
+        if self.room in self.program.parents:
+            self.skipTest("the double reads no records")
+        path = self.room / "many.cap"
+        for messages, told in (([message(4096)], "Indeterminate"), ([message(2000), message(2097)], "refused 403 message 2 ")):
+            path.write_bytes(framed(messages))
+            _, lines, _ = self.judge("--every", "--at", "7", "--anchors", "/dev/null", path)
+            self.assertIn(told, lines[0])
 
 
 class Counts(Judging):

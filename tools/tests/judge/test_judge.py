@@ -66,17 +66,17 @@ class Lines(Judging):
 
     def test_tables(self):
         status, lines, _ = self.noon("--tsv", NOSUCH, WWW, "nosuch.bind.test/A")
-        head = "capture\tmoment\tname\ttype\tstatus\tverdict\tevidence\tuntil\treason\tede\treasons"
+        head = "capture\tmoment\tname\ttype\tstatus\tverdict\tevidence\tuntil\treason\tede\treasons\todd"
         row = (f"{NOSUCH}\t{NOON}\tnosuch.bind.test.\tA\t0\tSecureNoName\trecord nodatalias.bind.test. NSEC; record bind.test. NSEC"
-               "\t1803859200\t\t\t")
+               "\t1803859200\t\t\t\tends-at-once,rsa-short")
         said = f"nosuch.bind.test. A: {MISSING}"
-        bogus = f"{WWW}\t{NOON}\tnosuch.bind.test.\tA\t5\tBogus\t\t\t{said}\t12\t{said} [EDE 12]"
+        bogus = f"{WWW}\t{NOON}\tnosuch.bind.test.\tA\t5\tBogus\t\t\t{said}\t12\t{said} [EDE 12]\t"
         self.assertEqual((status, lines), (5, [head, row, bogus]))
         _, lines, _ = self.noon("--jsonl", WWW, "www.bind.test/A")
         carried = {"rrset": 6, "signature": 1, "signer": "bind.test.", "key": 11133}
         self.assertEqual(json.loads(lines[0]), {"capture": str(WWW), "moment": int(NOON), "name": "www.bind.test.", "type": "A",
                                                 "status": 0, "verdict": "SecureAnswer", "evidence": carried,
-                                                "until": 1803859200, "reason": None, "ede": None, "reasons": []})
+                                                "until": 1803859200, "reason": None, "ede": None, "reasons": [], "odd": ["rsa-short"]})
 
     def test_several_at_once_give_the_same(self):
         for number in range(7):
@@ -171,7 +171,7 @@ class Words(Judging):
         for words, count in (((WWW, "--questions", questions), len(asked)), ((self.room, "www.bind.test/A"), len(BAD_NAMES))):
             status, lines, errors = self.noon("--tsv", *words)
             self.assertEqual((status in (0, 5, 7), errors, len(lines)), (True, "", 1 + count))
-            self.assertTrue(all(line.count("\t") == 10 and line.replace("\t", "").isprintable() for line in lines))
+            self.assertTrue(all(line.count("\t") == 11 and line.replace("\t", "").isprintable() for line in lines))
         told = {os.fsencode(json.loads(line)["capture"]) for line in self.noon("--jsonl", self.room, "www.bind.test/A")[1]}
         self.assertEqual(told, {os.fsencode(self.room / f"{name}.cap") for name in BAD_NAMES})
         self.assertFalse((self.room / "X").exists() or os.path.exists("X"))
@@ -212,7 +212,7 @@ class Ends(Judging):
         path.symlink_to(self.room / "nowhere")
         status, lines, _ = self.noon("--tsv", path, WWW, "www.bind.test/A")
         self.assertEqual((status, len(lines)), (1, 3))
-        self.assertEqual(lines[1], f"{path}\t{NOON}\twww.bind.test.\tA\t1\tfault\t811 capture\t\t\t\t")
+        self.assertEqual(lines[1], f"{path}\t{NOON}\twww.bind.test.\tA\t1\tfault\t811 capture\t\t\t\t\t")
 
     def test_a_read_that_fails(self):
         """A file that opens and can't be read where it begins, by its name and as the standard input."""

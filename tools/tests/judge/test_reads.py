@@ -6,10 +6,10 @@ import tempfile
 import unittest
 from unittest import mock
 
-from tool import load, run
+from tool import run
 
 from dnssec_check_tools.asking import captures
-from dnssec_check_tools.judging import records, spread, work
+from dnssec_check_tools.judging import records, spread, tasks, work
 
 from .helper import Judging, capture_of, needs_dns, verdicts
 
@@ -68,21 +68,51 @@ class Folders(Room):
 
 class Tasks(Room):
     def tasks(self, path, page=None, is_read_here=False):
-        return list(load("judge").tasks_of([(path, [])], page, is_read_here))
+        return list(tasks.tasks_of([(path, ["asked"])], page, is_read_here))
 
     def test_a_file_is_read_by_whoever_judges_it(self):
         path = self.lay("a.cap", SMALL)
-        self.assertEqual(self.tasks(path), [spread.Task(0, path, None, None, [])])
+        self.assertEqual(self.tasks(path), [spread.Task(0, path, None, None, ["asked"])])
         with mock.patch.object(spread, "judged", lambda octets, *_: octets):
             common = work.Common({}, None, None, [])
             self.assertEqual(spread.judged_task(self.tasks(path)[0], common, None), SMALL)
 
     def test_it_is_read_here_where_others_need_its_octets(self):
         path, page = self.lay("a.cap", SMALL), mock.Mock()
-        read = [spread.Task(0, path, SMALL, None, [])]
+        read = [spread.Task(0, path, SMALL, None, ["asked"])]
         self.assertEqual(self.tasks(path, is_read_here=True), read)
         self.assertEqual(self.tasks(path, page), read)
         page.read.assert_called_once_with(0, path, SMALL)
+
+    def test_what_is_met_where_it_is_read_is_the_fault_of_its_capture(self):
+        """Whoever reads it: the others are judged."""
+        path, common = self.lay("a.cap", SMALL), work.Common({}, None, None, [5])
+        rows = (MemoryError(), {"number": 90}), (KeyError("x"), {"said": "KeyError: 'x'"}), (RecursionError("deep"), {"said": "RecursionError: deep"}), \
+            (captures.Unmade("no answer"), {"said": "no answer"}), (OSError("x"), {"number": 811, "file": "capture"})
+        for fault, evidence in rows:
+            with self.subTest(fault), mock.patch.object(tasks, "octets_of", side_effect=fault):
+                task, = self.tasks(path, is_read_here=True)
+                row, = spread.of_unread(task, task.fault, common).rows
+                self.assertEqual(row.evidence, evidence)
+            with self.subTest(fault), mock.patch.object(spread, "octets_of", side_effect=fault):
+                row, = spread.answer(common, None, spread.Task(0, path, None, None, ["asked"])).rows
+                self.assertEqual(row.evidence, evidence)
+
+    def test_no_more_are_read_ahead_than_are_judged_at_once(self):
+        """And one that waits; a task may have all octets of a capture."""
+        ahead, given = [], 0
+
+        def all_tasks():
+            nonlocal given
+            for number in range(20):
+                given += 1
+                yield spread.Task(number, "-", SMALL, None, [])
+
+        with mock.patch.object(spread, "judged", lambda *_: work.Judged([], [])):
+            common = work.Common({}, None, None, [])
+            for done, _ in enumerate(spread.in_processes(all_tasks(), common, None, 2)):
+                ahead.append(given - done)
+        self.assertEqual((len(ahead), max(ahead)), (20, 3))
 
     def test_a_file_that_is_gone_when_it_is_read(self):
         task, common = spread.Task(0, str(self.room / "gone"), None, None, ["asked"]), work.Common({}, None, None, [5])

@@ -11,7 +11,7 @@ from dnssec_check_tools.asking.questions import Question
 from dnssec_check_tools.judging.report import Report
 from dnssec_check_tools.judging.work import Judged, Row
 
-FROM_BEST = (0, 3, 4, 5, 6, 7, 1)
+FROM_BEST = (0, 8, 3, 4, 5, 6, 7, 1)
 
 
 def rows(*statuses):

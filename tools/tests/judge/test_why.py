@@ -53,7 +53,7 @@ class Why(unittest.TestCase):
         value = json.loads(json_line("x.cap", row))
         self.assertEqual([value[name] for name in ("until", "reason", "ede")], [None, said[0], 7])
         self.assertEqual(value["reasons"], [{"reason": text, "ede": 7} for text in said])
-        self.assertEqual(tsv_line("x.cap", row).split("\t")[7:], ["", said[0], "7", f"{said[0]} [EDE 7] | {said[1]} [EDE 7]"])
+        self.assertEqual(tsv_line("x.cap", row).split("\t")[7:], ["", said[0], "7", f"{said[0]} [EDE 7] | {said[1]} [EDE 7]", ""])
         self.assertEqual(len(tsv_head().split("\t")), len(tsv_line("x.cap", row).split("\t")))
 
 

@@ -1,4 +1,5 @@
 """Tests of what bounds the verifying: the budget of time, what is kept of it, and how much that is."""
+import time
 import unittest
 from unittest import mock
 
@@ -50,6 +51,17 @@ class Within(unittest.TestCase):
             with self.subTest(seconds):
                 self.kept = verifier.Kept()
                 self.assertEqual(self.told(seconds, LINES), told)
+
+    def test_the_time_is_that_of_the_processor(self):
+        """So a machine that has other work to do takes none of it, and neither does what other threads do."""
+        within = verifier.Verifier(1, self.kept)
+        time.sleep(1.2)
+        self.assertTrue(within.statement_of(LINES[1], "a line", digest_of(LINES[1])).startswith("good "))
+        end = time.thread_time() + 1.1
+        while time.thread_time() < end:
+            pass
+        with self.assertRaises(verifier.Spent):
+            within.statement_of(LINES[2], "a line", digest_of(LINES[2]))
 
     def test_what_was_verified_is_not_verified_again(self):
         self.assertEqual(self.told(9, LINES[:2] * 2), ["bad", "good"] * 2)

@@ -3,14 +3,17 @@ import unittest
 from unittest import mock
 
 from dnssec_check_tools.judging.work import Row
+from dnssec_check_tools.odd.kinds import Odd
 from dnssec_check_tools.zones import told
 from dnssec_check_tools.zones.audit import Audit
+from dnssec_check_tools.zones.names import Hashing
 from dnssec_check_tools.zones.questions import RRSET, TYPE
 from dnssec_check_tools.zones.told import ZoneText
 from dnssec_check_tools.zones.transfer import transfer_of
 
 from . import signed
 
+NSEC3 = 50
 STATUS = {"SecureAnswer": 0, "SecureNoData": 0, "SecureNoName": 0, "Insecure": 3, "Bogus": 5, "fault": 1}
 
 
@@ -55,6 +58,16 @@ class Told(unittest.TestCase):
             self.assertTrue(lines[0].endswith(f": {word}"))
             self.assertIn("zone example.: 13 RRsets: 12 proved", sums)
 
+    def test_gaps_of_the_chain_are_odd(self):
+        """Which a status tells where that is asked for."""
+        rows, gap = [self.row(item) for item in self.audit.items], Odd("chain-gap", "a. NSEC", "it names b.")
+        with mock.patch.object(told, "gaps_of", lambda _: [gap]):
+            self.assertEqual([self.said(rows)[1][-1] == f"zone example.: {gap}", self.said(rows)[2]], [False, 0])
+            with mock.patch.multiple(ZoneText, is_odd_told=True, failing={"chain-gap"}):
+                self.assertEqual([self.said(rows)[1][-1], self.said(rows)[2]], [f"zone example.: {gap}", 8])
+            with mock.patch.multiple(ZoneText, is_odd_told=True, failing={"rsa-short"}):
+                self.assertEqual(self.said(rows)[2], 0)
+
     def test_moments_are_summed_up_by_themselves(self):
         rows = [self.row(item, moment=moment) for moment in (0, 7) for item in self.audit.items]
         rows[-1] = self.row(self.audit.items[-1], "Bogus", 7)
@@ -78,6 +91,29 @@ class Told(unittest.TestCase):
     def test_a_verdict_that_is_not_secure_proves_no_record(self):
         rows = [self.row(item, "Bogus", owners=("example.",)) for item in self.audit.items]
         self.assertIn("zone example.: 11 records of the chain: 0 in a proof", self.said(rows)[1])
+
+
+@unittest.skipUnless(signed.SIGNER, "needs ldnsutils")
+class Iterations(unittest.TestCase):
+    """Whoever makes a zone says how often each of its names is hashed."""
+
+    def audit(self, iterations):
+        records = [(owner, ttl, rdata.replace(iterations=iterations) if rdata.rdtype == NSEC3 else rdata)
+                   for owner, ttl, rdata in signed.signed(signed.SMALL, signed.NSEC3)[0]]
+        return Audit(transfer_of(signed.transfer(records)))
+
+    def test_what_the_program_does_not_use_is_not_hashed(self):
+        with mock.patch.object(Hashing, "of_wire", side_effect=AssertionError("a name is hashed")):
+            for iterations in (501, 65535):
+                audit = self.audit(iterations)
+                self.assertEqual(audit.lacking(), ["the zone's NSEC3 records have more than 500 iterations, so none of them is used: "
+                                                   "nothing that it denies is asked"])
+                self.assertEqual({item.about for item in audit.items}, {RRSET})
+
+    def test_what_it_uses_is(self):
+        audit = self.audit(500)
+        self.assertEqual(len(audit.chain.owners), len(audit.chain.digests))
+        self.assertIn(TYPE, {item.about for item in audit.items})
 
 
 if __name__ == "__main__":

@@ -1,0 +1,1 @@
+"""What an earlier run wrote, so that it isn't judged again."""

@@ -1,0 +1,2 @@
+"""Tests of what judge says is odd."""
+import tool  # noqa: F401
