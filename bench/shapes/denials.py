@@ -101,8 +101,8 @@ def hashes(labels: int) -> Shape:
 
 
 def question_hashes(questions: int) -> Shape:
-    """The records of `hashes`, and so many questions for a name of three labels, which is hashed for each anew."""
-    asked = [b"a.a.a. 1\n"] * questions
+    """The records of `hashes`, and so many questions, each for another name of three labels, which is hashed anew."""
+    asked = [b"a.a.a%d. 1\n" % number for number in range(questions)]
     return Shape({**hashes(3).files, "questions": asked}, ("check", "--moment", "1500"))
 
 

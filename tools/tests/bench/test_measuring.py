@@ -23,7 +23,7 @@ SMALL = {
     "expanded-nsec": (2, f"Bogus {'a.' * 127} 1"),
     "expanded-nsec3": (2, f"Bogus {'a.' * 127} 1"),
     "hashes": (2, "Bogus a.a. 1"),
-    "question-hashes": (2, "Bogus a.a.a. 1"),
+    "question-hashes": (2, "Bogus a.a.a0. 1"),
     "aliases": (2, f"Bogus 0.{'a.' * 126} 1"),
     "alias-hashes": (2, "Bogus 0.a. 1"),
     "key-file": (10, "Indeterminate www.bench.example. 1"),
