@@ -1,0 +1,6 @@
+pub mod AnswerLemmas
+pub mod IndexLemmas
+pub mod NamedLemmas
+pub mod OnceLemmas
+pub mod OrderLemmas
+pub mod ZoneKeyLemmas

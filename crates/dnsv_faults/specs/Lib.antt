@@ -1,0 +1,9 @@
+pub mod AnswerSearch
+pub mod Answers
+pub mod Index
+pub mod KeySearch
+pub mod Keys
+pub mod RrsetSearch
+pub mod Rrsets
+pub mod Signatures
+pub mod ZoneSearch

@@ -1,0 +1,13 @@
+//! What is so of the evidence where it proves nothing, as far as it costs something to mend: of signatures, and of the keys
+//! that they name.
+//!
+//! The facts are those of `dnsv_mending`, which finds by them the least that has to be mended. Nothing uses this crate yet.
+#![tactic(auto)]
+
+pub use case_facts::CaseFacts;
+
+mod answers;
+mod case_facts;
+mod keys;
+mod rrset;
+mod signature;
