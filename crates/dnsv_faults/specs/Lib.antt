@@ -6,4 +6,6 @@ pub mod Keys
 pub mod RrsetSearch
 pub mod Rrsets
 pub mod Signatures
+pub mod VoucherSearch
+pub mod Vouchers
 pub mod ZoneSearch

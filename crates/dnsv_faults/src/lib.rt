@@ -11,3 +11,4 @@ mod case_facts;
 mod keys;
 mod rrset;
 mod signature;
+mod vouchers;
