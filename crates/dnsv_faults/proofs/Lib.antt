@@ -1,4 +1,5 @@
 pub mod AnswerLemmas
+pub mod GroupLemmas
 pub mod IndexLemmas
 pub mod NamedLemmas
 pub mod OnceLemmas

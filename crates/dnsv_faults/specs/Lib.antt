@@ -1,5 +1,7 @@
 pub mod AnswerSearch
 pub mod Answers
+pub mod GroupSearch
+pub mod Groups
 pub mod Index
 pub mod KeySearch
 pub mod Keys
