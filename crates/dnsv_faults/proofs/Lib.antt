@@ -1,6 +1,7 @@
 pub mod AnswerLemmas
 pub mod GroupLemmas
 pub mod IndexLemmas
+pub mod KnownLemmas
 pub mod NamedLemmas
 pub mod OnceLemmas
 pub mod OrderLemmas

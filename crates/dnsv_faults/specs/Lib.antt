@@ -5,6 +5,8 @@ pub mod Groups
 pub mod Index
 pub mod KeySearch
 pub mod Keys
+pub mod KnownSearch
+pub mod KnownZones
 pub mod RrsetSearch
 pub mod Rrsets
 pub mod Signatures

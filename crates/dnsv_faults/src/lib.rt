@@ -11,6 +11,7 @@ mod answers;
 mod case_facts;
 mod groups;
 mod keys;
+mod known;
 mod rrset;
 mod signature;
 mod vouchers;

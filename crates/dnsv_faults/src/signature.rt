@@ -52,7 +52,7 @@ fn is_signed(facts: &CaseFacts<'_>, number: SignatureNumber) -> bool
 }
 
 /// Whether the number is one of these.
-fn is_among(numbers: &[usize], number: usize) -> bool
+pub fn is_among(numbers: &[usize], number: usize) -> bool
     ensures { IsTrue result ↔ Contains numbers.now number }
 {
     numbers.contains(&number)
