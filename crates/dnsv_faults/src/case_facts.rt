@@ -1,0 +1,78 @@
+//! What facts are found in: a case, and its keys by what signatures name them by.
+ghost use Rattle.std.specs.Prelude.{◌≡◌, IfOk};
+ghost use Rattle.dnsv_faults.specs.Index.{AreIndexed};
+ghost use Rattle.dnsv_verdict.specs.Case.{HasTrust};
+
+use crate::keys::index::KeyIndex;
+use dnsv_canonical::Capture;
+use dnsv_chain::{Anchor, Trust};
+use dnsv_verdict::Case;
+use dnsv_verifier::Table;
+use std::alloc::{AllocError, Global};
+use std::marker::Model;
+
+/// A case whose facts are found: its keys are put in order once, for all signatures of its RRsets. It is seen as the case.
+#[derive(Drop)]
+pub struct CaseFacts<'a> {
+    case: &'a Case<'a>,
+    keys: KeyIndex<'a>,
+}
+
+impl<'a> Model for CaseFacts<'a> {
+    ghost use Rattle.dnsv_verdict.specs.Case.{CaseContents};
+    ghost use Rattle.dnsv_faults.specs.Index.{AreIndexed};
+
+    ghost Value = { CaseContents };
+
+    ghost view = { λ facts. facts.case.now };
+
+    ghost invariant = { λ facts. AreIndexed facts.case.now.rrsets facts.keys };
+}
+
+impl<'a> CaseFacts<'a> {
+    /// The case with its keys in order.
+    pub fn of(alloc: Global, case: &'a Case<'a>) -> Result<CaseFacts<'a>, AllocError>
+        ensures { IfOk result (λ facts. facts ≡ case.now) }
+    {
+        Ok(CaseFacts {
+            case,
+            keys: KeyIndex::of(alloc, case.capture())?,
+        })
+    }
+
+    /// The evidence.
+    pub(crate) fn capture(&self) -> &'a Capture<'a>
+        ensures { result.now.rrsets ≡ self.now.rrsets }
+    {
+        self.case.capture()
+    }
+
+    /// The trust anchors.
+    pub(crate) fn anchors(&self) -> &'a [Anchor<'a>]
+        ensures { result.now ≡ self.now.anchors }
+    {
+        self.case.anchors().as_slice()
+    }
+
+    /// What the verifier says, and at which moment.
+    pub(crate) fn table(&self) -> &Table<'a>
+        ensures { result.now ≡ self.now.table }
+    {
+        self.case.table()
+    }
+
+    /// What is trusted.
+    pub(crate) fn trust(&self) -> &Trust<'a>
+        ensures value { result.now ≡ self.now.trust }
+        ensures of { HasTrust self.now }
+    {
+        self.case.trust()
+    }
+
+    /// The keys of the evidence by what signatures name them by.
+    pub(crate) fn keys(&self) -> &KeyIndex<'a>
+        ensures { AreIndexed self.now.rrsets result.now }
+    {
+        &self.keys
+    }
+}
