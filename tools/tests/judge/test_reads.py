@@ -9,7 +9,7 @@ from unittest import mock
 from tool import run
 
 from dnssec_check_tools.asking import captures
-from dnssec_check_tools.judging import records, spread, tasks, work
+from dnssec_check_tools.judging import processes, records, spread, tasks, work
 
 from .helper import Judging, capture_of, needs_dns, verdicts
 
@@ -110,7 +110,7 @@ class Tasks(Room):
 
         with mock.patch.object(spread, "judged", lambda *_: work.Judged([], [])):
             common = work.Common({}, None, None, [])
-            for done, _ in enumerate(spread.in_processes(all_tasks(), common, None, 2)):
+            for done, _ in enumerate(processes.in_processes(all_tasks(), common, None, 2, 20)):
                 ahead.append(given - done)
         self.assertEqual((len(ahead), max(ahead)), (20, 3))
 

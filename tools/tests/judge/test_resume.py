@@ -123,8 +123,8 @@ class Resume(Judging):
 class Rows(unittest.TestCase):
     """What is read of a line, whatever is in it."""
 
-    VALUES = ("a.cap", 7, "b.", "A", 0, "SecureAnswer", {}, None, None, None, [])
-    TSV = b"a.cap\t7\tb.\tA\t0\tSecureAnswer\t\t\t\t\t"
+    VALUES = ("a.cap", 7, "b.", "A", 0, "SecureAnswer", {}, None, None, None, [], None)
+    TSV = b"a.cap\t7\tb.\tA\t0\tSecureAnswer\t\t\t\t\t\t"
 
     def test_a_row(self):
         row = rows.Written("a.cap", 7, "b.", "A", 0)
