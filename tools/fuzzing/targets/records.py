@@ -7,6 +7,7 @@ from typing import Any
 
 from dnssec_check_tools.asking.captures import octets_of
 from dnssec_check_tools.capturing.frames import framed, frames_of
+from dnssec_check_tools.capturing.sources import other_kind_of
 from dnssec_check_tools.judging.evidence import Evidence
 from dnssec_check_tools.judging.records import lines_of
 
@@ -14,6 +15,8 @@ from ..target import EXAMPLES, Desk, Ended, Target, given, kind_of, must
 
 
 def run(octets: bytes, desk: Desk) -> Ended:
+    if other_kind_of(octets):
+        return Ended(False, "a file of another kind, which is the target capture's")
     with given(octets):
         read = octets_of("-")
     must(read == octets, "a small capture isn't read as it is")
