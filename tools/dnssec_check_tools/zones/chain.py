@@ -139,7 +139,7 @@ class ByHash(Chain):
         first = next(iter(found.values()))
         self.hashing = Hashing(first.salt, first.iterations)
         fitting = {name: each for name, each in found.items() if (each.salt, each.iterations) == self.hashing}
-        self.keep((hash_of(name[0]), name, each) for name, each in fitting.items() if hash_of(name[0]))
+        self.keep((hash_of(name[0]), name, each) for name, each in fitting.items() if name and hash_of(name[0]))
         self.digests = {name: self.hashing.digest(name) for name in contents.all}
         self.by_digest = dict(zip(self.places, self.owners))
 

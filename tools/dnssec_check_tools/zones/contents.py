@@ -40,7 +40,7 @@ class Contents:
 
     def closest_encloser(self, name: Labels) -> Labels:
         """The nearest name above one that isn't there, which is (RFC 4592 3.3.1)."""
-        return next(each for each in above(name, self.apex) if each in self.all)
+        return next((each for each in above(name, self.apex) if each in self.all), self.apex)
 
 
 def kinds_by_owner(rrsets: Rrsets) -> Dict[Labels, Set[int]]:
