@@ -1,4 +1,6 @@
 -- Of what records say by their places, and by their numbers.
+pub mod AllPlacesLemmas
+pub mod AllSaidLemmas
 pub mod AlikeLemmas
 pub mod AnyNameLemmas
 pub mod FirstAmongLemmas
