@@ -7,3 +7,4 @@ pub mod FirstAmongLemmas
 pub mod FirstLemmas
 pub mod IndexLemmas
 pub mod PlaceLemmas
+pub mod SourceLemmas

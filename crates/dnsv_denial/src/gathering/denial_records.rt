@@ -142,9 +142,10 @@ fn secured_numbers(
 {
     let mut numbers = Vec::new(alloc);
     for number in listed {
-        if is_secured_by(capture, trust, zone, *number) {
-            numbers.push(*number)?;
+        if !is_secured_by(capture, trust, zone, *number) {
+            continue;
         }
+        numbers.push(*number)?;
     }
     Ok(numbers)
 }

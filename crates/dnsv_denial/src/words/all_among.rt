@@ -1,5 +1,5 @@
 //! All records that say a word, of those at some places.
-ghost use Rattle.std.specs.Prelude.{◌↔◌, ◌⊎◌, ℕ, Contains, IfOk, OnOk};
+ghost use Rattle.std.specs.Prelude.{◌↔◌, ◌⊎◌, ◌<◌, ℕ, Contains, IfOk, IsTrue, OnOk, length};
 ghost use Rattle.dnsv_denial.specs.records.HashIndex.{AreWithin, IsListed};
 ghost use Rattle.dnsv_denial.specs.words.SaidAt.{AreAllPlaces, IsSaidAt};
 
@@ -41,9 +41,18 @@ fn add_among<Entry, W: Word<Entry>>(
         ⊎ (IsListed places.now place × IsSaidAt (W.says word.now) entries.now place))) }
 {
     for each in places {
-        if word.is_said_by(&entries[each.place]) {
-            said.push(each.place)?;
+        if !is_said_at(word, entries, each.place) {
+            continue;
         }
+        said.push(each.place)?;
     }
     Ok(())
+}
+
+/// Whether the record at the place says the word.
+fn is_said_at<Entry, W: Word<Entry>>(word: &W, entries: &[Entry], place: usize) -> bool
+    requires { place < length entries.now }
+    ensures { IsTrue result ↔ IsSaidAt (W.says word.now) entries.now place }
+{
+    word.is_said_by(&entries[place])
 }

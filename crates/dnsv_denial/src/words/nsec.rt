@@ -46,10 +46,10 @@ impl Word<NsecEntry<'_>> for RuledOut<'_> {
         ⊎ IsEmptyNonTerminalBy (read_entry entry) word.0.now };
 
     fn is_said_by(&self, entry: &NsecEntry<'_>) -> bool {
-        if is_absent(entry.owner, entry.nsec, self.0) {
+        if Absent(self.0).is_said_by(entry) {
             return true;
         }
-        is_empty_non_terminal(entry.owner, entry.nsec, self.0)
+        EmptyNonTerminal(self.0).is_said_by(entry)
     }
 }
 

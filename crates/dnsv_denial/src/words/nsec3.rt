@@ -65,10 +65,11 @@ impl Word<Nsec3Entry<'_>> for Cover<'_> {
         if entry.is_opt_out != self.is_opt_out {
             return false;
         }
-        if !covers(&entry.hash, &entry.next_hash, &self.hash) {
-            return false;
-        }
-        same_parameters(entry.parameters, self.parameters)
+        let cover = AnyCover {
+            hash: self.hash,
+            parameters: self.parameters,
+        };
+        cover.is_said_by(entry)
     }
 }
 

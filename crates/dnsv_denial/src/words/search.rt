@@ -36,9 +36,10 @@ pub fn all_to_say<Entry, W: Word<Entry>>(
 {
     let mut places = Vec::new(alloc);
     for (place, entry) in entries.iter().enumerate() {
-        if word.is_said_by(entry) {
-            places.push(place)?;
+        if !word.is_said_by(entry) {
+            continue;
         }
+        places.push(place)?;
     }
     Ok(places)
 }

@@ -1,5 +1,5 @@
 -- All places where something is said.
-use Rattle.std.proofs.Common.{◌≡◌, ◌⊎◌, ℕ, zero, suc, ◌+◌, ◌<◌, ◌≤◌, List, [], ◌∷◌, ◌++◌, length, refl, sym, ap, ◌∙◌, subst, inl, inr, ⊎_elim, arith}
+use Rattle.std.proofs.Common.{◌≡◌, ◌⊎◌, Bool, ℕ, zero, suc, ◌+◌, ◌<◌, ◌≤◌, List, [], ◌∷◌, ◌++◌, length, refl, sym, ap, ◌∙◌, subst, inl, inr, ⊎_elim, arith}
 use Rattle.std.proofs.lemmas.Bool.{cases_lt}
 use Rattle.std.proofs.lemmas.List.Elements.{Contains-append_left, Contains-push, Contains-push_cases, recursion_from_All}
 use Rattle.std.proofs.lemmas.Option.{slice_get-get_or, slice_get_within, get_or_from_slice_get}
@@ -7,7 +7,7 @@ use Rattle.std.specs.Cmp.{nat_cmp_is}
 use Rattle.std.specs.List.{AllByRecursion}
 use Rattle.std.specs.List.Sorted.{IsStrictlySortedBy}
 use Rattle.std.specs.Ordering.{nat_cmp}
-use Rattle.std.specs.Prelude.{◌↔◌, Contains, Some, slice_get}
+use Rattle.std.specs.Prelude.{◌↔◌, Contains, IsTrue, Some, slice_get}
 use Rattle.std.specs.declared.cmp.Ordering.TheVariants.{Less}
 use Rattle.dnsv_records.specs.OctetLaws.{recursion-append}
 use Rattle.dnsv_denial.specs.records.HashIndex.{IsListed}
@@ -33,6 +33,13 @@ all_as P Q xs places to from = all_alike (IsSaidAt P xs) (IsSaidAt Q xs) places
 pub nowhere : (P : ℕ → Type 0) → ((place : ℕ) → ¬ P place) → AreAllPlaces P []
 unfolding IsStrictlySortedBy
 nowhere P none = record { rising = tt; members = λ place. (λ there. absurd (omega (arith, there.1)), λ says. absurd (none place says)) }
+
+pub said_here : {X : Type 0} (Says : X → Type 0) (xs : List X) (place : ℕ) (x : X) (told : Bool) → slice_get xs place ≡ Some x → (IsTrue told ↔ Says x)
+    → IsTrue told ↔ IsSaidAt Says xs place
+said_here Says xs place x told there tells = (
+  λ holds. record { entry = x; there = there; says = tells.0 holds },
+  λ said. let at = said.there in let is : said.entry ≡ x = cc in tells.1 (subst Says is said.says),
+)
 
 -- ---- one record after another
 
