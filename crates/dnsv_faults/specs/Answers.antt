@@ -1,4 +1,5 @@
 -- What a verifier says of a signature under one key (RFC 4035 5.3.3).
+pub mod AnswerSearch
 use Rattle.std.specs.Prelude.{◌≡◌, ℕ}
 use Rattle.dnsv_records.specs.declared.rrsig.Rrsig.{Rrsig}
 use Rattle.dnsv_canonical.specs.Rrsets.{ReceivedRrset}

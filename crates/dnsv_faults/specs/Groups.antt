@@ -1,4 +1,5 @@
 -- The trust anchors and the DS records of a zone, in the groups in which they vouch for its keys.
+pub mod GroupSearch
 use Rattle.std.specs.Prelude.{◌≡◌, ◌⊎◌, ◌+◌, ℕ, List, [], ◌∷◌}
 use Rattle.std.specs.List.{AllZip}
 use Rattle.dnsv_names.specs.Name.{Labels, SameName}

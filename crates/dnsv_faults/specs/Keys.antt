@@ -1,4 +1,7 @@
 -- The keys of a zone, each once and with its place among them, and those that a signature names (RFC 4034 2.1, 3.1).
+pub mod Index
+pub mod KeySearch
+pub mod ZoneSearch
 use Rattle.std.specs.Prelude.{◌≡◌, ◌≢◌, ℕ, IsBitSet, List, [], ◌∷◌, ◌++◌, Some, slice_get}
 use Rattle.std.specs.Str.{bytes_eq}
 use Rattle.dnsv_names.specs.Name.{Labels, SameName}

@@ -1,15 +1,9 @@
-pub mod AnswerSearch
 pub mod Answers
-pub mod GroupSearch
+pub mod Dnskeys
 pub mod Groups
-pub mod Index
-pub mod KeySearch
 pub mod Keys
-pub mod KnownSearch
 pub mod KnownZones
-pub mod RrsetSearch
 pub mod Rrsets
 pub mod Signatures
-pub mod VoucherSearch
 pub mod Vouchers
-pub mod ZoneSearch
+pub mod Zones

@@ -1,4 +1,5 @@
 -- What is so of an RRset.
+pub mod RrsetSearch
 use Rattle.std.specs.Prelude.{◌≡◌, ℕ, List, IsPermutation, IsSortedByKey, length}
 use Rattle.std.specs.List.{AllZip, enumerate_from}
 use Rattle.std.specs.Ordering.{nat_cmp, ordering_then}

@@ -1,5 +1,6 @@
 -- What vouches for keys of a zone: trust anchors and DS records, the keys that they match, or why they match none (RFC 4034
 -- 5.2, RFC 4035 5.2, RFC 4509 3).
+pub mod VoucherSearch
 use Rattle.std.specs.Prelude.{◌≡◌, ◌↔◌, ◌⊎◌, ℕ, List, [], ◌∷◌, Option, Some, None, Contains, IsTrue}
 use Rattle.std.specs.List.Sorted.{IsStrictlyIncreasing}
 use Rattle.dnsv_names.specs.Name.{Labels}

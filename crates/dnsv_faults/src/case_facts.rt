@@ -1,6 +1,6 @@
 //! What facts are found in: a case, and its keys by what signatures name them by.
 ghost use Rattle.std.specs.Prelude.{◌≡◌, IfOk};
-ghost use Rattle.dnsv_faults.specs.Index.{AreIndexed};
+ghost use Rattle.dnsv_faults.specs.Keys.Index.{AreIndexed};
 ghost use Rattle.dnsv_verdict.specs.Case.{HasTrust};
 
 use crate::keys::index::KeyIndex;
@@ -20,7 +20,7 @@ pub struct CaseFacts<'a> {
 
 impl<'a> Model for CaseFacts<'a> {
     ghost use Rattle.dnsv_verdict.specs.Case.{CaseContents};
-    ghost use Rattle.dnsv_faults.specs.Index.{AreIndexed};
+    ghost use Rattle.dnsv_faults.specs.Keys.Index.{AreIndexed};
 
     ghost Value = { CaseContents };
 

@@ -10,9 +10,9 @@ ghost use Rattle.std.specs.Str.{bytes_eq};
 ghost use Rattle.dnsv_names.specs.Name.{SameName};
 ghost use Rattle.dnsv_canonical.specs.Rrsets.{first_appearances};
 ghost use Rattle.dnsv_records.specs.Dnskey.{IsDnskey};
-ghost use Rattle.dnsv_faults.specs.Index.{IsMeantBySigner, IsNamedBySigner};
+ghost use Rattle.dnsv_faults.specs.Keys.Index.{IsMeantBySigner, IsNamedBySigner};
 ghost use Rattle.dnsv_faults.specs.Keys.{IsNamed, IsZoneKey};
-ghost use Rattle.dnsv_faults.specs.ZoneSearch.{AreKeysOf, IsOf};
+ghost use Rattle.dnsv_faults.specs.Keys.ZoneSearch.{AreKeysOf, IsOf};
 
 use crate::keys::placed::PlacedKey;
 use crate::keys::standing::standing_keys;

@@ -1,17 +1,18 @@
-//! What is so of the evidence where it proves nothing, as far as it costs something to mend: of signatures, and of the keys
-//! that they name.
+//! What is so of the evidence where it proves nothing, as far as it costs something to mend: of signatures, of the keys that
+//! they name, and of zones.
 //!
 //! The facts are those of `dnsv_mending`, which finds by them the least that has to be mended. The program doesn't use this
 //! crate yet.
 #![tactic(auto)]
 
 pub use case_facts::CaseFacts;
+pub use laws::{what_is_found_is_in_place, what_is_found_is_whole};
 
 mod answers;
 mod case_facts;
-mod groups;
 mod keys;
-mod known;
+mod laws;
 mod rrset;
 mod signature;
 mod vouchers;
+mod zone;

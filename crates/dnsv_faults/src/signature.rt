@@ -7,7 +7,7 @@ ghost use Rattle.std.specs.Prelude.{◌↔◌, Contains, IfOk, IsTrue};
 ghost use Rattle.dnsv_chain.specs.Trusted.{IsSecured};
 ghost use Rattle.dnsv_verdict.specs.Case.{basis_by};
 ghost use Rattle.dnsv_faults.specs.Keys.{HasKeys, NamesKey, NamesZoneKey};
-ghost use Rattle.dnsv_faults.specs.KeySearch.{HasMeant, HasNamed};
+ghost use Rattle.dnsv_faults.specs.Keys.KeySearch.{HasMeant, HasNamed};
 ghost use Rattle.dnsv_faults.specs.Signatures.{AreSignatureFacts, IsSignatureAt};
 
 use crate::case_facts::CaseFacts;

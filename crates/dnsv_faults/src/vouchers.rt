@@ -9,7 +9,7 @@ ghost use Rattle.dnsv_names.specs.Name.{Labels};
 ghost use Rattle.dnsv_canonical.specs.Rrsets.{ReceivedRrset};
 ghost use Rattle.dnsv_verifier.specs.Asking.{GivesEach, GivesMore};
 ghost use Rattle.dnsv_faults.specs.Vouchers.{AreVoucherFacts, HasTag, IsIgnoredBeside, IsMatchOf, IsWantedBy};
-ghost use Rattle.dnsv_faults.specs.VoucherSearch.{AreKeysOfZone, ArePlacesOf, HasAmong, IsKeyWord, IsMatchPlace, IsUnusableWord, wanted_of};
+ghost use Rattle.dnsv_faults.specs.Vouchers.VoucherSearch.{AreKeysOfZone, ArePlacesOf, HasAmong, IsKeyWord, IsPlaceOf, IsUnusableWord, wanted_of};
 
 use crate::vouchers::asked::Asked;
 use crate::vouchers::digested::DigestedKey;
@@ -84,7 +84,7 @@ fn unusable_word(asked: Asked<'_>, is_ignored: bool) -> Option<WhyEntry>
 
 /// Why it matches none of the keys, of which it matches those with these places.
 fn key_word(keys: &[DigestedKey<'_>], asked: Asked<'_>, matches: &[usize]) -> Option<WhyEntry>
-    requires { ArePlacesOf keys.now (wanted_of asked) matches.now }
+    requires { ArePlacesOf keys.now (IsMatchOf (wanted_of asked)) matches.now }
     ensures { IsKeyWord keys.now (wanted_of asked.entry) result }
 {
     if !matches.is_empty() {
@@ -119,7 +119,7 @@ fn matching_places(
     keys: &[DigestedKey<'_>],
     asked: Asked<'_>,
 ) -> Result<Vec<usize>, AllocError>
-    ensures { IfOk result (λ places. ArePlacesOf keys.now (wanted_of asked.entry) places.items) }
+    ensures { IfOk result (λ places. ArePlacesOf keys.now (IsMatchOf (wanted_of asked.entry)) places.items) }
 {
     let mut places = Vec::new(alloc);
     for key in keys {
@@ -136,7 +136,7 @@ fn add_match(
     asked: Asked<'_>,
     places: &mut Vec<usize>,
 ) -> Result<(), AllocError>
-    ensures { OnOk result (GivesMore (IsMatchPlace (wanted_of asked.entry)) (λ placed. IsMatchOf (wanted_of asked.entry) placed.key)
+    ensures { OnOk result (GivesMore (IsPlaceOf (IsMatchOf (wanted_of asked.entry))) (λ placed. IsMatchOf (wanted_of asked.entry) placed.key)
         key.now places.old.items places.new.items) }
 {
     if asked.is_match(key) {

@@ -1,8 +1,8 @@
 //! The keys of the evidence by what signatures name them by.
 ghost use Rattle.std.specs.Prelude.{◌≡◌, ◌↔◌, ◌∷◌, ℕ, List, Contains, IfOk, IsTrue, OnOk};
 ghost use Rattle.dnsv_canonical.specs.Rrsets.{IsNumbered};
-ghost use Rattle.dnsv_faults.specs.Index.{AreIndexed, IsNamedBySigner, Placed};
-ghost use Rattle.dnsv_faults.specs.ZoneSearch.{AddsZone, IsFirstOfKeys};
+ghost use Rattle.dnsv_faults.specs.Keys.Index.{AreIndexed, IsNamedBySigner, Placed};
+ghost use Rattle.dnsv_faults.specs.Keys.ZoneSearch.{AddsZone, IsFirstOfKeys};
 
 use crate::keys::placed::PlacedKey;
 use crate::keys::zone_keys;
@@ -22,7 +22,7 @@ impl<'a> Model for KeyIndex<'a> {
     ghost use Rattle.std.specs.Prelude.{List};
     ghost use Rattle.std.specs.List.Sorted.{IsSortedByKey};
     ghost use Rattle.dnsv_verifier.specs.Asking.{key_name_cmp};
-    ghost use Rattle.dnsv_faults.specs.Index.{Placed, name_of};
+    ghost use Rattle.dnsv_faults.specs.Keys.Index.{Placed, name_of};
 
     ghost Value = { List Placed };
 

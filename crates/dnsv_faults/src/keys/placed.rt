@@ -1,7 +1,7 @@
 //! Keys with their places.
 ghost use Rattle.std.specs.Prelude.{◌≡◌};
 ghost use Rattle.dnsv_verifier.specs.Asking.{key_name_cmp};
-ghost use Rattle.dnsv_faults.specs.Index.{name_of};
+ghost use Rattle.dnsv_faults.specs.Keys.Index.{name_of};
 
 use dnsv_names::Name;
 use dnsv_records::{Algorithm, KeyTag};
@@ -17,7 +17,7 @@ pub struct PlacedKey<'a> {
 }
 
 impl<'a> Model for PlacedKey<'a> {
-    ghost use Rattle.dnsv_faults.specs.Index.{Placed};
+    ghost use Rattle.dnsv_faults.specs.Keys.Index.{Placed};
 
     ghost Value = { Placed };
 

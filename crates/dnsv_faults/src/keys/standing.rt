@@ -5,7 +5,7 @@ ghost use Rattle.dnsv_canonical.specs.Index.{numbers_at};
 ghost use Rattle.dnsv_canonical.specs.Rrsets.{IsNumbered, ReceivedRrset};
 ghost use Rattle.dnsv_records.specs.Dnskey.{IsDnskey};
 ghost use Rattle.dnsv_faults.specs.Keys.{AreStanding};
-ghost use Rattle.dnsv_faults.specs.ZoneSearch.{AddsRecords, IsDnskeyNumber};
+ghost use Rattle.dnsv_faults.specs.Keys.ZoneSearch.{AddsRecords, IsDnskeyNumber};
 
 use dnsv_canonical::{Capture, ReadRecord, in_canonical_order};
 use dnsv_names::{Name, RecordType};

@@ -4,8 +4,8 @@ ghost use Rattle.std.specs.Option.{option_map};
 ghost use Rattle.dnsv_verdict.specs.Case.{basis_by};
 ghost use Rattle.dnsv_verifier.specs.Asking.{GivesEach, GivesMore};
 ghost use Rattle.dnsv_verifier.specs.Table.{table_answer};
-ghost use Rattle.dnsv_faults.specs.AnswerSearch.{ArePutInOrder, IsAskedOf, IsSaidOf};
-ghost use Rattle.dnsv_faults.specs.Index.{IsMeantBySigner};
+ghost use Rattle.dnsv_faults.specs.Answers.AnswerSearch.{ArePutInOrder, IsAskedOf, IsSaidOf};
+ghost use Rattle.dnsv_faults.specs.Keys.Index.{IsMeantBySigner};
 ghost use Rattle.dnsv_faults.specs.Signatures.{AreNamedKeys};
 
 use crate::answers::{answer_under, asked_octets};
@@ -87,7 +87,7 @@ fn add_meant(
 
 /// Puts the keys in the order of their places, of those with one place one.
 fn put_in_order(named: &mut Vec<NamedKey>)
-    ensures { ArePutInOrder named.old.items named.new.items }
+    ensures { ArePutInOrder (λ each. each.key) named.old.items named.new.items }
 {
     named.sort_unstable_by(|a, b| a.key.cmp(&b.key));
     named.dedup_by_key(|each| each.key);

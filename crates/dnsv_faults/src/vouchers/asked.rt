@@ -2,7 +2,7 @@
 ghost use Rattle.std.specs.Prelude.{◌≡◌, ◌↔◌, IsTrue};
 ghost use Rattle.dnsv_names.specs.Octets.{number_at};
 ghost use Rattle.dnsv_faults.specs.Vouchers.{HasTag, HasUnknownDigest, IsMatchOf, IsWantedBy, wanted_key};
-ghost use Rattle.dnsv_faults.specs.VoucherSearch.{wanted_of};
+ghost use Rattle.dnsv_faults.specs.Vouchers.VoucherSearch.{wanted_of};
 
 use crate::vouchers::digested::DigestedKey;
 use dnsv_digest::DigestAlgorithm;

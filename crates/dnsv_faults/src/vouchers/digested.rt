@@ -21,8 +21,8 @@ pub struct DigestedKey<'a> {
 }
 
 impl<'a> Model for DigestedKey<'a> {
-    ghost use Rattle.dnsv_faults.specs.Index.{Placed};
-    ghost use Rattle.dnsv_faults.specs.VoucherSearch.{AreDigestsOf};
+    ghost use Rattle.dnsv_faults.specs.Keys.Index.{Placed};
+    ghost use Rattle.dnsv_faults.specs.Vouchers.VoucherSearch.{AreDigestsOf};
 
     ghost Value = { Placed };
 

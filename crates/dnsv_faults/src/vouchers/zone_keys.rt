@@ -1,7 +1,7 @@
 //! The keys of a zone by their tags.
 ghost use Rattle.std.specs.Prelude.{◌≡◌, Contains, IfOk};
-ghost use Rattle.dnsv_faults.specs.Index.{Placed};
-ghost use Rattle.dnsv_faults.specs.VoucherSearch.{AreKeysOfZone, tag_of};
+ghost use Rattle.dnsv_faults.specs.Keys.Index.{Placed};
+ghost use Rattle.dnsv_faults.specs.Vouchers.VoucherSearch.{AreKeysOfZone, tag_of};
 
 use crate::keys::placed::PlacedKey;
 use crate::keys::zone_keys;
@@ -22,8 +22,8 @@ impl<'a> Model for ZoneKeys<'a> {
     ghost use Rattle.std.specs.Prelude.{List};
     ghost use Rattle.std.specs.List.Sorted.{IsSortedByKey};
     ghost use Rattle.std.specs.Ordering.{nat_cmp};
-    ghost use Rattle.dnsv_faults.specs.Index.{Placed};
-    ghost use Rattle.dnsv_faults.specs.VoucherSearch.{tag_of};
+    ghost use Rattle.dnsv_faults.specs.Keys.Index.{Placed};
+    ghost use Rattle.dnsv_faults.specs.Vouchers.VoucherSearch.{tag_of};
 
     ghost Value = { List Placed };
 

@@ -4,9 +4,9 @@ use Rattle.dnsv_canonical.specs.SignedData.{IsSignedData}
 use Rattle.dnsv_mending.specs.declared.facts.signature.KeyAnswer.{KeyAnswer}
 use Rattle.dnsv_verifier.specs.Table.{table_answer}
 use Rattle.dnsv_verifier.specs.declared.entry.Entry.{Entry}
-use Rattle.dnsv_faults.specs.AnswerSearch.{IsAskedOf}
+use Rattle.dnsv_faults.specs.Answers.AnswerSearch.{IsAskedOf}
 use Rattle.dnsv_faults.specs.Answers.{IsKeyAnswer}
-use Rattle.dnsv_faults.proofs.AnswerLemmas.{says_so}
+use Rattle.dnsv_faults.proofs.lemmas.AnswerLemmas.{says_so}
 use Rattle.dnsv_faults.proofs.answers.answer_under.Goals as goal
 
 pub returns : goal.returns

@@ -4,9 +4,9 @@ use Rattle.dnsv_canonical.proofs.ListLemmas.{each_at}
 use Rattle.dnsv_canonical.specs.declared.canonical_order.ReadRecord.{ReadRecord}
 use Rattle.dnsv_records.specs.declared.dnskey.Dnskey.{Dnskey}
 use Rattle.dnsv_verifier.specs.Admissible.{DnskeyRecord}
-use Rattle.dnsv_faults.specs.Index.{Placed}
-use Rattle.dnsv_faults.specs.ZoneSearch.{IsOf, IsRead}
-use Rattle.dnsv_faults.proofs.OnceLemmas.{each_push, no_more, once_more, pair, seen_more}
+use Rattle.dnsv_faults.specs.Keys.Index.{Placed}
+use Rattle.dnsv_faults.specs.Keys.ZoneSearch.{IsOf, IsRead}
+use Rattle.dnsv_faults.proofs.lemmas.OnceLemmas.{each_push, no_more, once_more, pair, seen_more}
 use Rattle.dnsv_faults.proofs.keys.each_once.Goals as goal
 
 pub loop-each-preserved-then-not-branch : goal.loop-each-preserved-then-not-branch

@@ -2,8 +2,8 @@ use Rattle.std.proofs.Common.{◌≡◌, ℕ, List, map, take}
 use Rattle.std.specs.List.{AllByRecursion, enumerate_from, list_any}
 use Rattle.std.specs.Str.{bytes_eq}
 use Rattle.dnsv_canonical.specs.Rrsets.{first_appearances}
-use Rattle.dnsv_faults.specs.ZoneSearch.{IsOf}
-use Rattle.dnsv_faults.proofs.OnceLemmas.{is_seen, pair}
+use Rattle.dnsv_faults.specs.Keys.ZoneSearch.{IsOf}
+use Rattle.dnsv_faults.proofs.lemmas.OnceLemmas.{is_seen, pair}
 use Rattle.dnsv_faults.proofs.keys.each_once.Given as goal
 
 -- those so far, of equal RDATA the first; and that it is what was seen

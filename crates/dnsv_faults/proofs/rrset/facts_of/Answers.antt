@@ -5,7 +5,7 @@ use Rattle.dnsv_mending.specs.declared.facts.signature.SignatureFacts.{Signature
 use Rattle.dnsv_verdict.specs.Case.{basis_by}
 use Rattle.dnsv_faults.specs.Signatures.{AreSignatureFacts}
 use Rattle.dnsv_faults.specs.declared.rrset.NumberedSignature.{NumberedSignature}
-use Rattle.dnsv_faults.proofs.OrderLemmas.{rrset_has}
+use Rattle.dnsv_faults.proofs.lemmas.OrderLemmas.{rrset_has}
 use Rattle.dnsv_faults.proofs.rrset.facts_of.Goals as goal
 
 pub returns : goal.returns

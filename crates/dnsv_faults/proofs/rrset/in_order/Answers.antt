@@ -4,10 +4,10 @@ use Rattle.std.proofs.lemmas.List.Sorted.{ranks_by}
 use Rattle.std.specs.List.{AllByRecursion, enumerate_from}
 use Rattle.std.specs.Ordering.{is_lt}
 use Rattle.dnsv_faults.specs.Rrsets.{rank_cmp}
-use Rattle.dnsv_faults.specs.RrsetSearch.{IsSignatureOf, rank, seen_signature}
+use Rattle.dnsv_faults.specs.Rrsets.RrsetSearch.{IsSignatureOf, rank, seen_signature}
 use Rattle.dnsv_faults.specs.declared.rrset.NumberedSignature.{NumberedSignature}
-use Rattle.dnsv_faults.proofs.OnceLemmas.{each_push}
-use Rattle.dnsv_faults.proofs.OrderLemmas.{all_moved, its_signature, order_more, put_in_order, rank_cmp_total, whole}
+use Rattle.dnsv_faults.proofs.lemmas.OnceLemmas.{each_push}
+use Rattle.dnsv_faults.proofs.lemmas.OrderLemmas.{all_moved, its_signature, order_more, put_in_order, rank_cmp_total, whole}
 use Rattle.dnsv_faults.proofs.rrset.in_order.Goals as goal
 
 pub loop-place-preserved : goal.loop-place-preserved
@@ -16,7 +16,7 @@ loop-place-preserved c =
     let i = c.loop-place.place in
     let rrsig = c.rrsig-item.result in (
       ap (map seen_signature) c.in_ok-push.ensures.items
-          ∙ order_more signatures i rrsig c.loop-place.order.items _ c.loop-place-test.true c.rrsig-item.is refl c.loop-place.invariant.0,
+          ∙ order_more seen_signature signatures i rrsig c.loop-place.order.items _ c.loop-place-test.true c.rrsig-item.is refl c.loop-place.invariant.0,
       subst (λ (order : List NumberedSignature). AllByRecursion (IsSignatureOf c.args.rrset.now) order) (sym c.in_ok-push.ensures.items)
           (each_push (IsSignatureOf c.args.rrset.now) c.loop-place.order.items _ c.loop-place.invariant.1
           (its_signature c.args.rrset.now signatures i rrsig c.signatures-rrsig-items.ensures c.loop-place-test.true c.rrsig-item.is)),

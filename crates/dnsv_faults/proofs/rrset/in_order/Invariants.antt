@@ -1,6 +1,6 @@
 use Rattle.std.proofs.Common.{◌≡◌, map, take}
 use Rattle.std.specs.List.{AllByRecursion, enumerate_from}
-use Rattle.dnsv_faults.specs.RrsetSearch.{IsSignatureOf, seen_signature}
+use Rattle.dnsv_faults.specs.Rrsets.RrsetSearch.{IsSignatureOf, seen_signature}
 use Rattle.dnsv_faults.proofs.rrset.in_order.Given as goal
 
 -- the signatures so far

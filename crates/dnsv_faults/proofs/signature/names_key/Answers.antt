@@ -1,4 +1,4 @@
-use Rattle.dnsv_faults.proofs.IndexLemmas.{names_key}
+use Rattle.dnsv_faults.proofs.lemmas.IndexLemmas.{names_key}
 use Rattle.dnsv_faults.proofs.signature.names_key.Goals as goal
 
 pub returns : goal.returns

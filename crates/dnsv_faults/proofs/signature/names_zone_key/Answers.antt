@@ -1,4 +1,4 @@
-use Rattle.dnsv_faults.proofs.IndexLemmas.{names_zone_key}
+use Rattle.dnsv_faults.proofs.lemmas.IndexLemmas.{names_zone_key}
 use Rattle.dnsv_faults.proofs.signature.names_zone_key.Goals as goal
 
 pub returns : goal.returns

@@ -1,5 +1,5 @@
-use Rattle.dnsv_faults.specs.VoucherSearch.{wanted_of}
-use Rattle.dnsv_faults.proofs.VoucherLemmas.{some_match}
+use Rattle.dnsv_faults.specs.Vouchers.VoucherSearch.{wanted_of}
+use Rattle.dnsv_faults.proofs.lemmas.VoucherLemmas.{some_match}
 use Rattle.dnsv_faults.proofs.vouchers.key_word.Goals as goal
 
 pub returns-then-not-is_empty : goal.returns-then-not-is_empty

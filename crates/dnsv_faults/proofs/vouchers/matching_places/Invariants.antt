@@ -1,12 +1,12 @@
 use Rattle.std.proofs.Common.{take}
 use Rattle.dnsv_verifier.specs.Asking.{GivesEach}
-use Rattle.dnsv_faults.specs.Index.{Placed}
+use Rattle.dnsv_faults.specs.Keys.Index.{Placed}
 use Rattle.dnsv_faults.specs.Vouchers.{IsMatchOf}
-use Rattle.dnsv_faults.specs.VoucherSearch.{IsMatchPlace, wanted_of}
+use Rattle.dnsv_faults.specs.Vouchers.VoucherSearch.{IsPlaceOf, wanted_of}
 use Rattle.dnsv_faults.proofs.vouchers.matching_places.Given as goal
 
 -- those of the keys so far
 abbrev pub invariant-loop-key : goal.invariant-loop-key
 invariant-loop-key l =
-    GivesEach (IsMatchPlace (wanted_of l.asked)) (λ (placed : Placed). IsMatchOf (wanted_of l.asked) placed.key) (take l.key-index l.keys)
+    GivesEach (IsPlaceOf (IsMatchOf (wanted_of l.asked))) (λ (placed : Placed). IsMatchOf (wanted_of l.asked) placed.key) (take l.key-index l.keys)
     l.places.items

@@ -1,8 +1,8 @@
 use Rattle.std.proofs.Common.{ap, refl, sym, ◌∙◌}
 use Rattle.dnsv_lines.specs.declared.line.derivation.KeyName.{KeyName}
 use Rattle.dnsv_mending.specs.declared.facts.keys.VoucherFacts.{VoucherFacts}
-use Rattle.dnsv_faults.specs.VoucherSearch.{wanted_of}
-use Rattle.dnsv_faults.proofs.VoucherLemmas.{usable_facts}
+use Rattle.dnsv_faults.specs.Vouchers.VoucherSearch.{wanted_of}
+use Rattle.dnsv_faults.proofs.lemmas.VoucherLemmas.{usable_facts}
 use Rattle.dnsv_faults.proofs.vouchers.usable_facts.Goals as goal
 
 pub returns : goal.returns

@@ -1,8 +1,8 @@
 use Rattle.std.proofs.Common.{Option, Some, refl, subst}
 use Rattle.dnsv_lines.specs.declared.line.fault.zone.WhyEntry.{WhyEntry}
 use Rattle.dnsv_mending.specs.declared.facts.keys.VoucherFacts.{VoucherFacts}
-use Rattle.dnsv_faults.specs.VoucherSearch.{IsUnusableWord, wanted_of}
-use Rattle.dnsv_faults.proofs.VoucherLemmas.{unusable_facts}
+use Rattle.dnsv_faults.specs.Vouchers.VoucherSearch.{IsUnusableWord, wanted_of}
+use Rattle.dnsv_faults.proofs.lemmas.VoucherLemmas.{unusable_facts}
 use Rattle.dnsv_faults.proofs.vouchers.voucher_facts.Goals as goal
 
 pub returns-in-Some : goal.returns-in-Some

@@ -1,7 +1,7 @@
 use Rattle.std.proofs.Common.{subst}
 use Rattle.dnsv_names.specs.Name.{Labels}
-use Rattle.dnsv_faults.specs.ZoneSearch.{AreKeysOf}
-use Rattle.dnsv_faults.proofs.IndexLemmas.{adds_keys}
+use Rattle.dnsv_faults.specs.Keys.ZoneSearch.{AreKeysOf}
+use Rattle.dnsv_faults.proofs.lemmas.IndexLemmas.{adds_keys}
 use Rattle.dnsv_faults.proofs.keys.index.add_zone.Goals as goal
 
 pub returns : goal.returns

@@ -1,7 +1,7 @@
 use Rattle.std.proofs.Common.{sym, ap, ◌∙◌}
 use Rattle.dnsv_names.specs.Name.{Labels}
 use Rattle.dnsv_canonical.specs.Index.{numbers_at}
-use Rattle.dnsv_faults.proofs.IndexLemmas.{first_is}
+use Rattle.dnsv_faults.proofs.lemmas.IndexLemmas.{first_is}
 use Rattle.dnsv_faults.proofs.keys.index.is_first_of_keys.Goals as goal
 
 pub returns-in-Some : goal.returns-in-Some

@@ -1,4 +1,4 @@
-use Rattle.dnsv_faults.proofs.IndexLemmas.{all_indexed, as_many, more_indexed, numbered_at}
+use Rattle.dnsv_faults.proofs.lemmas.IndexLemmas.{all_indexed, as_many, more_indexed, numbered_at}
 use Rattle.dnsv_faults.proofs.keys.index.placed_keys.Goals as goal
 
 pub loop-place-preserved : goal.loop-place-preserved

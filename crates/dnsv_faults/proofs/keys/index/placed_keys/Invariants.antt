@@ -1,4 +1,4 @@
-use Rattle.dnsv_faults.proofs.IndexLemmas.{AreIndexedTo}
+use Rattle.dnsv_faults.proofs.lemmas.IndexLemmas.{AreIndexedTo}
 use Rattle.dnsv_faults.proofs.keys.index.placed_keys.Given as goal
 
 -- the keys of the zones so far

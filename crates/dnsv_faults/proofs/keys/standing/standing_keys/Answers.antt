@@ -1,5 +1,5 @@
 use Rattle.std.proofs.Common.{get_or}
-use Rattle.dnsv_faults.proofs.ZoneKeyLemmas.{dnskey_number, stand_next}
+use Rattle.dnsv_faults.proofs.lemmas.ZoneKeyLemmas.{dnskey_number, stand_next}
 use Rattle.dnsv_faults.proofs.keys.standing.standing_keys.Goals as goal
 
 pub add_records-requires : goal.add_records-requires

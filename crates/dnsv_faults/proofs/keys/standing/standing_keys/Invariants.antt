@@ -1,7 +1,7 @@
 use Rattle.std.proofs.Common.{map, take}
 use Rattle.std.specs.List.{AllByRecursion}
 use Rattle.dnsv_faults.specs.Keys.{AreStanding}
-use Rattle.dnsv_faults.specs.ZoneSearch.{IsRead}
+use Rattle.dnsv_faults.specs.Keys.ZoneSearch.{IsRead}
 use Rattle.dnsv_faults.proofs.keys.standing.standing_keys.Given as goal
 
 -- the records of the RRsets so far

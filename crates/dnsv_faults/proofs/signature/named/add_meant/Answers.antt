@@ -4,9 +4,9 @@ use Rattle.dnsv_verifier.specs.Admissible.{DnskeyRecord}
 use Rattle.dnsv_verifier.specs.Asking.{GivesMore}
 use Rattle.dnsv_verifier.specs.Table.{table_answer}
 use Rattle.dnsv_verifier.proofs.NumberedLemmas.{gives_pushed}
-use Rattle.dnsv_faults.specs.AnswerSearch.{IsSaidOf}
+use Rattle.dnsv_faults.specs.Answers.AnswerSearch.{IsSaidOf}
 use Rattle.dnsv_faults.specs.Answers.{IsKeyAnswer}
-use Rattle.dnsv_faults.specs.Index.{IsMeantBySigner, Placed}
+use Rattle.dnsv_faults.specs.Keys.Index.{IsMeantBySigner, Placed}
 use Rattle.dnsv_faults.proofs.signature.named.add_meant.Goals as goal
 
 pub returns : goal.returns

@@ -1,8 +1,8 @@
 use Rattle.std.proofs.Common.{take}
 use Rattle.dnsv_verifier.specs.Asking.{GivesEach}
 use Rattle.dnsv_verifier.specs.Table.{table_answer}
-use Rattle.dnsv_faults.specs.AnswerSearch.{IsSaidOf}
-use Rattle.dnsv_faults.specs.Index.{IsMeantBySigner}
+use Rattle.dnsv_faults.specs.Answers.AnswerSearch.{IsSaidOf}
+use Rattle.dnsv_faults.specs.Keys.Index.{IsMeantBySigner}
 use Rattle.dnsv_faults.proofs.signature.named.meant_keys.Given as goal
 
 -- those of the keys so far

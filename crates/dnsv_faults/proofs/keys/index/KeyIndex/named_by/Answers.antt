@@ -6,8 +6,8 @@ use Rattle.std.specs.List.Sorted.{IsPartitionedBy, IsPartitionPoint, IsSortedByK
 use Rattle.std.specs.Ordering.{is_le, is_lt}
 use Rattle.dnsv_verifier.specs.Asking.{key_name_cmp, named_by}
 use Rattle.dnsv_verifier.proofs.NamedLemmas.{lt_parts, le_parts, named_all}
-use Rattle.dnsv_faults.specs.Index.{Placed, name_of}
-use Rattle.dnsv_faults.proofs.IndexLemmas.{named_tied}
+use Rattle.dnsv_faults.specs.Keys.Index.{Placed, name_of}
+use Rattle.dnsv_faults.proofs.lemmas.IndexLemmas.{named_tied}
 use Rattle.dnsv_faults.proofs.keys.index.KeyIndex.named_by.Goals as goal
 
 pub returns-clause-all : goal.returns-clause-all

@@ -4,8 +4,8 @@ use Rattle.std.proofs.lemmas.List.Sorted.{ranks_by}
 use Rattle.std.specs.Ordering.{is_lt}
 use Rattle.dnsv_verifier.specs.Asking.{key_name_cmp}
 use Rattle.dnsv_verifier.proofs.NamedLemmas.{key_name_cmp_total}
-use Rattle.dnsv_faults.specs.Index.{name_of}
-use Rattle.dnsv_faults.proofs.IndexLemmas.{indexed_moved}
+use Rattle.dnsv_faults.specs.Keys.Index.{name_of}
+use Rattle.dnsv_faults.proofs.lemmas.IndexLemmas.{indexed_moved}
 use Rattle.dnsv_faults.proofs.keys.index.KeyIndex.of.Goals as goal
 
 pub invariant_of-result : goal.invariant_of-result

@@ -3,8 +3,8 @@ use Rattle.std.proofs.lemmas.Cmp.{nat_cmp_total}
 use Rattle.std.proofs.lemmas.Fn.{always_returns_same}
 use Rattle.std.proofs.lemmas.List.Sorted.{ranks_by}
 use Rattle.std.specs.Ordering.{is_lt, nat_cmp}
-use Rattle.dnsv_faults.specs.VoucherSearch.{tag_of}
-use Rattle.dnsv_faults.proofs.VoucherLemmas.{zone_keys_moved}
+use Rattle.dnsv_faults.specs.Vouchers.VoucherSearch.{tag_of}
+use Rattle.dnsv_faults.proofs.lemmas.VoucherLemmas.{zone_keys_moved}
 use Rattle.dnsv_faults.proofs.vouchers.zone_keys.ZoneKeys.of.Goals as goal
 
 pub invariant_of-result : goal.invariant_of-result

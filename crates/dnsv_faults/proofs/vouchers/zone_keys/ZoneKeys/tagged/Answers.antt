@@ -5,9 +5,9 @@ use Rattle.std.specs.List.{Contains}
 use Rattle.std.specs.List.Sorted.{IsPartitionedBy, IsPartitionPoint, IsSortedByKey}
 use Rattle.std.specs.Ordering.{nat_cmp}
 use Rattle.std.specs.Prelude.{nat_le, nat_lt}
-use Rattle.dnsv_faults.specs.Index.{Placed}
-use Rattle.dnsv_faults.specs.VoucherSearch.{tag_of}
-use Rattle.dnsv_faults.proofs.TagLemmas.{le_parts, lt_parts, tagged_all}
+use Rattle.dnsv_faults.specs.Keys.Index.{Placed}
+use Rattle.dnsv_faults.specs.Vouchers.VoucherSearch.{tag_of}
+use Rattle.dnsv_faults.proofs.lemmas.TagLemmas.{le_parts, lt_parts, tagged_all}
 use Rattle.dnsv_faults.proofs.vouchers.zone_keys.ZoneKeys.tagged.Goals as goal
 
 pub returns-clause-all : goal.returns-clause-all

@@ -1,0 +1,7 @@
+use Rattle.dnsv_verdict.specs.Case.{basis_by}
+use Rattle.dnsv_faults.proofs.lemmas.zones.ZoneLemmas.{AreZonesTo}
+use Rattle.dnsv_faults.proofs.case_facts.CaseFacts.zone_facts.Given as goal
+
+-- those so far
+abbrev pub invariant-loop-labels : goal.invariant-loop-labels
+invariant-loop-labels l = AreZonesTo (basis_by l.self) l.name l.fn.rtype.0 l.labels l.zones.items

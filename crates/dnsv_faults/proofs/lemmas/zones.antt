@@ -1,0 +1,12 @@
+pub mod ClosedLemmas
+pub mod DnskeyLemmas
+pub mod FindLemmas
+pub mod HolderLemmas
+pub mod InPlaceLemmas
+pub mod KeyedLemmas
+pub mod MatchLemmas
+pub mod OwnLemmas
+pub mod PlaceLemmas
+pub mod TrustLemmas
+pub mod WholeLemmas
+pub mod ZoneLemmas

@@ -1,0 +1,80 @@
+//! What is so of a name as a zone.
+
+pub mod dnskeys;
+pub mod groups;
+pub mod holders;
+pub mod keyed;
+pub mod known;
+pub mod places;
+pub mod vouched;
+
+ghost use Rattle.std.specs.Prelude.{◌↔◌, ℕ, IfOk, IsTrue};
+ghost use Rattle.dnsv_names.specs.Name.{Labels};
+ghost use Rattle.dnsv_verdict.specs.Case.{basis_by};
+ghost use Rattle.dnsv_faults.specs.KnownZones.{IsKnownZone};
+ghost use Rattle.dnsv_faults.specs.Zones.{AreFactsOfZone, AreZoneFacts, IsAnchored};
+
+use crate::case_facts::CaseFacts;
+use crate::vouchers::zone_keys::ZoneKeys;
+use crate::zone::dnskeys::dnskey_facts;
+use crate::zone::groups::anchors::anchor_facts;
+use crate::zone::groups::ds::ds_facts;
+use crate::zone::holders::zone_key_facts;
+use crate::zone::keyed::keyed_zone;
+use dnsv_mending::ZoneFacts;
+use dnsv_names::{Name, RecordType};
+use std::alloc::{AllocError, Global};
+
+impl<'a> CaseFacts<'a> {
+    /// What is so of the names at or above the name that is asked for, as zones: for each number of its labels, from none on.
+    pub fn zone_facts(
+        &self,
+        alloc: Global,
+        name: &Name,
+        rtype: RecordType,
+    ) -> Result<Vec<ZoneFacts>, AllocError>
+        ensures { IfOk result (λ zones. AreZoneFacts (basis_by self.now) name.now rtype.0 zones.items) }
+    {
+        let known = self.known_zones(alloc, name, rtype)?;
+        let mut zones = Vec::with_capacity(alloc, known.len())?;
+        for (labels, is_known) in known.iter().enumerate() {
+            zones.push(facts_of_zone(alloc, self, &name.suffix(labels), *is_known)?)?;
+        }
+        Ok(zones)
+    }
+}
+
+/// What is so of the name as a zone, which is known or isn't.
+fn facts_of_zone(
+    alloc: Global,
+    facts: &CaseFacts<'_>,
+    zone: &Name,
+    is_known: bool,
+) -> Result<ZoneFacts, AllocError>
+    ensures { IfOk result (λ found. (name : Labels) (t : ℕ) → (IsTrue is_known ↔ IsKnownZone (basis_by facts.now) name t zone.now)
+        → AreFactsOfZone (basis_by facts.now) name t zone.now found) }
+{
+    let tagged = ZoneKeys::of(alloc, facts.capture(), zone)?;
+    let anchors = anchor_facts(alloc, facts, &tagged, zone)?;
+    let ds = ds_facts(alloc, facts, &tagged, zone)?;
+    let keyed = keyed_zone(alloc, facts, zone, &anchors, &ds)?;
+    let dnskeys = dnskey_facts(alloc, &keyed)?;
+    Ok(ZoneFacts {
+        is_known,
+        is_anchored: is_anchored(facts, zone),
+        keys: zone_key_facts(alloc, keyed.keys.len(), &dnskeys)?,
+        dnskeys,
+        anchors,
+        ds,
+    })
+}
+
+/// Whether a trust anchor is at or above the zone.
+fn is_anchored(facts: &CaseFacts<'_>, zone: &Name) -> bool
+    ensures { IsTrue result ↔ IsAnchored facts.now.anchors zone.now }
+{
+    facts
+        .anchors()
+        .iter()
+        .any(|anchor| zone.is_at_or_below(anchor.owner()))
+}
