@@ -41,14 +41,14 @@ impl<'a> CaseFacts<'a> {
     }
 
     /// The evidence.
-    pub(crate) fn capture(&self) -> &'a Capture<'a>
+    pub fn capture(&self) -> &'a Capture<'a>
         ensures { result.now.rrsets ≡ self.now.rrsets }
     {
         self.case.capture()
     }
 
     /// The trust anchors.
-    pub(crate) fn anchors(&self) -> &'a [Anchor<'a>]
+    pub fn anchors(&self) -> &'a [Anchor<'a>]
         ensures { result.now ≡ self.now.anchors }
     {
         self.case.anchors().as_slice()

@@ -23,10 +23,7 @@ use dnsv_names::RecordType;
 use std::alloc::{AllocError, Global};
 
 /// What is so of the DNSKEY RRsets of the zone, by their numbers.
-pub fn dnskey_facts(
-    alloc: Global,
-    keyed: &KeyedZone<'_>,
-) -> Result<Vec<DnskeyFacts>, AllocError>
+pub fn dnskey_facts(alloc: Global, keyed: &KeyedZone<'_>) -> Result<Vec<DnskeyFacts>, AllocError>
     requires { AreKeyed keyed.now }
     ensures { IfOk result (λ dnskeys. AreAllDnskeyFacts (basis_in keyed.now) keyed.now.zone.now dnskeys.items) }
 {
@@ -95,8 +92,7 @@ fn is_trusted(set: &KeyedSet<'_>) -> bool
 fn has_trusting(vouched: &Places, own: &OwnSignatures<'_>, keys: &[PlacedKey<'_>]) -> bool
     ensures { IsTrue result ↔ HasTrusting vouched.now own.now keys.now }
 {
-    keys.iter()
-        .any(|placed| is_trusting(vouched, own, placed))
+    keys.iter().any(|placed| is_trusting(vouched, own, placed))
 }
 
 /// Whether this key is.

@@ -8,9 +8,9 @@ ghost use Rattle.dnsv_verdict.specs.Case.{basis_by};
 ghost use Rattle.dnsv_faults.specs.Groups.{AreAllDsFacts, AreAnchorFacts};
 
 use crate::case_facts::CaseFacts;
+use crate::vouchers::zone_keys::ZoneKeys;
 use crate::zone::groups::anchors::anchor_facts;
 use crate::zone::groups::ds::ds_facts;
-use crate::vouchers::zone_keys::ZoneKeys;
 use dnsv_mending::{DsFacts, VoucherFacts};
 use dnsv_names::Name;
 use std::alloc::{AllocError, Global};

@@ -9,8 +9,8 @@ ghost use Rattle.dnsv_faults.specs.KnownZones.KnownSearch.{AreSpoken};
 ghost use Rattle.dnsv_faults.specs.KnownZones.{AreKnownZones, HasOwnAnchor, HasRrset, IsKnownZone};
 
 use crate::case_facts::CaseFacts;
-use crate::zone::known::speakers::speakers;
 use crate::signature::is_among;
+use crate::zone::known::speakers::speakers;
 use dnsv_names::{Name, RecordType};
 use std::alloc::{AllocError, Global};
 

@@ -52,13 +52,22 @@ module _ (rrsets : List ReceivedRrset) (zone : Labels) (n : EntryNumber) (wanted
   match_there useful is =
       let asked = match_wanted wanted key is in
       let why : facts.why ≡ None =
-      no_first (IsVoucherFault rrsets zone wanted) voucher_faults facts.why
-      (λ f. f useful.supported,
-      (useful.digest,
-      (useful.counts,
-      (λ f. f place key placed (wanted_tag wanted key asked),
-      (λ f. f.1 place key placed asked,
-      (λ f. f.1 place key placed is, tt)))))) are.fault in
+      no_first (IsVoucherFault rrsets zone wanted) voucher_faults facts.why (
+        λ f. f useful.supported,
+        (
+          useful.digest,
+          (
+            useful.counts,
+            (
+              λ f. f place key placed (wanted_tag wanted key asked),
+              (
+                λ f. f.1 place key placed asked,
+                (λ f. f.1 place key placed is, tt),
+              ),
+            ),
+          ),
+        ),
+      ) are.fault in
       (why, (are.matched.members place).1 (why, (key, placed, is)))
 
   -- what has the place matches it, and is of use

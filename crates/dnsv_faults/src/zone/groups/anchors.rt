@@ -5,6 +5,7 @@ ghost use Rattle.dnsv_chain.specs.Anchor.{anchor_owner};
 ghost use Rattle.dnsv_verdict.specs.Case.{basis_by};
 ghost use Rattle.dnsv_faults.specs.Groups.{AreAnchorFacts, anchor_wanted};
 ghost use Rattle.dnsv_faults.specs.Groups.GroupSearch.{AddsAnchor};
+ghost use Rattle.dnsv_faults.specs.Vouchers.{wanted_key};
 ghost use Rattle.dnsv_faults.specs.Vouchers.VoucherSearch.{AreKeysOfZone, wanted_of};
 
 use crate::case_facts::CaseFacts;
@@ -12,7 +13,7 @@ use crate::vouchers::asked::Asked;
 use crate::vouchers::voucher_facts;
 use crate::vouchers::zone_keys::ZoneKeys;
 use dnsv_chain::Anchor;
-use dnsv_lines::EntryNumber;
+use dnsv_lines::{EntryNumber, KeyName};
 use dnsv_mending::VoucherFacts;
 use dnsv_names::Name;
 use std::alloc::{AllocError, Global};
@@ -59,6 +60,13 @@ fn is_owner(anchor: &Anchor<'_>, zone: &Name) -> bool
     ensures { IsTrue result ↔ SameName (anchor_owner anchor.now) zone.now }
 {
     *anchor.owner() == *zone
+}
+
+/// The tag and the algorithm of the key that the anchor asks for.
+pub fn anchor_key_name(anchor: &Anchor<'_>) -> KeyName
+    ensures { result ≡ wanted_key (anchor_wanted anchor.now) }
+{
+    asked_by(anchor).key_name()
 }
 
 /// What the anchor asks for.

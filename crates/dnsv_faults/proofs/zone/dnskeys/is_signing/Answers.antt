@@ -18,8 +18,8 @@ returns c =
             good = subst (λ (n : ℕ). Contains has.own.good n) c.place.ensures has.good;
           },
       λ is. c.has_good.ensures.1 (record {
-            own = is.own;
-            among = tagged.all is.own is.among (is.tag ∙ sym tag);
-            good = subst (λ (n : ℕ). Contains is.own.good n) (sym c.place.ensures) is.good;
-          }),
+        own = is.own;
+        among = tagged.all is.own is.among (is.tag ∙ sym tag);
+        good = subst (λ (n : ℕ). Contains is.own.good n) (sym c.place.ensures) is.good;
+      }),
     )
