@@ -41,7 +41,7 @@ impl<'a> CaseFacts<'a> {
     }
 
     /// The evidence.
-    pub(crate) fn capture(&self) -> &'a Capture<'a>
+    pub fn capture(&self) -> &'a Capture<'a>
         ensures { result.now.rrsets ≡ self.now.rrsets }
     {
         self.case.capture()

@@ -6,6 +6,7 @@
 #![tactic(auto)]
 
 pub use case_facts::CaseFacts;
+pub use known::speakers::{is_above, is_from_above};
 
 mod answers;
 mod case_facts;

@@ -59,7 +59,7 @@ fn is_goal(rrset: &Rrset<'_>, name: &Name, rtype: RecordType) -> bool
 }
 
 /// Whether DS is asked, which the zone above keeps (RFC 4035 2.4), and the RRset is no alias.
-fn is_from_above(rrset: &Rrset<'_>, rtype: RecordType) -> bool
+pub fn is_from_above(rrset: &Rrset<'_>, rtype: RecordType) -> bool
     ensures { IsTrue result ↔ IsFromAbove rtype.0 rrset.now }
 {
     rtype == RecordType::DS && rrset.rtype() != RecordType::CNAME
@@ -98,7 +98,7 @@ fn add_signer(
 
 /// Whether the signer is at or above the name; above it, where it has to be.
 #[tactic(auto, using(crate::proofs::KnownLemmas::never_above, crate::proofs::KnownLemmas::above_by_labels))]
-fn is_above(name: &Name, signer: &Name, from_above: bool) -> bool
+pub fn is_above(name: &Name, signer: &Name, from_above: bool) -> bool
     ensures { IsTrue result ↔ IsAbove name.now from_above signer.now }
 {
     if !name.is_at_or_below(signer) {

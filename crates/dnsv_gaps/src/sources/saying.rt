@@ -1,0 +1,68 @@
+//! Which records of a source say what of a name that is asked for.
+ghost use Rattle.std.specs.Prelude.{◌↔◌, IfOk, IsTrue};
+ghost use Rattle.dnsv_denial.specs.words.Asked.{IsWithin};
+ghost use Rattle.dnsv_canonical.specs.declared.number.RecordNumber.{RecordNumber};
+ghost use Rattle.dnsv_verdict.specs.Case.{basis_by};
+ghost use Rattle.dnsv_gaps.specs.Parts.{AreFactsOf};
+ghost use Rattle.dnsv_gaps.specs.SourceSearch.{AreSaying, IsSourceIn, Says};
+
+use crate::asked::AskedQuestion;
+use crate::parts::facts_of_numbers;
+use crate::sources::ZoneSource;
+use dnsv_canonical::RecordNumber;
+use dnsv_denial::{AskedName, AskedWord, places_saying};
+use dnsv_mending::RrsetFacts;
+use std::alloc::{AllocError, Global};
+
+/// The numbers of all records of the source that say the word of the name, rising.
+pub fn numbers_saying(
+    alloc: Global,
+    question: &AskedQuestion<'_, '_>,
+    source: &ZoneSource<'_>,
+    asked: AskedName,
+    word: AskedWord,
+) -> Result<Vec<RecordNumber>, AllocError>
+    requires source { IsSourceIn question.now source.now }
+    requires within { IsWithin question.now.name.now asked }
+    ensures { IfOk result (λ numbers. AreSaying question.now source.now asked word numbers.items) }
+{
+    let places = places_saying(alloc, question.name, asked, word, &source.records)?;
+    let mut numbers = Vec::new(alloc);
+    for place in &places {
+        numbers.push(source.records.number(*place))?;
+    }
+    Ok(numbers)
+}
+
+/// What is so of the RRsets with such a record, each once, by their numbers.
+pub fn facts_saying(
+    alloc: Global,
+    question: &AskedQuestion<'_, '_>,
+    source: &ZoneSource<'_>,
+    asked: AskedName,
+    word: AskedWord,
+) -> Result<Vec<RrsetFacts>, AllocError>
+    requires source { IsSourceIn question.now source.now }
+    requires within { IsWithin question.now.name.now asked }
+    ensures { IfOk result (λ facts. AreFactsOf (basis_by question.now.facts.now) (Says question.now source.now asked word)
+        facts.items) }
+{
+    let numbers = numbers_saying(alloc, question, source, asked, word)?;
+    facts_of_numbers(alloc, question.facts, &numbers)
+}
+
+/// Whether there is such a record.
+pub fn has_saying(
+    alloc: Global,
+    question: &AskedQuestion<'_, '_>,
+    source: &ZoneSource<'_>,
+    asked: AskedName,
+    word: AskedWord,
+) -> Result<bool, AllocError>
+    requires source { IsSourceIn question.now source.now }
+    requires within { IsWithin question.now.name.now asked }
+    ensures { IfOk result (λ is. IsTrue is ↔ ((number : RecordNumber) × Says question.now source.now asked word number)) }
+{
+    let places = places_saying(alloc, question.name, asked, word, &source.records)?;
+    Ok(!places.is_empty())
+}
