@@ -10,6 +10,7 @@ pub use forms::places::{no_data, no_name};
 pub use forms::proof_form::{ProofForm, WildcardParts};
 pub use forms::wildcard_answer::{no_closer, opts_out_next_closer};
 pub use gathering::denial_records::DenialRecords;
+pub use gathering::gathered::gathered_records;
 pub use gathering::parameters::{OrderedParameters, parameters_in_order};
 pub use proving::proof::Proof;
 pub use proving::proof_part::{PartName, PartRelation, ProofPart};
@@ -20,13 +21,16 @@ pub use records::chain_records::ChainRecords;
 pub use records::entry::{Nsec3Entry, NsecEntry};
 pub use records::hashed_records::HashedRecords;
 pub use records::nsec3_entries::Nsec3Entries;
-pub use records::zone_records::SecuredRecords;
+pub use records::zone_records::GatheredRecords;
 pub use unsigned_cuts::cut_meaning::{
     a_shown_encloser_is_an_open_node_of_the_zone, a_shown_unsigned_delegation_is_one_of_the_zone,
     an_opted_out_name_is_no_node_or_an_unsigned_end,
 };
 pub use unsigned_cuts::shown_cut::ShownCut;
 pub use view::View;
+pub use words::all::{is_opt_out_source, is_source, places_saying};
+pub use words::asked::{AskedName, AskedTypes, AskedWord};
+pub use words::said::{has_encloser, needs_none};
 
 mod forms;
 mod gathering;

@@ -11,14 +11,17 @@ ghost use Rattle.dnsv_zones.specs.chains.HashedNames.{hashes_for, sha1_hash};
 ghost use Rattle.dnsv_zones.specs.chains.Nsec3Chain.{IsAsked};
 ghost use Rattle.dnsv_zones.specs.chains.Rdata.{parameters_of};
 ghost use Rattle.dnsv_denial.specs.KeptHashes.{AreKeptHashes};
-ghost use Rattle.dnsv_denial.specs.QuestionHashes.{IsAskedHash};
+ghost use Rattle.dnsv_denial.specs.QuestionHashes.{AreHashedFor, AreUsed, IsAskedHash};
 ghost use Rattle.dnsv_denial.specs.gathering.Kept.{IsSetOf};
 ghost use Rattle.dnsv_denial.specs.declared.records.zone_records.NameHashes.{NameHashes};
 
 use crate::gathering::zones::sets_of;
+use crate::records::hashed_records::HashedRecords;
+use crate::records::nsec3_entries::Nsec3Entries;
 use crate::records::zone_records::NameHashes;
 use dnsv_canonical::Capture;
 use dnsv_names::{Count, Hash20, Name};
+use dnsv_records::Nsec3Parameters;
 use std::alloc::{AllocError, Global};
 use std::marker::Model;
 use std::rc::Rc;
@@ -92,6 +95,31 @@ impl<'a> Hashes<'a> {
             return None;
         };
         asked_hash(&self.name, &self.sets[place], name)
+    }
+
+    /// The NSEC3 records with the hashes that are asked of those with the parameters; `None` where no usable NSEC3 record
+    /// of the capture has these parameters.
+    pub fn hashed<'r>(
+        &'r self,
+        entries: &'r Nsec3Entries<'r>,
+        parameters: &Nsec3Parameters<'_>,
+    ) -> Option<HashedRecords<'r>>
+        ensures { MatchOption result (¬ AreUsed self.now.rrsets (parameters_of parameters.now))
+            (λ hashed. AreUsed self.now.rrsets (parameters_of parameters.now)
+            × AreHashedFor self.now entries.now (parameters_of parameters.now) hashed) }
+    {
+        let salt = parameters.salt.as_slice();
+        let Some(place) = place_of(&self.sets, parameters.iterations.0, salt) else {
+            return None;
+        };
+        let set = &self.sets[place];
+        Some(HashedRecords {
+            entries,
+            name: &self.name,
+            parameters: set.parameters,
+            above: &set.hashed.above,
+            wildcards: &set.hashed.wildcards,
+        })
     }
 }
 

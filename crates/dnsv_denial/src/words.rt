@@ -1,4 +1,5 @@
 //! What is asked of records, and which of a chain is the first that says so.
+pub mod all;
 pub mod any_name;
 pub mod asked;
 pub mod first_among;

@@ -5,14 +5,21 @@ use Rattle.dnsv_names.specs.Name.{Labels, SameName}
 use Rattle.dnsv_names.specs.Order.ByWire.{search_cmp}
 use Rattle.dnsv_canonical.specs.Rrsets.{ReceivedRrset}
 use Rattle.dnsv_denial.specs.gathering.Evidence.{IsSecuredBy}
-use Rattle.dnsv_denial.specs.gathering.Gathered.{AreNsecsOf, AreNsec3sOf, IsDenialType}
+use Rattle.dnsv_denial.specs.gathering.Gathered.{AreNsecs, AreNsecsOf, AreNsec3s, AreNsec3sOf, IsDenialType}
 use Rattle.dnsv_denial.specs.declared.gathering.denial_records.DenialRecords.{DenialRecords}
 use Rattle.dnsv_denial.specs.declared.gathering.denial_records.SecuredZone.{SecuredZone}
-use Rattle.dnsv_denial.specs.declared.records.zone_records.SecuredRecords.{SecuredRecords}
+use Rattle.dnsv_denial.specs.declared.records.zone_records.GatheredRecords.{GatheredRecords}
+
+-- The records are all NSEC records of the RRsets with such numbers, and those of their NSEC3 records that are the zone's,
+-- by their owner, and can be used.
+pub record AreGatheredRecords (Among : ℕ → Type 0) (rrsets : List ReceivedRrset) (zone : Labels) (kept : GatheredRecords)
+    : Type 0 where
+  pub nsecs : AreNsecs rrsets (λ number. Among number.rrset) kept.nsecs.items
+  pub nsec3s : AreNsec3s rrsets zone (λ number. Among number.rrset) kept.nsec3s
 
 -- the records are the NSEC records of the zone among the evidence, and its NSEC3 records that can be used
 pub record AreSecuredRecords
-    (Secured : ℕ → ℕ → Type 0) (rrsets : List ReceivedRrset) (zone : Labels) (kept : SecuredRecords) : Type 0 where
+    (Secured : ℕ → ℕ → Type 0) (rrsets : List ReceivedRrset) (zone : Labels) (kept : GatheredRecords) : Type 0 where
   pub nsecs : AreNsecsOf Secured rrsets zone kept.nsecs.items
   pub nsec3s : AreNsec3sOf Secured rrsets zone kept.nsec3s
 

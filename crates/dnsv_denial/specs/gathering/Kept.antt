@@ -19,13 +19,13 @@ use Rattle.dnsv_canonical.specs.declared.number.RecordNumber.{RecordNumber}
 use Rattle.dnsv_denial.specs.declared.records.zone_records.HeldRecords.{HeldRecords}
 use Rattle.dnsv_denial.specs.declared.records.zone_records.HeldRecords.TheVariants.{Own, Lent}
 use Rattle.dnsv_denial.specs.declared.records.zone_records.NameHashes.{NameHashes}
-use Rattle.dnsv_denial.specs.declared.records.zone_records.SecuredRecords.{SecuredRecords}
+use Rattle.dnsv_denial.specs.declared.records.zone_records.GatheredRecords.{GatheredRecords}
 use Rattle.dnsv_denial.specs.declared.records.zone_records.ZoneRecords.{ZoneRecords}
 
 -- ---- what is kept
 
 -- the records, own or lent
-abbrev pub records_of : HeldRecords → SecuredRecords
+abbrev pub records_of : HeldRecords → GatheredRecords
 records_of (Own records) = records
 records_of (Lent records) = records.now
 

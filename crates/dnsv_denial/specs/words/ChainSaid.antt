@@ -1,5 +1,5 @@
 -- What the records of one chain say of names, each by its place among them.
-use Rattle.std.specs.Prelude.{⊤, ◌≡◌, ℕ}
+use Rattle.std.specs.Prelude.{⊤, ◌≡◌, ◌≢◌, ℕ, Bool}
 use Rattle.dnsv_names.specs.Name.{Labels}
 use Rattle.dnsv_zones.specs.forms.RecordWords.{RecordWords}
 use Rattle.dnsv_zones.specs.forms.Said.{nsec_records_say, nsec3_records_say}
@@ -20,3 +20,22 @@ chain_said apex (Nsec3 hashed) = nsec3_records_say (hash_of hashed.now)
 abbrev pub HasHashes : Labels → ChainRecords → Type 0
 HasHashes name (Nsec entries) = ⊤
 HasHashes name (Nsec3 hashed) = (hashed.now.name.now ≡ name) × HasHashesOf hashed.now
+
+-- the record at the place is one of the chain: of NSEC3 records those have the parameters of the hashes
+abbrev pub IsOfChain : ChainRecords → ℕ → Type 0
+IsOfChain (Nsec entries) = IsSaidAt (λ entry. ⊤) entries.now
+IsOfChain (Nsec3 hashed) =
+    IsSaidAt (λ entry. (read_nsec3 entry).parameters ≡ (hash_of hashed.now).parameters) hashed.now.entries.now
+
+-- it is an NSEC3 record of the chain with the Opt-Out flag (RFC 5155 6)
+abbrev pub IsOptOutOfChain : ChainRecords → ℕ → Type 0
+IsOptOutOfChain (Nsec entries) place = ⊥
+IsOptOutOfChain (Nsec3 hashed) = IsSaidAt
+    (λ entry. ((read_nsec3 entry).parameters ≡ (hash_of hashed.now).parameters) × ((read_nsec3 entry).flags ≢ 0))
+    hashed.now.entries.now
+
+-- the record at the place, of whatever parameters, tells of these types
+abbrev pub IsTypesAt : ChainRecords → ℕ → (ℕ → Bool) → Type 0
+IsTypesAt (Nsec entries) place types = IsSaidAt (λ entry. (read_entry entry).types ≡ types) entries.now place
+IsTypesAt (Nsec3 hashed) place types =
+    IsSaidAt (λ entry. (read_nsec3 entry).types ≡ types) hashed.now.entries.now place

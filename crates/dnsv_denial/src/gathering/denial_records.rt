@@ -1,20 +1,21 @@
 //! The records by which zones deny names and types, gathered once for a capture and its trust.
-ghost use Rattle.std.specs.Prelude.{ℕ, Contains, IfOk, List};
+ghost use Rattle.std.specs.Prelude.{◌↔◌, ℕ, Contains, IfOk, IsTrue, List};
 ghost use Rattle.std.specs.List.Sorted.{IsStrictlySortedBy};
 ghost use Rattle.std.specs.Ordering.{nat_cmp};
 ghost use Rattle.dnsv_names.specs.Name.{Labels};
 ghost use Rattle.dnsv_canonical.specs.Rrsets.{ReceivedRrset};
 ghost use Rattle.dnsv_chain.specs.ByOwner.{values_at};
 ghost use Rattle.dnsv_chain.specs.Trust.{KeptTrust, SecuredIn};
+ghost use Rattle.dnsv_denial.specs.gathering.Evidence.{IsSecuredBy};
 ghost use Rattle.dnsv_denial.specs.gathering.Gathered.{AreListed, IsListing};
 ghost use Rattle.dnsv_denial.specs.declared.gathering.denial_records.SecuredZone.{SecuredZone};
 ghost use Rattle.dnsv_denial.specs.gathering.ByZone.{AreDenialRecords, AreSecuredRecords, IsZoneAmong};
 
-use crate::gathering::nsec::nsecs_of;
-use crate::gathering::nsec3::nsec3s_of;
+use crate::gathering::gathered::gathered_records;
+use crate::gathering::secured::has_zone_signature;
 use crate::gathering::signers::{NumbersByZone, numbers_by_zone};
 use crate::records::nsec3_entries::Nsec3Entries;
-use crate::records::zone_records::SecuredRecords;
+use crate::records::zone_records::GatheredRecords;
 use dnsv_canonical::Capture;
 use dnsv_chain::{Trust, at};
 use dnsv_names::{Name, WireName};
@@ -26,7 +27,7 @@ pub struct SecuredZone<'c> {
     /// The zone's name, as one of its signatures spells it.
     pub name: WireName<'c>,
     /// The records.
-    pub records: SecuredRecords<'c>,
+    pub records: GatheredRecords<'c>,
 }
 
 /// The NSEC records of a capture, and the NSEC3 records that can be used, by the zones that secured them (RFC 4035 5.4,
@@ -36,7 +37,7 @@ pub struct DenialRecords<'c> {
     /// The zones that secured any, in the order of their names by length and then by octets in lower case.
     zones: Vec<SecuredZone<'c>>,
     /// What any other zone has: nothing.
-    none: SecuredRecords<'c>,
+    none: GatheredRecords<'c>,
 }
 
 impl<'c> DenialRecords<'c> {
@@ -51,7 +52,7 @@ impl<'c> DenialRecords<'c> {
         let numbers = numbers_by_zone(alloc, capture, trust)?;
         let mut zones = secured_zones(alloc, capture, trust, &numbers)?;
         zones.sort_unstable_by(|a, b| a.name.search_cmp(&b.name));
-        let none = SecuredRecords {
+        let none = GatheredRecords {
             nsecs: Vec::new(alloc),
             nsec3s: Nsec3Entries::new(alloc, Vec::new(alloc))?,
         };
@@ -60,7 +61,7 @@ impl<'c> DenialRecords<'c> {
 
     /// The records of the zone, in the order of their numbers. It takes no memory, and time in proportion to the logarithm
     /// of the number of zones.
-    pub fn of_zone(&self, zone: &Name) -> &SecuredRecords<'c>
+    pub fn of_zone(&self, zone: &Name) -> &GatheredRecords<'c>
         ensures { (trust : KeptTrust) (rrsets : List ReceivedRrset) → AreDenialRecords (SecuredIn trust) rrsets self.now
             → AreSecuredRecords (SecuredIn trust) rrsets zone.now result.now }
     {
@@ -106,23 +107,48 @@ pub fn secured_records<'c>(
     trust: &Trust<'_>,
     zone: &Name,
     listed: &[usize],
-) -> Result<SecuredRecords<'c>, AllocError>
+) -> Result<GatheredRecords<'c>, AllocError>
     requires { IsListing (SecuredIn trust.now) capture.now.rrsets zone.now listed.now }
     ensures { IfOk result (AreSecuredRecords (SecuredIn trust.now) capture.now.rrsets zone.now) }
 {
-    let numbers = rising(alloc, listed)?;
-    let nsecs = nsecs_of(alloc, capture, trust, zone, &numbers)?;
-    let records = nsec3s_of(alloc, capture, trust, zone, &numbers)?;
-    Ok(SecuredRecords {
-        nsecs,
-        nsec3s: Nsec3Entries::new(alloc, records)?,
-    })
+    let numbers = secured_numbers(alloc, capture, trust, zone, listed)?;
+    gathered_records(alloc, capture, zone, &rising(alloc, &numbers)?)
+}
+
+/// Those of the numbers whose RRset the zone secured.
+fn secured_numbers(
+    alloc: Global,
+    capture: &Capture<'_>,
+    trust: &Trust<'_>,
+    zone: &Name,
+    listed: &[usize],
+) -> Result<Vec<usize>, AllocError>
+    ensures { IfOk result (λ numbers. (k : ℕ) → Contains numbers.items k
+        ↔ (Contains listed.now k × IsSecuredBy (SecuredIn trust.now) capture.now.rrsets zone.now k)) }
+{
+    let mut numbers = Vec::new(alloc);
+    for number in listed {
+        if is_secured_by(capture, trust, zone, *number) {
+            numbers.push(*number)?;
+        }
+    }
+    Ok(numbers)
+}
+
+/// Whether the zone secured the RRset with the number.
+fn is_secured_by(capture: &Capture<'_>, trust: &Trust<'_>, zone: &Name, number: usize) -> bool
+    ensures { IsTrue result ↔ IsSecuredBy (SecuredIn trust.now) capture.now.rrsets zone.now number }
+{
+    let Some(rrset) = capture.rrset(number) else {
+        return false;
+    };
+    has_zone_signature(rrset, trust.signed(number), zone)
 }
 
 /// The numbers in their order, each once.
 fn rising(alloc: Global, listed: &[usize]) -> Result<Vec<usize>, AllocError>
     ensures order { IfOk result (λ numbers. IsStrictlySortedBy nat_cmp numbers.items) }
-    ensures all { IfOk result (λ numbers. (k : ℕ) → Contains listed.now k → Contains numbers.items k) }
+    ensures all { IfOk result (λ numbers. (k : ℕ) → Contains numbers.items k ↔ Contains listed.now k) }
 {
     let mut numbers = Vec::from_slice(alloc, listed)?;
     numbers.sort_unstable();

@@ -1,59 +1,45 @@
-//! The records of a zone among the evidence.
-ghost use Rattle.std.specs.Prelude.{◌≡◌, ◌++◌, List, IfOk, OnOk};
+//! The NSEC records of RRsets.
+ghost use Rattle.std.specs.Prelude.{◌≡◌, ◌++◌, Contains, List, IfOk, OnOk};
 ghost use Rattle.std.specs.List.Sorted.{IsStrictlySortedBy};
 ghost use Rattle.std.specs.Ordering.{nat_cmp};
 ghost use Rattle.dnsv_canonical.specs.Rrsets.{IsNumbered, ReceivedRrset};
-ghost use Rattle.dnsv_chain.specs.Trust.{SecuredIn};
-ghost use Rattle.dnsv_denial.specs.gathering.Gathered.{AreNsecs, AreNsecsIn, AreNsecsOf, IsListing};
+ghost use Rattle.dnsv_denial.specs.gathering.Gathered.{AreNsecs};
 
-use crate::gathering::secured::has_zone_signature;
 use crate::records::entry::NsecEntry;
 use dnsv_canonical::{Capture, RecordNumber, Rrset, in_canonical_order};
-use dnsv_chain::Trust;
-use dnsv_names::{Name, RecordType};
+use dnsv_names::RecordType;
 use std::alloc::{AllocError, Global};
 
-/// The NSEC records of the zone that it secured, in the order of their numbers. They are looked for in the RRsets with
-/// these numbers.
+/// The NSEC records of the RRsets with these rising numbers, in the order of their numbers.
 pub fn nsecs_of<'a>(
     alloc: Global,
     capture: &'a Capture<'a>,
-    trust: &Trust<'_>,
-    zone: &Name,
     numbers: &[usize],
 ) -> Result<Vec<NsecEntry<'a>>, AllocError>
-    requires rising { IsStrictlySortedBy nat_cmp numbers.now }
-    requires listed { IsListing (SecuredIn trust.now) capture.now.rrsets zone.now numbers.now }
-    ensures { IfOk result (λ entries. AreNsecsOf (SecuredIn trust.now) capture.now.rrsets zone.now entries.items) }
+    requires { IsStrictlySortedBy nat_cmp numbers.now }
+    ensures { IfOk result (λ entries. AreNsecs capture.now.rrsets (λ each. Contains numbers.now each.rrset) entries.items) }
 {
     let mut entries = Vec::new(alloc);
     for number in numbers {
-        add_nsecs(alloc, &mut entries, capture, trust, zone, *number)?;
+        add_nsecs(alloc, &mut entries, capture, *number)?;
     }
     Ok(entries)
 }
 
-/// Adds the records of the RRset with the number, if it has NSEC records and the zone secured it.
+/// Adds the records of the RRset with the number, if it has NSEC records.
 fn add_nsecs<'a>(
     alloc: Global,
     entries: &mut Vec<NsecEntry<'a>>,
     capture: &'a Capture<'a>,
-    trust: &Trust<'_>,
-    zone: &Name,
     number: usize,
 ) -> Result<(), AllocError>
     ensures { OnOk result ((more : List NsecEntry) × (entries.new.items ≡ entries.old.items ++ more)
-        × AreNsecsIn (SecuredIn trust.now) capture.now.rrsets zone.now number more) }
+        × AreNsecs capture.now.rrsets (λ each. each.rrset ≡ number) more) }
 {
-    let rrsets = capture.rrsets();
-    if number == 0 || number > rrsets.len() {
+    let Some(rrset) = capture.rrset(number) else {
         return Ok(());
-    }
-    let rrset = &rrsets[number - 1];
+    };
     if rrset.rtype() != RecordType::NSEC {
-        return Ok(());
-    }
-    if !has_zone_signature(rrset, trust.signed(number), zone) {
         return Ok(());
     }
     push_nsecs(alloc, entries, number, rrset)?;

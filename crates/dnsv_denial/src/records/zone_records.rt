@@ -24,12 +24,12 @@ pub struct NameHashes<'a> {
     pub hashed: HashedNames,
 }
 
-/// The NSEC and NSEC3 records that a zone secured.
+/// NSEC and NSEC3 records of a zone.
 #[derive(Drop)]
-pub struct SecuredRecords<'a> {
-    /// Its NSEC records, in the order of their numbers.
+pub struct GatheredRecords<'a> {
+    /// The NSEC records, in the order of their numbers.
     pub nsecs: Vec<NsecEntry<'a>>,
-    /// Its NSEC3 records that can be used, whatever their parameters.
+    /// The NSEC3 records that can be used, whatever their parameters.
     pub nsec3s: Nsec3Entries<'a>,
 }
 
@@ -46,14 +46,14 @@ pub struct ZoneRecords<'c, 't> {
 #[derive(Drop)]
 pub enum HeldRecords<'c, 't> {
     /// Gathered for one question.
-    Own(SecuredRecords<'c>),
+    Own(GatheredRecords<'c>),
     /// Kept with those of other zones, for many questions.
-    Lent(&'t SecuredRecords<'t>),
+    Lent(&'t GatheredRecords<'t>),
 }
 
 impl<'a> HeldRecords<'a, 'a> {
     /// The records.
-    fn get(&'a self) -> &'a SecuredRecords<'a>
+    fn get(&'a self) -> &'a GatheredRecords<'a>
         ensures { result.now ≡ records_of self.now }
     {
         match self {

@@ -25,7 +25,7 @@ use Rattle.dnsv_denial.specs.gathering.Gathered.{AreNsecsOf, AreNsec3sOf, IsDeni
 use Rattle.dnsv_denial.specs.records.Record.{read_entry, read_nsec3}
 use Rattle.dnsv_denial.specs.declared.gathering.denial_records.DenialRecords.{DenialRecords}
 use Rattle.dnsv_denial.specs.declared.gathering.denial_records.SecuredZone.{SecuredZone}
-use Rattle.dnsv_denial.specs.declared.records.zone_records.SecuredRecords.{SecuredRecords}
+use Rattle.dnsv_denial.specs.declared.records.zone_records.GatheredRecords.{GatheredRecords}
 use Rattle.dnsv_denial.proofs.lemmas.gathering.EvidenceLemmas.{all_said}
 use Rattle.dnsv_denial.proofs.lemmas.gathering.SignerLemmas.{no_nsecs, no_nsec3s}
 use Rattle.dnsv_denial.proofs.lemmas.proving.RespelledZoneLemmas.{nsec_as, nsec3_as}
@@ -124,7 +124,7 @@ among_moved given sorted moved name among = (among.0, Contains-permutation given
 
 module _ (Secured : ℕ → ℕ → Type 0) (rrsets : List ReceivedRrset) where
   -- another spelling
-  records_as : (a b : Labels) (kept : SecuredRecords) → SameName a b → AreSecuredRecords Secured rrsets a kept → AreSecuredRecords Secured rrsets b kept
+  records_as : (a b : Labels) (kept : GatheredRecords) → SameName a b → AreSecuredRecords Secured rrsets a kept → AreSecuredRecords Secured rrsets b kept
   records_as a b kept same are = record {
     nsecs = all_said (λ entry. entry.number) read_entry (IsNsecAt Secured rrsets a) (IsNsecAt Secured rrsets b) (λ _. ⊤) (λ _. ⊤) kept.nsecs.items
         (λ n x any is. (tt, nsec_as Secured rrsets [] 0 a b same n x is)) (λ n x any is. (tt, nsec_as Secured rrsets [] 0 b a (sym same) n x is)) are.nsecs;
