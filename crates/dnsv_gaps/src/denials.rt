@@ -11,12 +11,11 @@ ghost use Rattle.dnsv_gaps.specs.DenialSearch.{HasKnownBetween, IsDenialType, Is
 ghost use Rattle.dnsv_gaps.specs.Denials.{IsDenial, IsDenialNumber, IsDenialOf, IsStrayOf};
 
 use crate::asked::AskedQuestion;
+pub use crate::denials::signers::has_signer;
 use crate::denials::signers::{has_speaker, is_stray};
 use dnsv_canonical::Rrset;
 use dnsv_names::{Name, RecordType};
 use std::alloc::{AllocError, Global};
-
-pub use crate::denials::signers::has_signer;
 
 /// The numbers of the denials of the zone with so many of the name's labels, rising.
 pub fn denials_of(

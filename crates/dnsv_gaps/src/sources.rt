@@ -61,8 +61,7 @@ impl HeldSource<'_> {
         }
     }
 
-    fn records(&self) -> ChainRecords<'_>
-    {
+    fn records(&self) -> ChainRecords<'_> {
         match self {
             HeldSource::Nsec(entries) => ChainRecords::Nsec(entries),
             HeldSource::Nsec3(hashed) => ChainRecords::Nsec3(hashed),

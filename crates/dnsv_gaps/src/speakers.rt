@@ -14,7 +14,7 @@ use dnsv_remedies::{SourceFacts, SpeakerFacts, UnusableFacts};
 use std::alloc::{AllocError, Global};
 
 /// What the known zones have that may deny the question, from many labels to few.
-pub fn speakers(
+pub fn speaker_facts(
     alloc: Global,
     question: &AskedQuestion<'_, '_>,
 ) -> Result<Vec<SpeakerFacts>, AllocError>
@@ -57,8 +57,7 @@ fn sources_facts(
     alloc: Global,
     question: &AskedQuestion<'_, '_>,
     zone: &ZoneDenials<'_>,
-) -> Result<Vec<SourceFacts>, AllocError>
-{
+) -> Result<Vec<SourceFacts>, AllocError> {
     let sources = sources_of(alloc, question, zone)?;
     let mut facts = Vec::with_capacity(alloc, sources.len())?;
     for (place, held) in sources.iter().enumerate() {

@@ -19,9 +19,7 @@ pub fn has_speaker(name: &Name, rtype: RecordType, rrset: &Rrset<'_>) -> bool
 fn is_one_speaking(rrsigs: &[Rrsig<'_>], name: &Name, from_above: bool) -> bool
     ensures { IsTrue result ↔ HasOneSpeaking rrsigs.now name.now from_above }
 {
-    rrsigs
-        .iter()
-        .any(|rrsig| is_above(name, &rrsig.signer.to_name(), from_above))
+    rrsigs.iter().any(|rrsig| is_above(name, &rrsig.signer.to_name(), from_above))
 }
 
 /// Whether no signer of the RRset is at or above the owner.

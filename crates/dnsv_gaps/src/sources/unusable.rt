@@ -65,8 +65,7 @@ fn add_unusable(
 }
 
 /// Whether the owner spells a hash in front of the zone (RFC 5155 3).
-fn is_hashed_owner(owner: &Name, zone: &Name) -> bool
-{
+fn is_hashed_owner(owner: &Name, zone: &Name) -> bool {
     let Some(parent) = owner.parent() else {
         return false;
     };
@@ -78,8 +77,7 @@ fn is_hashed_owner(owner: &Name, zone: &Name) -> bool
 
 /// Why the record can't be used, if it is of no source of the zone; `is_hashed` is whether its owner is a hash in front of
 /// the zone.
-fn why_unused(rrset: &Rrset<'_>, is_hashed: bool, nsec3: &Nsec3<'_>) -> Option<WhyNsec3>
-{
+fn why_unused(rrset: &Rrset<'_>, is_hashed: bool, nsec3: &Nsec3<'_>) -> Option<WhyNsec3> {
     if is_hashed && nsec3.is_usable() {
         return None;
     }

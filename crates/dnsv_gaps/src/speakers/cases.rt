@@ -33,7 +33,13 @@ pub fn source_case(
         return Ok(SourceCase::Closed(closed));
     }
     let name = AskedName::Above(question.name.labels());
-    if has_saying(alloc, question, source, name, AskedWord::Types(AskedTypes::Any))? {
+    if has_saying(
+        alloc,
+        question,
+        source,
+        name,
+        AskedWord::Types(AskedTypes::Any),
+    )? {
         return Ok(SourceCase::At(records_at(alloc, question, source, name)?));
     }
     if source.labels == question.name.labels() {

@@ -104,7 +104,13 @@ fn wildcard_facts(
         return Ok(WildcardFacts::OptedOut);
     }
     let wildcard = AskedName::Wildcard(labels);
-    if has_saying(alloc, question, source, wildcard, AskedWord::Types(AskedTypes::Any))? {
+    if has_saying(
+        alloc,
+        question,
+        source,
+        wildcard,
+        AskedWord::Types(AskedTypes::Any),
+    )? {
         return Ok(WildcardFacts::At(records_at(alloc, question, source, wildcard)?));
     }
     let covers = facts_saying(alloc, question, source, wildcard, AskedWord::RuledOut)?;
