@@ -9,3 +9,4 @@ pub mod Sources
 pub mod Speakers
 pub mod Unusable
 pub mod UnusableSearch
+pub mod questions

@@ -5,11 +5,13 @@
 #![tactic(auto)]
 
 pub use asked::AskedQuestion;
+pub use question::question_facts;
 pub use sources::{HeldSource, ZoneDenials, ZoneSource, sources_of, zone_denials};
 pub use speakers::speaker_facts;
 
 mod asked;
 mod denials;
 mod parts;
+mod question;
 mod sources;
 mod speakers;
