@@ -1,3 +1,3 @@
-mod lemmas
+pub mod lemmas
 pub mod meaning
 mod QuestionHashLemmas

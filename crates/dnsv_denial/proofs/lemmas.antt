@@ -1,4 +1,4 @@
--- Lemmas that no crate above cites.
+-- Lemmas, some of which crates above cite.
 pub mod WildcardAnswerLemmas
 pub mod forms
 pub mod gathering

@@ -1,5 +1,6 @@
 //! The records of zones, gathered from the evidence.
 pub mod denial_records;
+pub mod expanded;
 pub mod gathered;
 pub mod nsec;
 pub mod nsec3;

@@ -28,15 +28,17 @@ pub use unsigned_cuts::cut_meaning::{
 };
 pub use unsigned_cuts::shown_cut::ShownCut;
 pub use view::View;
-pub use words::all::{is_opt_out_source, is_source, places_saying};
+pub use words::all::places_saying;
 pub use words::asked::{AskedName, AskedTypes, AskedWord};
 pub use words::said::{has_encloser, needs_none};
+pub use words::sources::{is_opt_out_source, is_source};
 
 mod forms;
 mod gathering;
 mod proving;
 mod question_hashes;
 mod records;
+mod rising;
 mod unsigned_cuts;
 mod view;
 mod wildcard_answers;

@@ -29,6 +29,7 @@ ghost use Rattle.dnsv_denial.specs.unsigned_cuts.Cuts.{HasOptedOutNextCloser, Ha
 ghost use Rattle.dnsv_denial.specs.words.EvidenceWords.{Chain, evidence_said};
 
 use crate::gathering::denial_records::DenialRecords;
+use crate::gathering::expanded::expanded_types;
 use crate::gathering::zones::{lent_zones, own_zones};
 use crate::proving::proof::Proof;
 use crate::proving::shown_denial::proof_of;
@@ -113,7 +114,8 @@ impl<'c, 't> View<'c, 't> {
             ≡ record { rrsets = capture.now.rrsets; trust = trust.now; name = hashes.now.name }) }
     {
         let zones = own_zones(alloc, capture, trust, hashes.name())?;
-        View::of_zones(alloc, capture, trust, zones, hashes)
+        let types = expanded_types(alloc, capture)?;
+        View::of_zones(alloc, capture, trust, zones, &types, hashes)
     }
 
     /// The same view, for which nothing is gathered: it looks through `denials`, the records that the zones of the
@@ -131,15 +133,17 @@ impl<'c, 't> View<'c, 't> {
             ≡ record { rrsets = capture.now.rrsets; trust = trust.now; name = hashes.now.name }) }
     {
         let zones = lent_zones(alloc, denials, hashes.name())?;
-        View::of_zones(alloc, capture, trust, zones, hashes)
+        View::of_zones(alloc, capture, trust, zones, denials.expanded(), hashes)
     }
 
-    /// The view that looks through the records of these zones, at or above the name that the hashes are kept for.
+    /// The view that looks through the records of these zones, at or above the name that the hashes are kept for. Of
+    /// answers from wildcards those of these types are looked up.
     fn of_zones(
         alloc: Global,
         capture: &'c Capture<'c>,
         trust: &'t Trust<'t>,
         zones: Vec<ZoneRecords<'c, 't>>,
+        types: &[RecordType],
         hashes: &Hashes<'c>,
     ) -> Result<View<'c, 't>, AllocError>
         requires zones { AreZones (SecuredIn trust.now) capture.now.rrsets hashes.now.name zones.items }
@@ -148,7 +152,7 @@ impl<'c, 't> View<'c, 't> {
             ≡ record { rrsets = capture.now.rrsets; trust = trust.now; name = hashes.now.name }) }
     {
         let sets = hashes.share()?;
-        let answers = wildcard_answers(alloc, capture, trust, hashes.name(), &zones, &sets)?;
+        let answers = wildcard_answers(alloc, capture, trust, hashes.name(), types, &zones, &sets)?;
         Ok(View {
             capture,
             trust,

@@ -12,7 +12,7 @@ use crate::records::zone_records::{NameHashes, ZoneRecords};
 use crate::unsigned_cuts::kept_cuts::opted_out_next_closer;
 use dnsv_canonical::{Capture, Rrset, is_expanded};
 use dnsv_chain::Trust;
-use dnsv_names::Name;
+use dnsv_names::{Name, RecordType};
 use std::alloc::{AllocError, Global};
 use std::collections::BTreeMap;
 
@@ -28,13 +28,14 @@ pub struct Shown {
 /// What is shown, by how many labels the zone has, which is at or above the name, and how many the wildcard's parent has.
 pub type WildcardAnswers = BTreeMap<(usize, usize), Shown>;
 
-/// What is shown of the answers that the capture has from wildcards to the name, by signatures that are secured. Several
-/// may be of one zone and number of labels; the records are asked once for these.
+/// What is shown of the answers that the capture has from wildcards to the name, of these types, by signatures that are
+/// secured. Several may be of one zone and number of labels; the records are asked once for these.
 pub fn wildcard_answers(
     alloc: Global,
     capture: &Capture<'_>,
     trust: &Trust<'_>,
     name: &Name,
+    types: &[RecordType],
     zones: &[ZoneRecords<'_, '_>],
     sets: &[NameHashes<'_>],
 ) -> Result<WildcardAnswers, AllocError>
@@ -42,19 +43,38 @@ pub fn wildcard_answers(
     ensures { IfOk result (AreAnswers (SecuredIn trust.now) capture.now.rrsets name.now) }
 {
     let mut answers = BTreeMap::new(alloc);
-    for (place, rrset) in capture.rrsets().iter().enumerate() {
-        if *rrset.owner() == *name {
-            add_answers(
-                rrset,
-                trust.signed(place + 1),
-                name,
-                zones,
-                sets,
-                &mut answers,
-            )?;
-        }
+    for rtype in types {
+        let numbers = capture.at(name, *rtype);
+        add_numbered(capture, trust, name, numbers, zones, sets, &mut answers)?;
     }
     Ok(answers)
+}
+
+/// Adds what is shown of the RRsets with these numbers, which the name owns.
+fn add_numbered(
+    capture: &Capture<'_>,
+    trust: &Trust<'_>,
+    name: &Name,
+    numbers: &[usize],
+    zones: &[ZoneRecords<'_, '_>],
+    sets: &[NameHashes<'_>],
+    answers: &mut WildcardAnswers,
+) -> Result<(), AllocError>
+    requires { (trust : KeptTrust) × (rrsets : List ReceivedRrset)
+        × IsViewOf (SecuredIn trust) rrsets name.now sets.now zones.now }
+    ensures { OnOk result ((trust : KeptTrust) (rrsets : List ReceivedRrset)
+        → IsViewOf (SecuredIn trust) rrsets name.now sets.now zones.now
+        → AreAnswers (SecuredIn trust) rrsets name.now answers.old
+        → AreAnswers (SecuredIn trust) rrsets name.now answers.new) }
+{
+    for number in numbers {
+        let Some(rrset) = capture.rrset(*number) else {
+            continue;
+        };
+        let secured = trust.signed(*number);
+        add_answers(rrset, secured, name, zones, sets, answers)?;
+    }
+    Ok(())
 }
 
 /// Adds what is shown of the RRset by its signatures with these numbers, from 1 on, unless that is there.

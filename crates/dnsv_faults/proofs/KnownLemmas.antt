@@ -49,7 +49,7 @@ signer_added name signer from_above old new above adds =
     (λ n is. is.labels)
 
 module _ (rrset : ReceivedRrset) (rrsigs : List Rrsig) (each : AllZip IsRrsig rrset.signatures rrsigs) where
-  read_of : (rrsig : Rrsig) → Contains rrsigs rrsig → IsSignatureOf rrset rrsig
+  pub read_of : (rrsig : Rrsig) → Contains rrsigs rrsig → IsSignatureOf rrset rrsig
   read_of rrsig there =
       let size = zip_length IsRrsig rrset.signatures rrsigs each in
       let within = there.1 in
@@ -60,7 +60,7 @@ module _ (rrset : ReceivedRrset) (rrsigs : List Rrsig) (each : AllZip IsRrsig rr
             (zip_at IsRrsig rrset.signatures rrsigs there.0 [] rrsig each inside),
       )
 
-  read_in : (rrsig : Rrsig) → IsSignatureOf rrset rrsig → Contains rrsigs rrsig
+  pub read_in : (rrsig : Rrsig) → IsSignatureOf rrset rrsig → Contains rrsigs rrsig
   read_in rrsig its =
       let size = zip_length IsRrsig rrset.signatures rrsigs each in
       let k : ℕ = its.1.0 in

@@ -89,7 +89,7 @@ IsDenying said name t = said.TypesAt name (λ has. Denies has t)
 
 -- what records at the name say of the type: some deny it, or none does
 pub data AreRecordsAt (basis : Basis) (said : RecordWords RecordNumber) (name : Labels) (t : ℕ) : RecordsAt → Type 0 where
-  denying : {rrsets : _} → HasOne (IsDenying said name t) → AreFactsOf basis (IsDenying said name t) rrsets.items
+  denying : {rrsets : Vec RrsetFacts} → HasOne (IsDenying said name t) → AreFactsOf basis (IsDenying said name t) rrsets.items
       → AreRecordsAt basis said name t (records.Denying rrsets)
   holding : {facts : HoldingFacts} → HasNone (IsDenying said name t) → AreFactsOf basis (IsAt said name) facts.rrsets.items
       → AreHeld said name t facts.held.items → AreRecordsAt basis said name t (records.Holding facts)
@@ -136,14 +136,14 @@ pub data AreShowing (basis : Basis) (said : RecordWords RecordNumber) (name : La
       → AreShowing basis said name facts
 
 -- what is said of the wildcard, where no record with the Opt-Out flag covers the next closer name
-pub data AreWildcardFacts (basis : Basis) (said : RecordWords RecordNumber) (next wildcard : Labels) (t : ℕ)
+pub data AreWildcardFacts (basis : Basis) (said : RecordWords RecordNumber) (next below : Labels) (t : ℕ)
     : WildcardFacts → Type 0 where
-  opted_out : HasOne (said.OptedOut next) → AreWildcardFacts basis said next wildcard t wildcard.OptedOut
-  at : {found : RecordsAt} → HasNone (said.OptedOut next) → HasOne (IsAt said wildcard)
-      → AreRecordsAt basis said wildcard t found → AreWildcardFacts basis said next wildcard t (wildcard.At found)
-  covered : {rrsets : _} → HasNone (said.OptedOut next) → HasNone (IsAt said wildcard)
-      → AreFactsOf basis (IsRuledOut said wildcard) rrsets.items
-      → AreWildcardFacts basis said next wildcard t (wildcard.Covered rrsets)
+  opted_out : HasOne (said.OptedOut next) → AreWildcardFacts basis said next below t wildcard.OptedOut
+  at : {found : RecordsAt} → HasNone (said.OptedOut next) → HasOne (IsAt said below)
+      → AreRecordsAt basis said below t found → AreWildcardFacts basis said next below t (wildcard.At found)
+  covered : {rrsets : Vec RrsetFacts} → HasNone (said.OptedOut next) → HasNone (IsAt said below)
+      → AreFactsOf basis (IsRuledOut said below) rrsets.items
+      → AreWildcardFacts basis said next below t (wildcard.Covered rrsets)
 
 pub record AreEncloserFacts (basis : Basis) (said : RecordWords RecordNumber) (zone name : Labels) (t : ℕ)
     (facts : EncloserFacts) : Type 0 where
@@ -167,7 +167,7 @@ pub data IsSourceCase (basis : Basis) (said : RecordWords RecordNumber) (zone na
       → IsSourceCase basis said zone name t (case.At found)
   apex : HasNoneClosed said zone name → HasNone (IsAt said name) → SameName name zone
       → IsSourceCase basis said zone name t case.Apex
-  non_terminal : {rrsets : _} → HasNoneClosed said zone name → HasNone (IsAt said name) → ¬ SameName name zone
+  non_terminal : {rrsets : Vec RrsetFacts} → HasNoneClosed said zone name → HasNone (IsAt said name) → ¬ SameName name zone
       → HasOne (said.EmptyNonTerminal name) → AreFactsOf basis (said.EmptyNonTerminal name) rrsets.items
       → IsSourceCase basis said zone name t (case.NonTerminal rrsets)
   no_encloser : IsNotThere said zone name → HasNoneShown said zone name → IsSourceCase basis said zone name t case.NoEncloser

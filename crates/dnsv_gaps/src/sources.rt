@@ -5,7 +5,8 @@ mod unusable;
 
 ghost use Rattle.std.specs.Prelude.{◌≡◌, ◌↔◌, ◌≤◌, IfOk, IsTrue, length};
 ghost use Rattle.dnsv_gaps.specs.Asking.{IsAsked, asking};
-ghost use Rattle.dnsv_gaps.specs.SourceSearch.{AreHeldSources, AreZoneDenials, IsHeldIn, IsSourceIn, held_chain, zone_in};
+ghost use Rattle.dnsv_gaps.specs.SourceSearch.{AreHeldSources, AreZoneDenials, IsHeldIn, IsSourceIn, chain_of, held_chain};
+ghost use Rattle.dnsv_gaps.specs.declared.asked.AskedQuestion.{AskedQuestion};
 
 use crate::asked::AskedQuestion;
 use crate::denials::denials_of;

@@ -1,6 +1,7 @@
 -- Of the records that are gathered from the evidence.
 pub mod ByZoneLemmas
 pub mod EvidenceLemmas
+pub mod FilterLemmas
 pub mod GatherLemmas
 pub mod GatherZoneLemmas
 pub mod Gathering

@@ -1,7 +1,10 @@
 -- Of what records say by their places, and by their numbers.
+pub mod AllPlacesLemmas
+pub mod AllSaidLemmas
 pub mod AlikeLemmas
 pub mod AnyNameLemmas
 pub mod FirstAmongLemmas
 pub mod FirstLemmas
 pub mod IndexLemmas
 pub mod PlaceLemmas
+pub mod SourceLemmas

@@ -7,7 +7,7 @@ use Rattle.dnsv_records.specs.Nsec3.{IsUsable}
 use Rattle.dnsv_records.specs.declared.nsec3.Nsec3.{Nsec3}
 use Rattle.dnsv_zones.specs.Any.{Any}
 use Rattle.dnsv_canonical.specs.Rrsets.{ReceivedRrset}
-use Rattle.dnsv_denial.specs.gathering.Evidence.{HasZoneSignature, IsHashedOwner, IsNsecAt, IsNsecOf, IsNsec3At, IsNsec3Of, IsSecuredBy}
+use Rattle.dnsv_denial.specs.gathering.Evidence.{IsNsecAt, IsNsecOf, IsNsec3At, IsNsec3Of, IsSecuredBy}
 use Rattle.dnsv_denial.specs.records.Record.{read_entry, read_nsec3}
 use Rattle.dnsv_denial.specs.words.EvidenceWords.{number_cmp}
 use Rattle.dnsv_denial.specs.declared.records.entry.NsecEntry.{NsecEntry}
@@ -31,11 +31,6 @@ AreNsecs rrsets = AreAll (λ entry. entry.number) read_entry (IsNsecOf rrsets)
 abbrev pub AreNsecsOf : (ℕ → ℕ → Type 0) → List ReceivedRrset → Labels → List NsecEntry → Type 0
 AreNsecsOf Secured rrsets zone = AreAll (λ entry. entry.number) read_entry (IsNsecAt Secured rrsets zone) (λ _. ⊤)
 
--- those of the RRset with the number
-abbrev pub AreNsecsIn : (ℕ → ℕ → Type 0) → List ReceivedRrset → Labels → ℕ → List NsecEntry → Type 0
-AreNsecsIn Secured rrsets zone k =
-    AreAll (λ entry. entry.number) read_entry (IsNsecAt Secured rrsets zone) (λ n. n.rrset ≡ k)
-
 -- the entries are the usable NSEC3 records of the zone, whose owners spell hashes, that have such numbers
 abbrev pub AreNsec3s : List ReceivedRrset → Labels → (RecordNumber → Type 0) → List Nsec3Entry → Type 0
 AreNsec3s rrsets zone = AreAll (λ entry. entry.number) read_nsec3 (IsNsec3Of rrsets zone)
@@ -43,18 +38,6 @@ AreNsec3s rrsets zone = AreAll (λ entry. entry.number) read_nsec3 (IsNsec3Of rr
 -- the entries are the NSEC3 records of the zone
 abbrev pub AreNsec3sOf : (ℕ → ℕ → Type 0) → List ReceivedRrset → Labels → List Nsec3Entry → Type 0
 AreNsec3sOf Secured rrsets zone = AreAll (λ entry. entry.number) read_nsec3 (IsNsec3At Secured rrsets zone) (λ _. ⊤)
-
--- those of the RRset with the number
-abbrev pub AreNsec3sIn : (ℕ → ℕ → Type 0) → List ReceivedRrset → Labels → ℕ → List Nsec3Entry → Type 0
-AreNsec3sIn Secured rrsets zone k =
-    AreAll (λ entry. entry.number) read_nsec3 (IsNsec3At Secured rrsets zone) (λ n. n.rrset ≡ k)
-
--- the RRset is one of NSEC3 records of the zone, whose owner spells the hash, and one of these signatures of it is the
--- zone's
-pub record IsNsec3RrsetOf (Secured : ℕ → Type 0) (rrset : ReceivedRrset) (zone : Labels) (hash : List ℕ) : Type 0 where
-  pub rtype : rrset.rtype ≡ 50
-  pub owner : IsHashedOwner zone rrset.owner hash
-  pub signed : HasZoneSignature Secured rrset zone
 
 -- the entry is the usable NSEC3 record with the number and hash
 pub record IsEntryOf (number : RecordNumber) (hash : List ℕ) (nsec3 : Nsec3) (entry : Nsec3Entry) : Type 0 where

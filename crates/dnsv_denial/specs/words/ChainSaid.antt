@@ -30,9 +30,9 @@ IsOfChain (Nsec3 hashed) =
 -- it is an NSEC3 record of the chain with the Opt-Out flag (RFC 5155 6)
 abbrev pub IsOptOutOfChain : ChainRecords → ℕ → Type 0
 IsOptOutOfChain (Nsec entries) place = ⊥
-IsOptOutOfChain (Nsec3 hashed) = IsSaidAt
+IsOptOutOfChain (Nsec3 hashed) place = IsSaidAt
     (λ entry. ((read_nsec3 entry).parameters ≡ (hash_of hashed.now).parameters) × ((read_nsec3 entry).flags ≢ 0))
-    hashed.now.entries.now
+    hashed.now.entries.now place
 
 -- the record at the place, of whatever parameters, tells of these types
 abbrev pub IsTypesAt : ChainRecords → ℕ → (ℕ → Bool) → Type 0

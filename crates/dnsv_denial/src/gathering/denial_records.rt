@@ -1,7 +1,5 @@
 //! The records by which zones deny names and types, gathered once for a capture and its trust.
 ghost use Rattle.std.specs.Prelude.{◌↔◌, ℕ, Contains, IfOk, IsTrue, List};
-ghost use Rattle.std.specs.List.Sorted.{IsStrictlySortedBy};
-ghost use Rattle.std.specs.Ordering.{nat_cmp};
 ghost use Rattle.dnsv_names.specs.Name.{Labels};
 ghost use Rattle.dnsv_canonical.specs.Rrsets.{ReceivedRrset};
 ghost use Rattle.dnsv_chain.specs.ByOwner.{values_at};
@@ -11,14 +9,16 @@ ghost use Rattle.dnsv_denial.specs.gathering.Gathered.{AreListed, IsListing};
 ghost use Rattle.dnsv_denial.specs.declared.gathering.denial_records.SecuredZone.{SecuredZone};
 ghost use Rattle.dnsv_denial.specs.gathering.ByZone.{AreDenialRecords, AreSecuredRecords, IsZoneAmong};
 
+use crate::gathering::expanded::expanded_types;
 use crate::gathering::gathered::gathered_records;
 use crate::gathering::secured::has_zone_signature;
 use crate::gathering::signers::{NumbersByZone, numbers_by_zone};
 use crate::records::nsec3_entries::Nsec3Entries;
 use crate::records::zone_records::GatheredRecords;
+use crate::rising::rising;
 use dnsv_canonical::Capture;
 use dnsv_chain::{Trust, at};
-use dnsv_names::{Name, WireName};
+use dnsv_names::{Name, RecordType, WireName};
 use std::alloc::{AllocError, Global};
 
 /// The NSEC and NSEC3 records that a zone secured, with its name.
@@ -38,6 +38,8 @@ pub struct DenialRecords<'c> {
     zones: Vec<SecuredZone<'c>>,
     /// What any other zone has: nothing.
     none: GatheredRecords<'c>,
+    /// The types of which the capture has answers from wildcards.
+    expanded: Vec<RecordType>,
 }
 
 impl<'c> DenialRecords<'c> {
@@ -56,7 +58,17 @@ impl<'c> DenialRecords<'c> {
             nsecs: Vec::new(alloc),
             nsec3s: Nsec3Entries::new(alloc, Vec::new(alloc))?,
         };
-        Ok(DenialRecords { zones, none })
+        let expanded = expanded_types(alloc, capture)?;
+        Ok(DenialRecords {
+            zones,
+            none,
+            expanded,
+        })
+    }
+
+    /// The types of which the capture has answers from wildcards.
+    pub(crate) fn expanded(&self) -> &[RecordType] {
+        &self.expanded
     }
 
     /// The records of the zone, in the order of their numbers. It takes no memory, and time in proportion to the logarithm
@@ -111,8 +123,10 @@ pub fn secured_records<'c>(
     requires { IsListing (SecuredIn trust.now) capture.now.rrsets zone.now listed.now }
     ensures { IfOk result (AreSecuredRecords (SecuredIn trust.now) capture.now.rrsets zone.now) }
 {
-    let numbers = secured_numbers(alloc, capture, trust, zone, listed)?;
-    gathered_records(alloc, capture, zone, &rising(alloc, &numbers)?)
+    let secured = secured_numbers(alloc, capture, trust, zone, listed)?;
+    let numbers = rising(alloc, &secured)?;
+    let records = gathered_records(alloc, capture, zone, &numbers)?;
+    Ok(records)
 }
 
 /// Those of the numbers whose RRset the zone secured.
@@ -128,9 +142,10 @@ fn secured_numbers(
 {
     let mut numbers = Vec::new(alloc);
     for number in listed {
-        if is_secured_by(capture, trust, zone, *number) {
-            numbers.push(*number)?;
+        if !is_secured_by(capture, trust, zone, *number) {
+            continue;
         }
+        numbers.push(*number)?;
     }
     Ok(numbers)
 }
@@ -143,15 +158,4 @@ fn is_secured_by(capture: &Capture<'_>, trust: &Trust<'_>, zone: &Name, number: 
         return false;
     };
     has_zone_signature(rrset, trust.signed(number), zone)
-}
-
-/// The numbers in their order, each once.
-fn rising(alloc: Global, listed: &[usize]) -> Result<Vec<usize>, AllocError>
-    ensures order { IfOk result (λ numbers. IsStrictlySortedBy nat_cmp numbers.items) }
-    ensures all { IfOk result (λ numbers. (k : ℕ) → Contains numbers.items k ↔ Contains listed.now k) }
-{
-    let mut numbers = Vec::from_slice(alloc, listed)?;
-    numbers.sort_unstable();
-    numbers.dedup();
-    Ok(numbers)
 }

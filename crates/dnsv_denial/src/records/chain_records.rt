@@ -34,7 +34,10 @@ impl<'a> ChainRecords<'a> {
         ensures { IsTypesAt self.now place (λ t. set.contains result.now t) }
     {
         match self {
-            ChainRecords::Nsec(entries) => &entries[place].nsec.types,
+            ChainRecords::Nsec(entries) => {
+                let nsec = entries[place].nsec;
+                &nsec.types
+            },
             ChainRecords::Nsec3(hashed) => hashed.entries.as_slice()[place].types,
         }
     }

@@ -1,5 +1,5 @@
 //! What forms ask of NSEC records.
-ghost use Rattle.std.specs.Prelude.{◌≡◌};
+ghost use Rattle.std.specs.Prelude.{◌≡◌, ◌⊎◌};
 ghost use Rattle.dnsv_names.specs.Name.{SameName};
 ghost use Rattle.dnsv_zones.specs.chains.NsecChain.{IsInBitmap};
 ghost use Rattle.dnsv_zones.specs.forms.Nsec.{IsAbsentBy, IsEmptyNonTerminalBy, IsNodeBy};
@@ -34,6 +34,22 @@ impl Word<NsecEntry<'_>> for EmptyNonTerminal<'_> {
 
     fn is_said_by(&self, entry: &NsecEntry<'_>) -> bool {
         is_empty_non_terminal(entry.owner, entry.nsec, self.0)
+    }
+}
+
+/// The word that a name is no node or an empty non-terminal.
+#[derive(Drop)]
+pub struct RuledOut<'a>(pub &'a Name);
+
+impl Word<NsecEntry<'_>> for RuledOut<'_> {
+    ghost says = { λ word entry. IsAbsentBy (read_entry entry) word.0.now
+        ⊎ IsEmptyNonTerminalBy (read_entry entry) word.0.now };
+
+    fn is_said_by(&self, entry: &NsecEntry<'_>) -> bool {
+        if Absent(self.0).is_said_by(entry) {
+            return true;
+        }
+        EmptyNonTerminal(self.0).is_said_by(entry)
     }
 }
 

@@ -1,6 +1,8 @@
-//! The first record that says what a form asks for.
-ghost use Rattle.std.specs.Prelude.{◌↔◌, IsTrue};
-ghost use Rattle.dnsv_denial.specs.words.SaidAt.{IsSaidAt, IsFirstPlace};
+//! The first record that says what a form asks for, and all that do.
+ghost use Rattle.std.specs.Prelude.{◌↔◌, IfOk, IsTrue};
+ghost use Rattle.dnsv_denial.specs.words.SaidAt.{AreAllPlaces, IsSaidAt, IsFirstPlace};
+
+use std::alloc::{AllocError, Global};
 
 /// What a form asks of a record.
 pub trait Word<Entry> {
@@ -22,4 +24,22 @@ pub fn first_to_say<Entry, W: Word<Entry>>(word: &W, entries: &[Entry]) -> Optio
         }
     }
     None
+}
+
+/// The places of all records that say the word, rising. It asks each in turn.
+pub fn all_to_say<Entry, W: Word<Entry>>(
+    alloc: Global,
+    word: &W,
+    entries: &[Entry],
+) -> Result<Vec<usize>, AllocError>
+    ensures { IfOk result (λ places. AreAllPlaces (IsSaidAt (W.says word.now) entries.now) places.items) }
+{
+    let mut places = Vec::new(alloc);
+    for (place, entry) in entries.iter().enumerate() {
+        if !word.is_said_by(entry) {
+            continue;
+        }
+        places.push(place)?;
+    }
+    Ok(places)
 }

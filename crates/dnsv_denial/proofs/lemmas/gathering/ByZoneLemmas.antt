@@ -19,7 +19,7 @@ use Rattle.dnsv_records.specs.OctetLaws.{recursion-append}
 use Rattle.dnsv_canonical.specs.Rrsets.{ReceivedRrset}
 use Rattle.dnsv_canonical.proofs.OrderLemmas.{each_kept}
 use Rattle.dnsv_chain.specs.declared.by_owner.key.OwnerKey.{OwnerKey}
-use Rattle.dnsv_denial.specs.gathering.ByZone.{AreDenialRecords, AreSecuredRecords, IsZoneAmong}
+use Rattle.dnsv_denial.specs.gathering.ByZone.{AreDenialRecords, AreGatheredRecords, AreSecuredRecords, IsZoneAmong}
 use Rattle.dnsv_denial.specs.gathering.Evidence.{IsNsecAt, IsNsec3At, IsSecuredBy}
 use Rattle.dnsv_denial.specs.gathering.Gathered.{AreNsecsOf, AreNsec3sOf, IsDenialType}
 use Rattle.dnsv_denial.specs.records.Record.{read_entry, read_nsec3}
@@ -27,6 +27,8 @@ use Rattle.dnsv_denial.specs.declared.gathering.denial_records.DenialRecords.{De
 use Rattle.dnsv_denial.specs.declared.gathering.denial_records.SecuredZone.{SecuredZone}
 use Rattle.dnsv_denial.specs.declared.records.zone_records.GatheredRecords.{GatheredRecords}
 use Rattle.dnsv_denial.proofs.lemmas.gathering.EvidenceLemmas.{all_said}
+use Rattle.dnsv_denial.proofs.lemmas.gathering.NsecGather.{nsecs_of_zone}
+use Rattle.dnsv_denial.proofs.lemmas.gathering.Nsec3Gather.{nsec3s_of_zone}
 use Rattle.dnsv_denial.proofs.lemmas.gathering.SignerLemmas.{no_nsecs, no_nsec3s}
 use Rattle.dnsv_denial.proofs.lemmas.proving.RespelledZoneLemmas.{nsec_as, nsec3_as}
 
@@ -39,6 +41,18 @@ equal_of a b same =
 
 same_of : (a b : Labels) → search_cmp a b ≡ Equal → SameName a b
 same_of a b equal = (same_name_Decides a b).0 (search_ties a b ∙ ap is_eq equal)
+
+-- ---- the records of a zone
+
+-- those of the RRsets that it secured
+pub records_of_zone : (Secured : ℕ → ℕ → Type 0) (rrsets : List ReceivedRrset) (zone : Labels) (numbers : List ℕ) (kept : GatheredRecords)
+    → ((k : ℕ) → Contains numbers k → IsSecuredBy Secured rrsets zone k)
+    → ((k : ℕ) (by : IsSecuredBy Secured rrsets zone k) → IsDenialType by.rrset.rtype → Contains numbers k)
+    → AreGatheredRecords (λ k. Contains numbers k) rrsets zone kept → AreSecuredRecords Secured rrsets zone kept
+records_of_zone Secured rrsets zone numbers kept secured listed are = record {
+  nsecs = nsecs_of_zone Secured rrsets zone (Contains numbers) kept.nsecs.items secured listed are.nsecs;
+  nsec3s = nsec3s_of_zone Secured rrsets zone (Contains numbers) kept.nsec3s secured listed are.nsec3s;
+}
 
 -- ---- the zones that are made of a list of numbers
 

@@ -5,12 +5,10 @@ use Rattle.std.proofs.lemmas.Cmp.{ranked}
 use Rattle.std.proofs.lemmas.List.{get_or-take, get_or_default, length-take-le, take_all, take_more}
 use Rattle.std.proofs.lemmas.List.Elements.{Contains-append_left, Contains-append_right, Contains-push_cases}
 use Rattle.std.proofs.lemmas.Map.Keys.{Less-from_sorted}
-use Rattle.std.proofs.lemmas.Option.{slice_get_within}
 use Rattle.std.specs.List.Sorted.{IsStrictlySortedBy}
 use Rattle.std.specs.Ordering.{nat_cmp}
-use Rattle.std.specs.Prelude.{⊤, Contains}
+use Rattle.std.specs.Prelude.{Contains}
 use Rattle.std.specs.declared.cmp.Ordering.TheVariants.{Less}
-use Rattle.dnsv_canonical.specs.Rrsets.{IsNumbered}
 use Rattle.dnsv_denial.specs.gathering.Gathered.{AreAll}
 use Rattle.dnsv_denial.specs.words.EvidenceWords.{number_cmp}
 use Rattle.dnsv_canonical.specs.declared.number.RecordNumber.{RecordNumber}
@@ -25,13 +23,6 @@ number_is n k place rrset at = λ i. record { rrset = rrset i; place = at i }
 before_last : (k place : ℕ) (x : RecordNumber) → UpTo k place x → number_cmp x (record { rrset = k; place = place + 1 }) ≡ Less
 before_last k place x within =
     subst (λ z. number_cmp z (record { rrset = k; place = place + 1 }) ≡ Less) (sym (number_is x k x.place within.0 refl)) (same_rrset_less k x.place (place + 1) (omega (arith, within.1)))
-
--- nothing has a number beyond the last, or 0
-pub unnumbered_there : {X : Type 0} (xs : List X) (k : ℕ) → (k ≡ 0) ⊎ ((k ≡ 0 → ⊥) × length xs < k) → (x : X) → IsNumbered xs k x → ⊥
-unnumbered_there xs k beyond x is =
-    let from_one = is.0 in
-    let within = slice_get_within xs (k - 1) x is.1 in
-    ⊎_elim (λ (zero_is : k ≡ 0). omega (arith, zero_is, from_one)) (λ (past : (k ≡ 0 → ⊥) × length xs < k). omega (arith, past.1, within, from_one)) beyond
 
 -- what is listed before is less
 before_next : (numbers : List ℕ) (i : ℕ) → IsStrictlySortedBy nat_cmp numbers → i < length numbers → (k : ℕ) → Contains (take i numbers) k → k < get_or numbers i 0
@@ -102,10 +93,6 @@ module _ {E X : Type 0} (number : E → RecordNumber) (value : E → X) (Is : Re
     are = all_none number value Is (λ n. n.rrset ≡ k) none;
   }
 
-  pub some_in : (Plain : RecordNumber → X → Type 0) (k : ℕ) (more : List E) → ((n : RecordNumber) (x : X) → n.rrset ≡ k → Plain n x → Is n x) → ((n : RecordNumber) (x : X) → Is n x → Plain n x)
-      → AreAll number value Plain (λ n. n.rrset ≡ k) more → AreAll number value Is (λ n. n.rrset ≡ k) more
-  some_in Plain k more to from are = all_said number value Plain Is (λ n. n.rrset ≡ k) (λ n. n.rrset ≡ k) more (λ n x same is. (same, to n x same is)) (λ n x same is. (same, from n x is)) are
-
   -- those of the RRsets with the first of the numbers
   abbrev pub AreListedBefore : List ℕ → ℕ → List E → Type 0
   AreListedBefore numbers i entries = AreAll number value Is (λ n. Contains (take i numbers) n.rrset) entries
@@ -126,7 +113,6 @@ module _ {E X : Type 0} (number : E → RecordNumber) (value : E → X) (Is : Re
       (Contains-push_cases (take i numbers) k n.rrset (subst (λ xs. Contains xs n.rrset) front listed)))
       so_far are)
 
-  pub all_listed : (numbers : List ℕ) (i : ℕ) (entries : List E) → ((n : RecordNumber) (x : X) → Is n x → Contains numbers n.rrset) → length numbers ≤ i
-      → AreListedBefore numbers i entries → AreAll number value Is (λ n. ⊤) entries
-  all_listed numbers i entries all past so_far = all_said number value Is Is (λ n. Contains (take i numbers) n.rrset) (λ n. ⊤) entries
-      (λ n x listed is. (tt, is)) (λ n x any is. (subst (λ xs. Contains xs n.rrset) (sym (take_all i numbers past)) (all n x is), is)) so_far
+  pub all_listed : (numbers : List ℕ) (i : ℕ) (entries : List E) → length numbers ≤ i → AreListedBefore numbers i entries
+      → AreAll number value Is (λ n. Contains numbers n.rrset) entries
+  all_listed numbers i entries past = subst (λ xs. AreAll number value Is (λ n. Contains xs n.rrset) entries) (take_all i numbers past)

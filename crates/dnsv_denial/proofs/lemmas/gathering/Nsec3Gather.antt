@@ -1,7 +1,7 @@
 -- The NSEC3 records of a zone, gathered.
 use Rattle.std.specs.FinSet as set
 use Rattle.std.proofs.Common.{◌≡◌, ℕ, zero, suc, ◌++◌, ◌+◌, ◌≤◌, List, [], ◌∷◌, length, map, refl, sym, ap, ◌∙◌, subst, inr, arith, Bool, true, false}
-use Rattle.std.specs.Prelude.{Contains, Some, slice_get, IsTrue}
+use Rattle.std.specs.Prelude.{⊤, Some, slice_get, IsTrue}
 use Rattle.dnsv_names.specs.Name.{Labels}
 use Rattle.dnsv_records.specs.Base32Hex.{Spells}
 use Rattle.dnsv_records.specs.Nsec3.{IsNsec3, IsUsable}
@@ -13,13 +13,13 @@ use Rattle.dnsv_zones.specs.chains.Rdata.{parameters_of}
 use Rattle.dnsv_canonical.specs.Canonical.{IsCanonical}
 use Rattle.dnsv_canonical.specs.CanonicalRdata.{canonical_form}
 use Rattle.dnsv_canonical.specs.Rrsets.{IsNumbered, ReceivedRrset}
-use Rattle.dnsv_denial.specs.gathering.Evidence.{HasZoneSignature, IsHashedOwner, IsNsec3At, IsNsec3Of, IsRecordAt, IsSecuredBy}
-use Rattle.dnsv_denial.specs.gathering.Gathered.{AreNsec3s, AreNsec3sIn, IsEntryOf, IsListing, IsNsec3RrsetOf}
+use Rattle.dnsv_denial.specs.gathering.Evidence.{IsHashedOwner, IsNsec3At, IsNsec3Of, IsRecordAt, IsSecuredBy}
+use Rattle.dnsv_denial.specs.gathering.Gathered.{AreNsec3s, AreNsec3sOf, IsDenialType, IsEntryOf}
 use Rattle.dnsv_denial.specs.records.Record.{flags_of, read_nsec3}
 use Rattle.dnsv_denial.specs.declared.records.entry.Nsec3Entry.{Nsec3Entry}
 use Rattle.dnsv_canonical.specs.declared.number.RecordNumber.{RecordNumber}
-use Rattle.dnsv_denial.proofs.lemmas.gathering.EvidenceLemmas.{one_numbered, one_record, nsec3_forms}
-use Rattle.dnsv_denial.proofs.lemmas.gathering.Gathering.{UpTo, Grown, grown_none, grown_one, grown_not, grown_all, none_in, some_in}
+use Rattle.dnsv_denial.proofs.lemmas.gathering.EvidenceLemmas.{all_said, one_numbered, one_record, nsec3_forms}
+use Rattle.dnsv_denial.proofs.lemmas.gathering.Gathering.{UpTo, Grown, grown_none, grown_one, grown_not, grown_all, none_in}
 use Rattle.dnsv_denial.proofs.lemmas.gathering.NsecGather.{record_at, place_within}
 
 one_owner : (zone owner : Labels) (a b : List ℕ) → IsHashedOwner zone owner a → IsHashedOwner zone owner b → a ≡ b
@@ -90,37 +90,36 @@ module _ (rrsets : List ReceivedRrset) (zone : Labels) (k : ℕ) (rrset : Receiv
   nsec3s_end place before now past so_far = grown_all (λ each. each.number) read_nsec3 (IsNsec3Of rrsets zone) k place before now
       (λ n x same its. let bound = place_within rrsets k rrset its.rrset canonical its.rdata n numbered (forms_of rrset canonical rtype is) same its.at in omega (arith, bound, past)) so_far
 
--- ---- those of a zone in an RRset
+-- ---- those of an RRset
 
-module _ (Secured : ℕ → ℕ → Type 0) (rrsets : List ReceivedRrset) (zone : Labels) (k : ℕ) where
-  abbrev pub Grown3OfZone : List Nsec3Entry → List Nsec3Entry → Type 0
-  Grown3OfZone before now = Grown (λ entry. entry.number) read_nsec3 (IsNsec3At Secured rrsets zone) (λ n. n.rrset ≡ k) before now
+module _ (rrsets : List ReceivedRrset) (zone : Labels) (k : ℕ) (before : List Nsec3Entry) where
+  abbrev pub GrownOf : List Nsec3Entry → Type 0
+  GrownOf now = Grown (λ entry. entry.number) read_nsec3 (IsNsec3Of rrsets zone) (λ n. n.rrset ≡ k) before now
 
-  pub no_rrset3 : (before : List Nsec3Entry) → ((rrset : ReceivedRrset) → IsNumbered rrsets k rrset → ⊥) → Grown3OfZone before before
-  no_rrset3 before none = none_in (λ entry. entry.number) read_nsec3 (IsNsec3At Secured rrsets zone) k before
-      (λ n x same is. none is.is.rrset (subst (λ m. IsNumbered rrsets m is.is.rrset) same is.is.at.is_rrset))
+  pub no_rrset3 : ((rrset : ReceivedRrset) → ¬ IsNumbered rrsets k rrset) → GrownOf before
+  no_rrset3 none = none_in (λ entry. entry.number) read_nsec3 (IsNsec3Of rrsets zone) k before
+      (λ n x same is. none is.rrset (subst (λ m. IsNumbered rrsets m is.rrset) same is.at.is_rrset))
 
-  pub not_such : (rrset : ReceivedRrset) (before : List Nsec3Entry) → IsNumbered rrsets k rrset
-      → ((hash : List ℕ) → ¬ IsNsec3RrsetOf (Secured k) rrset zone hash) → Grown3OfZone before before
-  not_such rrset before numbered none = none_in (λ entry. entry.number) read_nsec3 (IsNsec3At Secured rrsets zone) k before
-      (λ n x same is. let moved = subst (IsSecuredBy Secured rrsets zone) same is.secured in
-      let one : is.is.rrset ≡ rrset = one_numbered rrsets k is.is.rrset rrset (subst (λ m. IsNumbered rrsets m is.is.rrset) same is.is.at.is_rrset) numbered in
-      let its : moved.rrset ≡ rrset = one_numbered rrsets k moved.rrset rrset moved.is_rrset numbered in
-      none x.hash (record {
-        rtype = ap (λ (r : ReceivedRrset). r.rtype) (sym one) ∙ is.is.rtype;
-        owner = subst (λ (r : ReceivedRrset). IsHashedOwner zone r.owner x.hash) one is.is.owner;
-        signed = subst (λ r. HasZoneSignature (Secured k) r zone) its moved.signed;
-      }))
+  its_rrset : (rrset : ReceivedRrset) → IsNumbered rrsets k rrset → (n : RecordNumber) (x : Nsec3Record) → n.rrset ≡ k → (is : IsNsec3Of rrsets zone n x) → is.rrset ≡ rrset
+  its_rrset rrset numbered n x same is = one_numbered rrsets k is.rrset rrset (subst (λ m. IsNumbered rrsets m is.rrset) same is.at.is_rrset) numbered
 
-  pub signed_nsec3s : (rrset : ReceivedRrset) (more : List Nsec3Entry) → IsNumbered rrsets k rrset → HasZoneSignature (Secured k) rrset zone
-      → AreNsec3s rrsets zone (λ n. n.rrset ≡ k) more → AreNsec3sIn Secured rrsets zone k more
-  signed_nsec3s rrset more numbered signed are = some_in (λ entry. entry.number) read_nsec3 (IsNsec3At Secured rrsets zone) (IsNsec3Of rrsets zone) k more
-      (λ n x same is. record { is = is; secured = subst (IsSecuredBy Secured rrsets zone) (sym same) (record { rrset = rrset; is_rrset = numbered; signed = signed }) })
-      (λ n x is. is.is) are
+  pub not_nsec3 : (rrset : ReceivedRrset) → IsNumbered rrsets k rrset → ¬ (rrset.rtype ≡ 50) → GrownOf before
+  not_nsec3 rrset numbered other = none_in (λ entry. entry.number) read_nsec3 (IsNsec3Of rrsets zone) k before
+      (λ n x same is. other (ap (λ (r : ReceivedRrset). r.rtype) (sym (its_rrset rrset numbered n x same is)) ∙ is.rtype))
 
--- each is listed
-pub nsec3_listed : (Secured : ℕ → ℕ → Type 0) (rrsets : List ReceivedRrset) (zone : Labels) (numbers : List ℕ) → IsListing Secured rrsets zone numbers
-    → (n : RecordNumber) (x : Nsec3Record) → IsNsec3At Secured rrsets zone n x → Contains numbers n.rrset
-nsec3_listed Secured rrsets zone numbers listed n x is =
+  pub not_of_zone : (rrset : ReceivedRrset) → IsNumbered rrsets k rrset → ((hash : List ℕ) → ¬ IsHashedOwner zone rrset.owner hash) → GrownOf before
+  not_of_zone rrset numbered none = none_in (λ entry. entry.number) read_nsec3 (IsNsec3Of rrsets zone) k before
+      (λ n x same is. none x.hash (subst (λ (r : ReceivedRrset). IsHashedOwner zone r.owner x.hash) (its_rrset rrset numbered n x same is) is.owner))
+
+-- those of the RRsets that the zone secured are the zone's
+pub nsec3s_of_zone : (Secured : ℕ → ℕ → Type 0) (rrsets : List ReceivedRrset) (zone : Labels) (Among : ℕ → Type 0) (entries : List Nsec3Entry)
+    → ((k : ℕ) → Among k → IsSecuredBy Secured rrsets zone k)
+    → ((k : ℕ) (by : IsSecuredBy Secured rrsets zone k) → IsDenialType by.rrset.rtype → Among k)
+    → AreNsec3s rrsets zone (λ n. Among n.rrset) entries → AreNsec3sOf Secured rrsets zone entries
+nsec3s_of_zone Secured rrsets zone Among entries secured listed are =
+    all_said (λ entry. entry.number) read_nsec3 (IsNsec3Of rrsets zone) (IsNsec3At Secured rrsets zone) (λ n. Among n.rrset) (λ n. ⊤) entries
+    (λ n x among is. (tt, record { is = is; secured = secured n.rrset among }))
+    (λ n x any is.
     let one : is.is.rrset ≡ is.secured.rrset = one_numbered rrsets n.rrset is.is.rrset is.secured.rrset is.is.at.is_rrset is.secured.is_rrset in
-    listed n.rrset is.secured (inr (ap (λ (r : ReceivedRrset). r.rtype) (sym one) ∙ is.is.rtype))
+    (listed n.rrset is.secured (inr (ap (λ (r : ReceivedRrset). r.rtype) (sym one) ∙ is.is.rtype)), is.is))
+    are

@@ -1,6 +1,6 @@
 -- The NSEC records of an RRset, put behind those before it.
 use Rattle.std.proofs.Common.{◌≡◌, ℕ, ◌+◌, ◌-◌, ◌<◌, ◌≤◌, List, [], ◌∷◌, ◌++◌, length, map, refl, sym, ap, ◌∙◌, subst, inl, inr, ⊎_elim, arith, append-nil, append_assoc}
-use Rattle.std.specs.Prelude.{Contains, Some, slice_get}
+use Rattle.std.specs.Prelude.{⊤, Some, slice_get}
 use Rattle.std.proofs.lemmas.Bool.{cases_lt}
 use Rattle.std.proofs.lemmas.Option.{slice_get_within}
 use Rattle.dnsv_names.specs.Name.{Labels}
@@ -11,15 +11,14 @@ use Rattle.dnsv_canonical.specs.Canonical.{IsCanonical}
 use Rattle.dnsv_canonical.specs.CanonicalRdata.{canonical_form}
 use Rattle.dnsv_canonical.specs.Rrsets.{IsNumbered, ReceivedRrset}
 use Rattle.dnsv_canonical.proofs.CanonicalLemmas.{canonical_unique}
-use Rattle.dnsv_denial.specs.gathering.Evidence.{HasZoneSignature, IsRecordAt, IsNsecAt, IsNsecOf, IsSecuredBy}
+use Rattle.dnsv_denial.specs.gathering.Evidence.{IsRecordAt, IsNsecAt, IsNsecOf, IsSecuredBy}
 use Rattle.std.specs.declared.cmp.Ordering.TheVariants.{Less}
-use Rattle.dnsv_denial.specs.gathering.Gathered.{AreNsecs, AreNsecsIn, IsListing}
+use Rattle.dnsv_denial.specs.gathering.Gathered.{AreNsecs, AreNsecsOf, IsDenialType}
 use Rattle.dnsv_denial.specs.records.Record.{read_entry}
 use Rattle.dnsv_denial.specs.words.EvidenceWords.{number_cmp}
 use Rattle.dnsv_denial.specs.declared.records.entry.NsecEntry.{NsecEntry}
 use Rattle.dnsv_canonical.specs.declared.number.RecordNumber.{RecordNumber}
 use Rattle.dnsv_denial.proofs.lemmas.gathering.EvidenceLemmas.{one_numbered, one_nsec_of, nsec_forms, same_rrset_less, all_joined, all_none, all_single, all_said}
-use Rattle.dnsv_denial.proofs.lemmas.gathering.Gathering.{Grown, none_in, some_in}
 
 pub record GrownBy (rrsets : List ReceivedRrset) (Within : RecordNumber → Type 0) (before now : List NsecEntry) : Type 0 where
   pub more : List NsecEntry
@@ -98,38 +97,33 @@ nsecs_end rrsets k place rrset canonical before now numbered rtype is past so_fa
       so_far.are;
 }
 
--- ---- those of a zone in an RRset
+-- ---- those of an RRset
 
-module _ (Secured : ℕ → ℕ → Type 0) (rrsets : List ReceivedRrset) (zone : Labels) (k : ℕ) where
-  abbrev pub GrownOfZone : List NsecEntry → List NsecEntry → Type 0
-  GrownOfZone before now = Grown (λ entry. entry.number) read_entry (IsNsecAt Secured rrsets zone) (λ n. n.rrset ≡ k) before now
+module _ (rrsets : List ReceivedRrset) (k : ℕ) (before : List NsecEntry) where
+  none_of : ((n : RecordNumber) (x : NsecRecord) → n.rrset ≡ k → IsNsecOf rrsets n x → ⊥) → GrownBy rrsets (λ n. n.rrset ≡ k) before before
+  none_of none = record {
+    more = [];
+    grown = sym (append-nil before);
+    are = all_none (λ entry. entry.number) read_entry (IsNsecOf rrsets) (λ n. n.rrset ≡ k) none;
+  }
 
-  pub no_rrset : (before : List NsecEntry) → ((rrset : ReceivedRrset) → IsNumbered rrsets k rrset → ⊥) → GrownOfZone before before
-  no_rrset before none = none_in (λ entry. entry.number) read_entry (IsNsecAt Secured rrsets zone) k before
-      (λ n x same is. none is.is.rrset (subst (λ m. IsNumbered rrsets m is.is.rrset) same is.is.at.is_rrset))
+  pub no_rrset : ((rrset : ReceivedRrset) → ¬ IsNumbered rrsets k rrset) → GrownBy rrsets (λ n. n.rrset ≡ k) before before
+  no_rrset none = none_of (λ n x same is. none is.rrset (subst (λ m. IsNumbered rrsets m is.rrset) same is.at.is_rrset))
 
-  pub not_nsec : (rrset : ReceivedRrset) (before : List NsecEntry) → IsNumbered rrsets k rrset → (rrset.rtype ≡ 47 → ⊥) → GrownOfZone before before
-  not_nsec rrset before numbered other = none_in (λ entry. entry.number) read_entry (IsNsecAt Secured rrsets zone) k before
-      (λ n x same is.
-      let one : is.is.rrset ≡ rrset = one_numbered rrsets k is.is.rrset rrset (subst (λ m. IsNumbered rrsets m is.is.rrset) same is.is.at.is_rrset) numbered in
-      other (ap (λ (r : ReceivedRrset). r.rtype) (sym one) ∙ is.is.rtype))
+  pub not_nsec : (rrset : ReceivedRrset) → IsNumbered rrsets k rrset → ¬ (rrset.rtype ≡ 47) → GrownBy rrsets (λ n. n.rrset ≡ k) before before
+  not_nsec rrset numbered other = none_of (λ n x same is.
+      let one : is.rrset ≡ rrset = one_numbered rrsets k is.rrset rrset (subst (λ m. IsNumbered rrsets m is.rrset) same is.at.is_rrset) numbered in
+      other (ap (λ (r : ReceivedRrset). r.rtype) (sym one) ∙ is.rtype))
 
-  pub not_signed : (rrset : ReceivedRrset) (before : List NsecEntry) → IsNumbered rrsets k rrset → (HasZoneSignature (Secured k) rrset zone → ⊥) → GrownOfZone before before
-  not_signed rrset before numbered none = none_in (λ entry. entry.number) read_entry (IsNsecAt Secured rrsets zone) k before
-      (λ n x same is.
-      let moved = subst (IsSecuredBy Secured rrsets zone) same is.secured in
-      let one : moved.rrset ≡ rrset = one_numbered rrsets k moved.rrset rrset moved.is_rrset numbered in
-      none (subst (λ r. HasZoneSignature (Secured k) r zone) one moved.signed))
-
-  pub signed_nsecs : (rrset : ReceivedRrset) (more : List NsecEntry) → IsNumbered rrsets k rrset → HasZoneSignature (Secured k) rrset zone
-      → AreNsecs rrsets (λ n. n.rrset ≡ k) more → AreNsecsIn Secured rrsets zone k more
-  signed_nsecs rrset more numbered signed are = some_in (λ entry. entry.number) read_entry (IsNsecAt Secured rrsets zone) (IsNsecOf rrsets) k more
-      (λ n x same is. record { is = is; secured = subst (IsSecuredBy Secured rrsets zone) (sym same) (record { rrset = rrset; is_rrset = numbered; signed = signed }) })
-      (λ n x is. is.is) are
-
--- each is listed
-pub nsec_listed : (Secured : ℕ → ℕ → Type 0) (rrsets : List ReceivedRrset) (zone : Labels) (numbers : List ℕ) → IsListing Secured rrsets zone numbers
-    → (n : RecordNumber) (x : NsecRecord) → IsNsecAt Secured rrsets zone n x → Contains numbers n.rrset
-nsec_listed Secured rrsets zone numbers listed n x is =
+-- those of the RRsets that the zone secured are the zone's
+pub nsecs_of_zone : (Secured : ℕ → ℕ → Type 0) (rrsets : List ReceivedRrset) (zone : Labels) (Among : ℕ → Type 0) (entries : List NsecEntry)
+    → ((k : ℕ) → Among k → IsSecuredBy Secured rrsets zone k)
+    → ((k : ℕ) (by : IsSecuredBy Secured rrsets zone k) → IsDenialType by.rrset.rtype → Among k)
+    → AreNsecs rrsets (λ n. Among n.rrset) entries → AreNsecsOf Secured rrsets zone entries
+nsecs_of_zone Secured rrsets zone Among entries secured listed are =
+    all_said (λ entry. entry.number) read_entry (IsNsecOf rrsets) (IsNsecAt Secured rrsets zone) (λ n. Among n.rrset) (λ n. ⊤) entries
+    (λ n x among is. (tt, record { is = is; secured = secured n.rrset among }))
+    (λ n x any is.
     let one : is.is.rrset ≡ is.secured.rrset = one_numbered rrsets n.rrset is.is.rrset is.secured.rrset is.is.at.is_rrset is.secured.is_rrset in
-    listed n.rrset is.secured (inl (ap (λ (r : ReceivedRrset). r.rtype) (sym one) ∙ is.is.rtype))
+    (listed n.rrset is.secured (inl (ap (λ (r : ReceivedRrset). r.rtype) (sym one) ∙ is.is.rtype)), is.is))
+    are

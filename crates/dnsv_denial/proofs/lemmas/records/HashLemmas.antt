@@ -33,11 +33,11 @@ match_first hash name octets Says entries found is =
     (λ entry said. ((said.0.same_parameters, said.0.same_hash ∙ sym is), said.1))
 
 -- a usable record has the Opt-Out flag where it has any
-has_flag : (b : Bool) → flags_of b ≡ 1 → flags_of b ≢ 0
+pub has_flag : (b : Bool) → flags_of b ≡ 1 → flags_of b ≢ 0
 has_flag true is none = omega arith
 has_flag false is none = omega arith
 
-flag_is : (b : Bool) → flags_of b ≢ 0 → flags_of b ≡ 1
+pub flag_is : (b : Bool) → flags_of b ≢ 0 → flags_of b ≡ 1
 flag_is true some = refl
 flag_is false some = absurd (some refl)
 

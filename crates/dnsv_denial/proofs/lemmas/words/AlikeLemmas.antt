@@ -12,6 +12,7 @@ use Rattle.dnsv_zones.specs.chains.NsecChain.{NsecRecord, IsInBitmap}
 use Rattle.dnsv_zones.specs.chains.Rdata.{parameters_of}
 use Rattle.dnsv_zones.specs.forms.Nsec.{IsAbsentBy, IsEmptyNonTerminalBy, IsNodeBy}
 use Rattle.dnsv_zones.specs.forms.Nsec3.{Covers, Matches}
+use Rattle.dnsv_zones.specs.forms.Said.{nsec_records_say, nsec3_records_say}
 use Rattle.dnsv_zones.specs.zones.Types.{IsClosed}
 use Rattle.dnsv_canonical.specs.Rrsets.{ReceivedRrset}
 use Rattle.dnsv_denial.specs.gathering.Evidence.{IsNsecAt, IsNsec3At}
@@ -39,7 +40,7 @@ any_place P [] some = absurd some
 any_place P (x ∷ xs) some =
     ⊎_elim (λ (here : P x). (0, x, refl, here)) (λ (rest : Any P xs). let it = any_place P xs rest in (suc it.0, it.1, it.2, it.3)) some
 
-before_less : (xs : List RecordNumber) (i j : ℕ) (a b : RecordNumber) → IsStrictlySortedBy number_cmp xs → slice_get xs i ≡ Some a → slice_get xs j ≡ Some b → j < i → number_cmp b a ≡ Less
+pub before_less : (xs : List RecordNumber) (i j : ℕ) (a b : RecordNumber) → IsStrictlySortedBy number_cmp xs → slice_get xs i ≡ Some a → slice_get xs j ≡ Some b → j < i → number_cmp b a ≡ Less
 unfolding IsStrictlySortedBy
 before_less [] i j a b rising at_i at_j less = cc
 before_less (x ∷ xs) zero j a b rising at_i at_j less = absurd (omega (arith, less))
@@ -75,10 +76,11 @@ module _ {E X : Type 0} (number : E → RecordNumber) (value : E → X) (Is : Re
 none_alike : (numbers : List RecordNumber) → SaysAlike numbers (λ place. ⊥) (λ n. ⊥)
 none_alike numbers = record { to = λ place none. absurd none; from = λ n none. absurd none }
 
-pub nsec_alike : (Secured : ℕ → ℕ → Type 0) (rrsets : List ReceivedRrset) (zone : Labels) (entries : List NsecEntry) → AreNsecsOf Secured rrsets zone entries
-    → (given : Bor (List NsecEntry)) → given.now ≡ entries
-    → SayAlike (map (λ entry. entry.number) entries) (chain_said zone (Nsec given)) (nsec_said Secured rrsets zone)
-nsec_alike Secured rrsets zone entries are given same = record {
+pub nsecs_alike : (Is : RecordNumber → NsecRecord → Type 0) (zone : Labels) (entries : List NsecEntry)
+    → AreAll (λ entry. entry.number) read_entry Is (λ n. ⊤) entries → (given : Bor (List NsecEntry)) → given.now ≡ entries
+    → SayAlike (map (λ entry. entry.number) entries) (chain_said zone (Nsec given))
+    (nsec_records_say zone (λ Says n. (nsec : NsecRecord) × Is n nsec × Says nsec))
+nsecs_alike Is zone entries are given same = record {
   needs_to = λ name is. is;
   needs_from = λ name is. is;
   encloser = λ name. moved (λ entry. IsNodeBy (read_entry entry) name) (alike (λ nsec. IsNodeBy nsec name));
@@ -87,16 +89,22 @@ nsec_alike Secured rrsets zone entries are given same = record {
   types_at = λ name Says. moved (λ entry. SameName entry.owner.now name × Says (IsInBitmap (read_entry entry).types)) (alike (λ nsec. SameName nsec.owner name × Says (IsInBitmap nsec.types)));
   opted_out = λ name. none_alike (map (λ entry. entry.number) entries);
 } where
-  alike : (Says : NsecRecord → Type 0) → SaysAlike (map (λ entry. entry.number) entries) (IsSaidAt (λ entry. Says (read_entry entry)) entries) (λ n. (x : NsecRecord) × IsNsecAt Secured rrsets zone n x × Says x)
-  alike = says_alike (λ entry. entry.number) read_entry (IsNsecAt Secured rrsets zone) entries are
+  alike : (Says : NsecRecord → Type 0) → SaysAlike (map (λ entry. entry.number) entries) (IsSaidAt (λ entry. Says (read_entry entry)) entries) (λ n. (x : NsecRecord) × Is n x × Says x)
+  alike = says_alike (λ entry. entry.number) read_entry Is entries are
 
   moved : (Says : NsecEntry → Type 0) {Of : RecordNumber → Type 0} → SaysAlike (map (λ entry. entry.number) entries) (IsSaidAt Says entries) Of → SaysAlike (map (λ entry. entry.number) entries) (IsSaidAt Says given.now) Of
   moved Says {Of} alike = subst (λ es. SaysAlike (map (λ entry. entry.number) entries) (IsSaidAt Says es) Of) (sym same) alike
 
-pub nsec3_alike : (Secured : ℕ → ℕ → Type 0) (rrsets : List ReceivedRrset) (zone : Labels) (entries : List Nsec3Entry) → AreNsec3sOf Secured rrsets zone entries
-    → (given : Bor HashedRecords) → given.now.entries.now ≡ entries
-    → SayAlike (map (λ entry. entry.number) entries) (chain_said zone (Nsec3 given)) (nsec3_said Secured rrsets zone (parameters_of given.now.parameters.now))
-nsec3_alike Secured rrsets zone entries are given same = record {
+pub nsec_alike : (Secured : ℕ → ℕ → Type 0) (rrsets : List ReceivedRrset) (zone : Labels) (entries : List NsecEntry) → AreNsecsOf Secured rrsets zone entries
+    → (given : Bor (List NsecEntry)) → given.now ≡ entries
+    → SayAlike (map (λ entry. entry.number) entries) (chain_said zone (Nsec given)) (nsec_said Secured rrsets zone)
+nsec_alike Secured rrsets zone = nsecs_alike (IsNsecAt Secured rrsets zone) zone
+
+pub nsec3s_alike : (Is : RecordNumber → Nsec3Record → Type 0) (zone : Labels) (entries : List Nsec3Entry)
+    → AreAll (λ entry. entry.number) read_nsec3 Is (λ n. ⊤) entries → (given : Bor HashedRecords) → given.now.entries.now ≡ entries
+    → SayAlike (map (λ entry. entry.number) entries) (chain_said zone (Nsec3 given))
+    (nsec3_records_say (hash_of given.now) (λ Says n. (nsec3 : Nsec3Record) × Is n nsec3 × Says nsec3))
+nsec3s_alike Is zone entries are given same = record {
   needs_to = λ name is. is;
   needs_from = λ name is. is;
   encloser = λ name. moved (λ entry. Matches hash (read_nsec3 entry) name × ¬ IsClosed (IsInBitmap (read_nsec3 entry).types)) (alike (λ nsec3. Matches hash nsec3 name × ¬ IsClosed (IsInBitmap nsec3.types)));
@@ -108,8 +116,13 @@ nsec3_alike Secured rrsets zone entries are given same = record {
   hash : NameHash
   hash = hash_of given.now
 
-  alike : (Says : Nsec3Record → Type 0) → SaysAlike (map (λ entry. entry.number) entries) (IsSaidAt (λ entry. Says (read_nsec3 entry)) entries) (λ n. (x : Nsec3Record) × IsNsec3At Secured rrsets zone n x × Says x)
-  alike = says_alike (λ entry. entry.number) read_nsec3 (IsNsec3At Secured rrsets zone) entries are
+  alike : (Says : Nsec3Record → Type 0) → SaysAlike (map (λ entry. entry.number) entries) (IsSaidAt (λ entry. Says (read_nsec3 entry)) entries) (λ n. (x : Nsec3Record) × Is n x × Says x)
+  alike = says_alike (λ entry. entry.number) read_nsec3 Is entries are
 
   moved : (Says : Nsec3Entry → Type 0) {Of : RecordNumber → Type 0} → SaysAlike (map (λ entry. entry.number) entries) (IsSaidAt Says entries) Of → SaysAlike (map (λ entry. entry.number) entries) (IsSaidAt Says given.now.entries.now) Of
   moved Says {Of} alike = subst (λ es. SaysAlike (map (λ entry. entry.number) entries) (IsSaidAt Says es) Of) (sym same) alike
+
+pub nsec3_alike : (Secured : ℕ → ℕ → Type 0) (rrsets : List ReceivedRrset) (zone : Labels) (entries : List Nsec3Entry) → AreNsec3sOf Secured rrsets zone entries
+    → (given : Bor HashedRecords) → given.now.entries.now ≡ entries
+    → SayAlike (map (λ entry. entry.number) entries) (chain_said zone (Nsec3 given)) (nsec3_said Secured rrsets zone (parameters_of given.now.parameters.now))
+nsec3_alike Secured rrsets zone = nsec3s_alike (IsNsec3At Secured rrsets zone) zone

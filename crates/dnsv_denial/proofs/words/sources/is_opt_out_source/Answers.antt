@@ -1,0 +1,4 @@
+use Rattle.dnsv_denial.proofs.words.sources.is_opt_out_source.Goals as goal
+
+pub returns-in-Nsec3 : goal.returns-in-Nsec3
+returns-in-Nsec3 c = ?
