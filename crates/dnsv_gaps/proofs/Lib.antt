@@ -1,1 +1,5 @@
+pub mod AnswerLemmas
+pub mod DenialLemmas
 pub mod QuestionLemmas
+pub mod RisingLemmas
+pub mod SignerLemmas

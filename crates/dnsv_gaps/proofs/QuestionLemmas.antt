@@ -1,7 +1,7 @@
 -- What is so of a question, by what its parts are.
-pub mod CaseLemmas
 pub mod CloserLemmas
 pub mod CutLemmas
 pub mod DnameLemmas
 pub mod GoalLemmas
 pub mod ListingLemmas
+pub mod SayingLemmas

@@ -1,6 +1,8 @@
 -- What may answer, RRset by RRset.
-use Rattle.std.proofs.Common.{◌≡◌, ◌+◌, ◌-◌, ◌<◌, ◌≤◌, ℕ, inl, inr, List, [], ◌∷◌, ◌++◌, Some, length, map, refl, sym, ap, ◌∙◌, subst, arith}
-use Rattle.std.proofs.lemmas.Option.{slice_get_within}
+use Rattle.std.proofs.Common.{◌≡◌, ◌+◌, ◌-◌, ◌<◌, ◌≤◌, ◌↔◌, ℕ, Bool, eqb, IsTrue, inl, inr, List, [], ◌∷◌, ◌++◌, Some, length, get_or, map, refl, sym, ap, ◌∙◌, subst, arith}
+use Rattle.std.proofs.lemmas.Bool.{eqb-true}
+use Rattle.std.proofs.lemmas.Bool.Decides.{nat_tests}
+use Rattle.std.proofs.lemmas.Option.{slice_get-get_or, slice_get_within}
 use Rattle.std.specs.Prelude.{slice_get}
 use Rattle.std.specs.List.{AllByRecursion, AllZip}
 use Rattle.dnsv_canonical.specs.Rrsets.{IsNumbered, ReceivedRrset}
@@ -21,6 +23,22 @@ use Rattle.dnsv_gaps.proofs.QuestionLemmas.ListingLemmas.{AreTo, all_there, none
 -- one element has a number
 pub one_numbered : {X : Type 0} (xs : List X) (k : ℕ) (x y : X) → IsNumbered xs k x → IsNumbered xs k y → x ≡ y
 one_numbered xs k x y first second = let same : Some x ≡ Some y = sym first.1 ∙ second.1 in cc same
+
+-- a test of a number
+pub is_number : (b : Bool) (m n k : ℕ) → b ≡ eqb m k → m ≡ n → IsTrue b ↔ (n ≡ k)
+is_number b m n k test same = (
+  λ yes. sym same ∙ eqb-true m k (sym test ∙ yes),
+  λ is. test ∙ grind (arith, nat_tests, same, is),
+)
+
+-- the element at a place has the next number
+pub numbered_next : {X : Type 0} (xs ys : List X) (place : ℕ) (x : X) → ys ≡ xs → place < length ys → x ≡ get_or ys place x → IsNumbered xs (place + 1) x
+numbered_next xs ys place x same within at =
+    let back : place + 1 - 1 ≡ place = omega arith in (
+      omega arith,
+      subst (λ each. slice_get each (place + 1 - 1) ≡ Some x) same
+          (ap (slice_get ys) back ∙ slice_get-get_or ys place x within ∙ ap (λ y. Some y) (sym at)),
+    )
 
 -- ---- the RRsets so far
 

@@ -16,7 +16,7 @@ only_in : {X : Type 0} (x y : X) → Contains (y ∷ []) x → x ≡ y
 only_in x y (zero, within, is) = sym is
 only_in x y (suc k, within, is) = absurd (omega (arith, within))
 
-each_more : {X : Type 0} (P : X → Type 0) (xs : List X) (x : X) → AllByRecursion P xs → P x → AllByRecursion P (xs ++ x ∷ [])
+pub each_more : {X : Type 0} (P : X → Type 0) (xs : List X) (x : X) → AllByRecursion P xs → P x → AllByRecursion P (xs ++ x ∷ [])
 each_more P [] x each last = (last, tt)
 each_more P (y ∷ xs) x each last = (each.0, each_more P xs x each.1 last)
 

@@ -95,15 +95,16 @@ IsThere (Some next) = ⊤
 abbrev pub HasGoal : Asking → Type 0
 HasGoal a = (rrset : ReceivedRrset) × Contains a.basis.rrsets rrset × IsGoal a.name a.rtype rrset
 
--- a DS RRset of the zone has a signature by one above it
-pub record HasDsFromAbove (rrsets : List ReceivedRrset) (zone : Labels) : Type 0 where
-  pub rrset : ReceivedRrset
-  pub among : Contains rrsets rrset
+-- it is a DS RRset of the zone, and has a signature by one above it
+pub record IsDsFromAbove (zone : Labels) (rrset : ReceivedRrset) : Type 0 where
   pub owner : SameName rrset.owner zone
   pub its_type : rrset.rtype ≡ ds
   pub rrsig : Rrsig
   pub its : IsSignatureOf rrset rrsig
   pub above : IsBelow zone rrsig.signer
+
+abbrev pub HasDsFromAbove : List ReceivedRrset → Labels → Type 0
+HasDsFromAbove rrsets zone = (rrset : ReceivedRrset) × Contains rrsets rrset × IsDsFromAbove zone rrset
 
 -- a record of some source of the zone says that the name has such types
 abbrev pub IsTypedBySome : Asking → Labels → Labels → ((ℕ → Type 0) → Type 0) → Type 0

@@ -39,10 +39,13 @@ pub fn closer_of(
     ensures { IfOk result (HasCloserAt (asking question.now) rrset.now number) }
 {
     let rrsigs = rrset.signatures();
-    if number == 0 || number > rrsigs.len() {
+    if number == 0 {
         return Ok(None);
     }
-    closer_by(alloc, question, view, rrset, &rrsigs[number - 1])
+    if number > rrsigs.len() {
+        return Ok(None);
+    }
+    Ok(closer_by(alloc, question, view, rrset, &rrsigs[number - 1])?)
 }
 
 /// What the signature of the RRset asks for beside it.
@@ -118,7 +121,7 @@ fn covers_by(
     ensures { IfOk result (λ facts. AreFactsOf (basis_by question.now.facts.now)
         (IsCover (asking question.now) zone.now.labels labels) facts.items) }
 {
-    covers(alloc, question, zone, labels)
+    Ok(covers(alloc, question, zone, labels)?)
 }
 
 /// What is so of the RRsets with a record of a source of the zone that covers the name with one label more than so many; of none,
@@ -148,7 +151,7 @@ fn covers<'r>(
         next_closer,
         AskedWord::Absent,
     )?;
-    facts_of_numbers(alloc, question.facts, &numbers)
+    Ok(facts_of_numbers(alloc, question.facts, &numbers)?)
 }
 
 /// The numbers of the records of the sources that say so of the name, rising.

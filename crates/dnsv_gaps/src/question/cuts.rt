@@ -5,6 +5,9 @@ mod shown;
 
 ghost use Rattle.std.specs.Prelude.{◌≡◌, ◌↔◌, ◌≤◌, ◌<◌, ◌+◌, ◌-◌, IfOk, IsTrue, OnOk, Some, length, map};
 ghost use Rattle.std.specs.List.{AllZip, enumerate_from, range_with_len};
+ghost use Rattle.dnsv_faults.specs.KnownZones.{IsKnownZone};
+ghost use Rattle.dnsv_names.specs.Name.{rightmost};
+ghost use Rattle.dnsv_verdict.specs.Case.{basis_by};
 ghost use Rattle.dnsv_verdict.specs.Verdict.{HasAnchor};
 ghost use Rattle.dnsv_gaps.specs.Asking.{IsAsked, asking};
 ghost use Rattle.dnsv_gaps.specs.SourceSearch.{AreZoneDenials, held_chain, zone_in};
@@ -80,10 +83,20 @@ fn is_parent(question: &AskedQuestion<'_, '_>, anchors: &[Anchor<'_>], labels: u
     requires within { labels ≤ length question.now.name.now }
     ensures { IsTrue result ↔ IsParent (asking question.now) labels }
 {
-    if !question.known[labels] {
+    if !is_known(question, labels) {
         return false;
     }
     has_anchor(anchors, &question.name.suffix(labels))
+}
+
+/// Whether so many of the name's labels are those of a known zone.
+fn is_known(question: &AskedQuestion<'_, '_>, labels: usize) -> bool
+    requires asked { IsAsked question.now }
+    requires within { labels ≤ length question.now.name.now }
+    ensures { IsTrue result ↔ IsKnownZone (basis_by question.now.facts.now) question.now.name.now question.now.rtype.0
+        (rightmost question.now.name.now labels) }
+{
+    question.known[labels]
 }
 
 /// Whether one of the anchors is at or above the name.
@@ -126,7 +139,7 @@ fn cuts_below<'r>(
     requires asked { IsAsked question.now }
     requires anchors { anchors.now ≡ question.now.facts.now.anchors }
     requires zone { AreZoneDenials question.now zone.now }
-    ensures { IfOk result (AreCutsBelow (asking question.now) zone.now.labels) }
+    ensures { IfOk result (λ cuts. AreCutsBelow (asking question.now) zone.now.labels cuts.items) }
 {
     let sources = sources_of(alloc, question, zone)?;
     let parent = ParentZone {
@@ -136,7 +149,7 @@ fn cuts_below<'r>(
         next: next_zone(question, zone.labels),
         sources: &sources,
     };
-    cuts(alloc, &parent)
+    Ok(cuts(alloc, &parent)?)
 }
 
 /// How many labels the known zone has that is next below the one with so many, if there is one.
@@ -146,7 +159,7 @@ fn next_zone(question: &AskedQuestion<'_, '_>, labels: usize) -> Option<usize>
     ensures { IsNext (asking question.now) labels result }
 {
     for count in labels + 1..question.name.labels() + 1 {
-        if question.known[count] {
+        if is_known(question, count) {
             return Some(count);
         }
     }
@@ -155,7 +168,8 @@ fn next_zone(question: &AskedQuestion<'_, '_>, labels: usize) -> Option<usize>
 
 /// How many labels the lowest name has that may be a delegation: the name itself, or where DS is asked the one above it.
 fn lowest_cut(question: &AskedQuestion<'_, '_>) -> usize
-    ensures { result ≡ lowest_cut (asking question.now) }
+    ensures value { result ≡ lowest_cut (asking question.now) }
+    ensures within { result ≤ length question.now.name.now }
 {
     let labels = question.name.labels();
     if question.rtype != RecordType::DS {
@@ -171,6 +185,8 @@ fn cuts(alloc: Global, parent: &ParentZone<'_, '_, '_>) -> Result<Vec<CutFacts>,
         (map held_chain parent.now.sources.now)) (range_with_len (parent.now.labels + 1)
         (lowest_cut (asking parent.now.question.now) - parent.now.labels)) cuts.items) }
 {
+    // What is true of every name: it has few labels.
+    let _labels = parent.question.name.labels();
     let lowest = lowest_cut(parent.question);
     let shown = first_seen(alloc, parent, lowest)?;
     let mut cuts = Vec::new(alloc);

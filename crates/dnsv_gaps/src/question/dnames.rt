@@ -22,7 +22,6 @@ pub fn dnames(
 }
 
 /// Adds the name's so many rightmost labels, if they are such a name.
-#[tactic(auto, unfolding(crate::specs::questions::Dnames::dname_at))]
 fn add_dname(
     question: &AskedQuestion<'_, '_>,
     labels: usize,

@@ -85,7 +85,7 @@ fn answer_signatures(
     requires view { IsViewOf question.now view.now }
     requires goal { IsGoal question.now.name.now question.now.rtype.0 rrset.now }
     requires each { AllByRecursion (IsOneOf rrset.now) known.items }
-    ensures signatures { IfOk result (λ all. map (λ each. each.signature) all.items ≡ known.entry.items) }
+    ensures signatures { IfOk result (λ all. map (λ each. each.signature) all.items ≡ known.items) }
     ensures closers { IfOk result (λ all. AllByRecursion (HasItsCloser (asking question.now) rrset.now) all.items) }
 {
     let mut all = Vec::with_capacity(alloc, known.len())?;

@@ -32,14 +32,14 @@ pub fn cut_case(
     let any = AskedWord::Types(AskedTypes::Any);
     let at = places_saying(alloc, question.name, cut, any, &source.records)?;
     if at.is_empty() {
-        return uncovered_case(alloc, question, source, name);
+        return Ok(uncovered_case(alloc, question, source, name)?);
     }
     let unsigned = AskedWord::Types(AskedTypes::UnsignedDelegation);
     let rrsets = facts_saying(alloc, question, source, cut, unsigned)?;
     if !rrsets.is_empty() {
         return Ok(CutCase::Delegation(rrsets));
     }
-    lowest_case(alloc, question, source, name, at[0])
+    Ok(lowest_case(alloc, question, source, name, at[0])?)
 }
 
 /// The case by the lowest record at the name, which has the place, where none is one of an unsigned delegation.

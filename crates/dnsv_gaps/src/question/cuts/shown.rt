@@ -7,12 +7,13 @@ ghost use Rattle.dnsv_names.specs.Order.{IsBelow};
 ghost use Rattle.dnsv_gaps.specs.Asking.{asking};
 ghost use Rattle.dnsv_gaps.specs.SourceSearch.{zone_in};
 ghost use Rattle.dnsv_denial.specs.words.Asked.{IsWithin};
-ghost use Rattle.dnsv_gaps.specs.questions.Cuts.{HasDsFromAbove, HasGoal, IsSeen, IsSeenHere, IsSeenUnsigned, IsThere, lowest_cut};
+ghost use Rattle.dnsv_gaps.specs.questions.Cuts.{HasDsFromAbove, HasGoal, IsDsFromAbove, IsSeen, IsSeenHere, IsSeenUnsigned, IsThere, lowest_cut};
 ghost use Rattle.dnsv_gaps.specs.questions.CutSearch.{HasOneFromAbove, IsFirstSeen, IsParentZone, IsSaidByOne};
 
 use crate::asked::AskedQuestion;
 use crate::question::cuts::ParentZone;
 use crate::sources::saying::has_saying;
+use dnsv_canonical::Rrset;
 use dnsv_chain::Anchor;
 use dnsv_denial::{AskedName, AskedTypes, AskedWord};
 use dnsv_names::{Name, RecordType};
@@ -27,8 +28,11 @@ pub fn first_seen(
 ) -> Result<Option<usize>, AllocError>
     requires parent { IsParentZone parent.now }
     requires lowest { lowest ≡ lowest_cut (asking parent.now.question.now) }
+    requires within { lowest ≤ length parent.now.question.now.name.now }
     ensures { IfOk result (IsFirstSeen (asking parent.now.question.now) parent.now.labels parent.now.next) }
 {
+    // What is true of every name: it has few labels.
+    let _labels = parent.question.name.labels();
     for name in parent.labels + 1..lowest + 1 {
         if is_seen(alloc, parent, name)? {
             return Ok(Some(name));
@@ -45,15 +49,15 @@ fn is_seen(alloc: Global, parent: &ParentZone<'_, '_, '_>, name: usize) -> Resul
         parent.now.next name) }
 {
     let Some(next) = parent.next else {
-        return is_seen_here(alloc, parent, name);
+        return Ok(is_seen_here(alloc, parent, name)?);
     };
     if name < next {
-        return is_seen_here(alloc, parent, name);
+        return Ok(is_seen_here(alloc, parent, name)?);
     }
     if name > next {
         return Ok(false);
     }
-    is_seen_unsigned(alloc, parent, name)
+    Ok(is_seen_unsigned(alloc, parent, name)?)
 }
 
 /// Whether the name with so many labels is, which is no known zone.
@@ -81,22 +85,27 @@ fn is_seen_here(
     if !may_be_left_out(parent) {
         return Ok(false);
     }
-    is_said(alloc, parent, AskedName::Above(name), AskedWord::OptedOut)
+    Ok(is_said(alloc, parent, AskedName::Above(name), AskedWord::OptedOut)?)
 }
 
 /// Whether something may answer the question, or a known zone is below.
 fn may_be_left_out(parent: &ParentZone<'_, '_, '_>) -> bool
     ensures { IsTrue result ↔ (HasGoal (asking parent.now.question.now) ⊎ IsThere parent.now.next) }
 {
-    parent.next.is_some() || has_goal(parent.question)
+    match parent.next {
+        Some(_) => true,
+        None => has_goal(parent.question),
+    }
 }
 
 /// Whether something may answer the question.
 fn has_goal(question: &AskedQuestion<'_, '_>) -> bool
     ensures { IsTrue result ↔ HasGoal (asking question.now) }
 {
-    has_rrset(question, question.name, question.rtype)
-        || has_rrset(question, question.name, RecordType::CNAME)
+    if has_rrset(question, question.name, question.rtype) {
+        return true;
+    }
+    has_rrset(question, question.name, RecordType::CNAME)
 }
 
 /// Whether an RRset of the type is at the name.
@@ -128,7 +137,7 @@ fn is_seen_unsigned(
     if is_said(alloc, parent, AskedName::Above(name), unsigned)? {
         return Ok(true);
     }
-    is_said(alloc, parent, AskedName::Above(name), AskedWord::OptedOut)
+    Ok(is_said(alloc, parent, AskedName::Above(name), AskedWord::OptedOut)?)
 }
 
 /// Whether a trust anchor is just at the name.
@@ -142,13 +151,27 @@ fn has_own_anchor(anchors: &[Anchor<'_>], name: &Name) -> bool
 fn has_ds_from_above(question: &AskedQuestion<'_, '_>, zone: &Name) -> bool
     ensures { IsTrue result ↔ HasDsFromAbove question.now.facts.now.rrsets zone.now }
 {
-    let capture = question.facts.capture();
-    for number in capture.at(zone, RecordType::DS) {
-        if has_signer_above(capture.signatures(*number), zone) {
-            return true;
-        }
+    has_one_from_above(question.facts.capture().rrsets(), zone)
+}
+
+/// Whether one of the RRsets is such a one.
+fn has_one_from_above(rrsets: &[Rrset<'_>], zone: &Name) -> bool
+    ensures { IsTrue result ↔ HasDsFromAbove rrsets.now zone.now }
+{
+    rrsets.iter().any(|rrset| is_ds_from_above(rrset, zone))
+}
+
+/// Whether the RRset is one of DS records of the zone, with a signature by one above it.
+fn is_ds_from_above(rrset: &Rrset<'_>, zone: &Name) -> bool
+    ensures { IsTrue result ↔ IsDsFromAbove zone.now rrset.now }
+{
+    if rrset.rtype() != RecordType::DS {
+        return false;
     }
-    false
+    if *rrset.owner() != *zone {
+        return false;
+    }
+    has_signer_above(rrset.signatures(), zone)
 }
 
 /// Whether the signer of one of the signatures is above the zone.
