@@ -162,8 +162,11 @@ module _ (Such : ReceivedRrset → Type 0) (rrsets : List ReceivedRrset) where
       (λ (before : k < n + 1). inl (record { rrset = one.rrset; numbered = one.numbered; early = omega (arith, before); such = one.such }))
       (λ (last : n + 1 ≤ k).
       let same : k ≡ n + 1 = omega (arith, last, early) in
-      inr (same, one_numbered rrsets (n + 1) one.rrset x (subst (λ (m : ℕ). IsNumbered rrsets m one.rrset) same one.numbered)
-      (numbered_here rrsets n x within at)))
+      inr (
+        same,
+        one_numbered rrsets (n + 1) one.rrset x (subst (λ (m : ℕ). IsNumbered rrsets m one.rrset) same one.numbered)
+            (numbered_here rrsets n x within at),
+      ))
       (cases_lt k (n + 1))
 
   pub one_to : (n : ℕ) (x : ReceivedRrset) (numbers next : List ℕ) → n < length rrsets → x ≡ get_or rrsets n x → Such x

@@ -1,0 +1,4 @@
+pub mod AnswerLemmas
+pub mod DenialLemmas
+pub mod RisingLemmas
+pub mod SignerLemmas

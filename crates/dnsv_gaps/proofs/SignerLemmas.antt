@@ -15,13 +15,16 @@ module _ (rrset : ReceivedRrset) (rrsigs : List Rrsig) (each : AllZip IsRrsig rr
   pub one_speaking : (name : Labels) (t : ℕ) (from_above : Bool) → (IsTrue from_above ↔ IsFromAbove t rrset)
       → HasOneSpeaking rrsigs name from_above ↔ HasSpeaker name t rrset
   one_speaking name t from_above test = (
-    λ one. (one.rrsig.signer, record {
-      rrsig = one.rrsig;
-      its = read_of rrset rrsigs each one.rrsig one.among;
-      signer = refl;
-      above = one.above.at;
-      properly = λ from. one.above.properly (test.1 from);
-    }),
+    λ one. (
+      one.rrsig.signer,
+      record {
+        rrsig = one.rrsig;
+        its = read_of rrset rrsigs each one.rrsig one.among;
+        signer = refl;
+        above = one.above.at;
+        properly = λ from. one.above.properly (test.1 from);
+      },
+    ),
     λ has.
         let zone : Labels = has.0 in
         let speaks = has.1 in record {

@@ -1,5 +1,5 @@
 -- What a source of a zone says of a question: the first case that is so (RFC 4035 5.4, RFC 5155 8.3 to 8.7, RFC 6840 4.1).
-use Rattle.std.specs.Prelude.{⊤, ◌≡◌, ◌≢◌, ◌⊎◌, ◌↔◌, ◌+◌, ◌<◌, ℕ, IsTrue, List, [], ◌∷◌, Option, Some, None, Contains, length}
+use Rattle.std.specs.Prelude.{⊤, ◌≡◌, ◌≢◌, ◌⊎◌, ◌↔◌, ◌+◌, ◌<◌, ℕ, IsTrue, List, [], ◌∷◌, Option, Some, None, Vec, Global, Contains, length}
 use Rattle.std.specs.List.{AllZip}
 use Rattle.std.specs.List.Sorted.{IsStrictlySortedBy}
 use Rattle.std.specs.declared.cmp.Ordering.TheVariants.{Less}
@@ -89,7 +89,7 @@ IsDenying said name t = said.TypesAt name (λ has. Denies has t)
 
 -- what records at the name say of the type: some deny it, or none does
 pub data AreRecordsAt (basis : Basis) (said : RecordWords RecordNumber) (name : Labels) (t : ℕ) : RecordsAt → Type 0 where
-  denying : {rrsets : Vec RrsetFacts} → HasOne (IsDenying said name t) → AreFactsOf basis (IsDenying said name t) rrsets.items
+  denying : {rrsets : Vec RrsetFacts Global} → HasOne (IsDenying said name t) → AreFactsOf basis (IsDenying said name t) rrsets.items
       → AreRecordsAt basis said name t (records.Denying rrsets)
   holding : {facts : HoldingFacts} → HasNone (IsDenying said name t) → AreFactsOf basis (IsAt said name) facts.rrsets.items
       → AreHeld said name t facts.held.items → AreRecordsAt basis said name t (records.Holding facts)
@@ -141,7 +141,7 @@ pub data AreWildcardFacts (basis : Basis) (said : RecordWords RecordNumber) (nex
   opted_out : HasOne (said.OptedOut next) → AreWildcardFacts basis said next below t wildcard.OptedOut
   at : {found : RecordsAt} → HasNone (said.OptedOut next) → HasOne (IsAt said below)
       → AreRecordsAt basis said below t found → AreWildcardFacts basis said next below t (wildcard.At found)
-  covered : {rrsets : Vec RrsetFacts} → HasNone (said.OptedOut next) → HasNone (IsAt said below)
+  covered : {rrsets : Vec RrsetFacts Global} → HasNone (said.OptedOut next) → HasNone (IsAt said below)
       → AreFactsOf basis (IsRuledOut said below) rrsets.items
       → AreWildcardFacts basis said next below t (wildcard.Covered rrsets)
 
@@ -167,7 +167,7 @@ pub data IsSourceCase (basis : Basis) (said : RecordWords RecordNumber) (zone na
       → IsSourceCase basis said zone name t (case.At found)
   apex : HasNoneClosed said zone name → HasNone (IsAt said name) → SameName name zone
       → IsSourceCase basis said zone name t case.Apex
-  non_terminal : {rrsets : Vec RrsetFacts} → HasNoneClosed said zone name → HasNone (IsAt said name) → ¬ SameName name zone
+  non_terminal : {rrsets : Vec RrsetFacts Global} → HasNoneClosed said zone name → HasNone (IsAt said name) → ¬ SameName name zone
       → HasOne (said.EmptyNonTerminal name) → AreFactsOf basis (said.EmptyNonTerminal name) rrsets.items
       → IsSourceCase basis said zone name t (case.NonTerminal rrsets)
   no_encloser : IsNotThere said zone name → HasNoneShown said zone name → IsSourceCase basis said zone name t case.NoEncloser

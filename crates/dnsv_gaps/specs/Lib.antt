@@ -6,6 +6,7 @@ pub mod Denials
 pub mod Parts
 pub mod SourceSearch
 pub mod Sources
+pub mod SpeakerSearch
 pub mod Speakers
 pub mod Unusable
 pub mod UnusableSearch

@@ -1,17 +1,21 @@
 -- How the sources of a zone are kept and asked. No public clause cites this module.
-use Rattle.std.specs.Prelude.{◌≡◌, ◌↔◌, ◌≤◌, ◌<◌, ℕ, IsTrue, List, Contains, length, map}
+use Rattle.std.specs.Prelude.{◌≡◌, ◌≢◌, ◌⊎◌, ◌↔◌, ◌≤◌, ℕ, IsTrue, List, [], ◌∷◌, Contains, length, map}
 use Rattle.std.specs.List.{AllByRecursion}
 use Rattle.std.specs.List.Sorted.{IsStrictlySortedBy}
 use Rattle.dnsv_names.specs.Name.{Labels, rightmost}
+use Rattle.dnsv_zones.specs.chains.Nsec3Chain.{Parameters}
 use Rattle.dnsv_zones.specs.chains.Rdata.{parameters_of}
 use Rattle.dnsv_zones.specs.forms.RecordWords.{RecordWords}
 use Rattle.dnsv_canonical.specs.declared.number.RecordNumber.{RecordNumber}
+use Rattle.dnsv_denial.specs.QuestionHashes.{AreHashedFor}
 use Rattle.dnsv_denial.specs.gathering.ByZone.{AreGatheredRecords}
 use Rattle.dnsv_denial.specs.gathering.Gathered.{AreNsecs, AreNsec3s}
 use Rattle.dnsv_denial.specs.records.AskedHash.{HasHashesOf}
+use Rattle.dnsv_denial.specs.records.Record.{read_nsec3}
 use Rattle.dnsv_denial.specs.words.Asked.{asked_name, said_word}
 use Rattle.dnsv_denial.specs.words.ChainSaid.{HasHashes}
 use Rattle.dnsv_denial.specs.words.EvidenceWords.{Chain, number_cmp}
+use Rattle.dnsv_denial.specs.words.SaidAt.{IsSaidAt}
 use Rattle.dnsv_denial.specs.words.EvidenceWords.Chain.{ByNsec, ByNsec3}
 use Rattle.dnsv_denial.specs.declared.records.chain_records.ChainRecords.{ChainRecords}
 use Rattle.dnsv_denial.specs.declared.records.chain_records.ChainRecords.TheVariants.{Nsec, Nsec3}
@@ -92,3 +96,27 @@ IsHeldIn question labels (held.Nsec3 hashed) = (hashed.name.now ≡ question.nam
 pub record AreHeldSources (question : AskedQuestion) (labels : ℕ) (sources : List HeldSource) : Type 0 where
   pub chains : AreSources (asking question) (zone_in question labels) (map held_chain sources)
   pub each : AllByRecursion (IsHeldIn question labels) sources
+
+-- what one of them is added by: the NSEC records, if there are any
+abbrev pub IsNsecSource : ZoneDenials → HeldSource → Type 0
+IsNsecSource zone (held.Nsec entries) = entries.now ≡ zone.records.nsecs.items
+IsNsecSource zone (held.Nsec3 hashed) = ⊥
+
+abbrev pub AreNsecSources : ZoneDenials → List HeldSource → Type 0
+AreNsecSources zone more = ((zone.records.nsecs.items ≡ []) × (more ≡ []))
+    ⊎ ((zone.records.nsecs.items ≢ []) × ((source : HeldSource) × IsNsecSource zone source × (more ≡ source ∷ [])))
+
+-- the NSEC3 records with the parameters, if there are any
+abbrev pub HasEntryWith : Parameters → ZoneDenials → Type 0
+HasEntryWith parameters zone =
+    (place : ℕ) × IsSaidAt (λ entry. (read_nsec3 entry).parameters ≡ parameters) zone.records.nsec3s place
+
+abbrev pub IsNsec3Source : AskedQuestion → ZoneDenials → Parameters → HeldSource → Type 0
+IsNsec3Source question zone parameters (held.Nsec entries) = ⊥
+IsNsec3Source question zone parameters (held.Nsec3 hashed) =
+    AreHashedFor question.hashes.now zone.records.nsec3s parameters hashed
+
+abbrev pub AreNsec3Sources : AskedQuestion → ZoneDenials → Parameters → List HeldSource → Type 0
+AreNsec3Sources question zone parameters more = ((¬ HasEntryWith parameters zone) × (more ≡ []))
+    ⊎ (HasEntryWith parameters zone
+    × ((source : HeldSource) × IsNsec3Source question zone parameters source × (more ≡ source ∷ [])))

@@ -3,10 +3,14 @@
 pub mod saying;
 mod unusable;
 
-ghost use Rattle.std.specs.Prelude.{◌≡◌, ◌↔◌, ◌≤◌, IfOk, IsTrue, length};
+ghost use Rattle.std.specs.Prelude.{◌≡◌, ◌≤◌, ◌++◌, ℕ, IfOk, List, OnOk, length};
+ghost use Rattle.dnsv_denial.specs.QuestionHashes.{AreUsed};
+ghost use Rattle.dnsv_denial.specs.words.ChainSaid.{HasHashes};
+ghost use Rattle.dnsv_zones.specs.chains.Rdata.{parameters_of};
 ghost use Rattle.dnsv_gaps.specs.Asking.{IsAsked, asking};
-ghost use Rattle.dnsv_gaps.specs.SourceSearch.{AreHeldSources, AreZoneDenials, IsHeldIn, IsSourceIn, chain_of, held_chain};
+ghost use Rattle.dnsv_gaps.specs.SourceSearch.{AreHeldSources, AreItsRecords, AreNsecSources, AreNsec3Sources, AreZoneDenials, IsHeldIn, IsSourceIn, chain_of, held_chain, zone_in};
 ghost use Rattle.dnsv_gaps.specs.declared.asked.AskedQuestion.{AskedQuestion};
+ghost use Rattle.dnsv_gaps.specs.declared.sources.HeldSource.{HeldSource};
 
 use crate::asked::AskedQuestion;
 use crate::denials::denials_of;
@@ -15,6 +19,7 @@ use dnsv_denial::{
     ChainRecords, GatheredRecords, HashedRecords, NsecEntry, gathered_records, is_source,
     parameters_in_order,
 };
+use dnsv_records::Nsec3Parameters;
 use dnsv_remedies::UnusableFacts;
 use std::alloc::{AllocError, Global};
 
@@ -62,7 +67,12 @@ impl HeldSource<'_> {
         }
     }
 
-    fn records(&self) -> ChainRecords<'_> {
+    /// Its records.
+    fn records(&self) -> ChainRecords<'_>
+        ensures chain { chain_of result ≡ held_chain self.now }
+        ensures its { (question : AskedQuestion) (labels : ℕ) → IsHeldIn question labels self.now
+            → HasHashes question.name.now result × AreItsRecords (asking question) (zone_in question labels) result }
+    {
         match self {
             HeldSource::Nsec(entries) => ChainRecords::Nsec(entries),
             HeldSource::Nsec3(hashed) => ChainRecords::Nsec3(hashed),
@@ -95,7 +105,7 @@ pub fn zone_denials<'a>(
 /// The sources of the zone in their order, those that have records: of NSEC, and then of NSEC3, by iterations and salt.
 pub fn sources_of<'r>(
     alloc: Global,
-    question: &'r AskedQuestion<'r, 'r>,
+    question: &'r AskedQuestion<'r, '_>,
     zone: &'r ZoneDenials<'r>,
 ) -> Result<Vec<HeldSource<'r>>, AllocError>
     requires asked { IsAsked question.now }
@@ -103,20 +113,51 @@ pub fn sources_of<'r>(
     ensures { IfOk result (λ sources. AreHeldSources question.now zone.now.labels sources.items) }
 {
     let mut sources = Vec::new(alloc);
-    if !zone.records.nsecs.is_empty() {
-        sources.push(HeldSource::Nsec(&zone.records.nsecs))?;
-    }
+    add_nsecs(&mut sources, zone)?;
     let all = question.facts.capture().nsec3_parameters();
-    for each in parameters_in_order(alloc, all)? {
-        let Some(hashed) = question
-            .hashes
-            .hashed(&zone.records.nsec3s, each.parameters)
-        else {
-            continue;
-        };
-        if is_source(&ChainRecords::Nsec3(&hashed)) {
-            sources.push(HeldSource::Nsec3(hashed))?;
-        }
+    let ordered = parameters_in_order(alloc, all)?;
+    for each in ordered.iter() {
+        add_nsec3s(&mut sources, question, zone, each.parameters)?;
     }
     Ok(sources)
+}
+
+/// Adds the source of NSEC, if it has records.
+fn add_nsecs<'r>(
+    sources: &mut Vec<HeldSource<'r>>,
+    zone: &'r ZoneDenials<'r>,
+) -> Result<(), AllocError>
+    ensures { OnOk result ((more : List HeldSource) × (sources.new.items ≡ sources.old.items ++ more)
+        × AreNsecSources zone.now more) }
+{
+    if zone.records.nsecs.is_empty() {
+        return Ok(());
+    }
+    let Ok(()) = sources.push(HeldSource::Nsec(&zone.records.nsecs)) else {
+        return Err(AllocError);
+    };
+    Ok(())
+}
+
+/// Adds the source of NSEC3 with the parameters, if it has records.
+fn add_nsec3s<'r>(
+    sources: &mut Vec<HeldSource<'r>>,
+    question: &'r AskedQuestion<'r, '_>,
+    zone: &'r ZoneDenials<'r>,
+    parameters: &Nsec3Parameters<'_>,
+) -> Result<(), AllocError>
+    requires { AreUsed question.now.hashes.now.rrsets (parameters_of parameters.now) }
+    ensures { OnOk result ((more : List HeldSource) × (sources.new.items ≡ sources.old.items ++ more)
+        × AreNsec3Sources question.now zone.now (parameters_of parameters.now) more) }
+{
+    let Some(hashed) = question.hashes.hashed(&zone.records.nsec3s, parameters) else {
+        unreachable!();
+    };
+    if !is_source(&ChainRecords::Nsec3(&hashed)) {
+        return Ok(());
+    }
+    let Ok(()) = sources.push(HeldSource::Nsec3(hashed)) else {
+        return Err(AllocError);
+    };
+    Ok(())
 }

@@ -1,5 +1,7 @@
 //! Which records of a source say what of a name that is asked for.
-ghost use Rattle.std.specs.Prelude.{◌↔◌, IfOk, IsTrue};
+ghost use Rattle.std.specs.Prelude.{◌≡◌, ◌↔◌, ◌<◌, IfOk, IsTrue, map};
+ghost use Rattle.std.specs.List.{AllByRecursion};
+ghost use Rattle.dnsv_denial.specs.proving.Numbers.{number_at, numbers_of, record_count};
 ghost use Rattle.dnsv_denial.specs.words.Asked.{IsWithin};
 ghost use Rattle.dnsv_canonical.specs.declared.number.RecordNumber.{RecordNumber};
 ghost use Rattle.dnsv_verdict.specs.Case.{basis_by};
@@ -10,7 +12,7 @@ use crate::asked::AskedQuestion;
 use crate::parts::facts_of_numbers;
 use crate::sources::ZoneSource;
 use dnsv_canonical::RecordNumber;
-use dnsv_denial::{AskedName, AskedWord, places_saying};
+use dnsv_denial::{AskedName, AskedWord, ChainRecords, places_saying};
 use dnsv_mending::RrsetFacts;
 use std::alloc::{AllocError, Global};
 
@@ -27,9 +29,21 @@ pub fn numbers_saying(
     ensures { IfOk result (λ numbers. AreSaying question.now source.now asked word numbers.items) }
 {
     let places = places_saying(alloc, question.name, asked, word, &source.records)?;
-    let mut numbers = Vec::new(alloc);
-    for place in &places {
-        numbers.push(source.records.number(*place))?;
+    numbers_at(alloc, &source.records, &places)
+}
+
+/// The numbers of the records at the places.
+fn numbers_at(
+    alloc: Global,
+    records: &ChainRecords<'_>,
+    places: &[usize],
+) -> Result<Vec<RecordNumber>, AllocError>
+    requires { AllByRecursion (λ place. place < record_count records.now) places.now }
+    ensures { IfOk result (λ numbers. numbers.items ≡ map (number_at (numbers_of records.now)) places.now) }
+{
+    let mut numbers = Vec::with_capacity(alloc, places.len())?;
+    for place in places {
+        numbers.push(records.number(*place))?;
     }
     Ok(numbers)
 }

@@ -1,15 +1,17 @@
 //! NSEC3 records of denials that can't be used.
-ghost use Rattle.std.specs.Prelude.{◌≡◌, ◌↔◌, ◌<◌, ◌≤◌, ◌++◌, ℕ, Contains, IfOk, IsTrue, List, MatchOption, OnOk};
+ghost use Rattle.std.specs.Prelude.{◌≡◌, ◌↔◌, ◌++◌, ℕ, Contains, IfOk, IsTrue, List, MatchOption, OnOk};
 ghost use Rattle.std.specs.List.Sorted.{IsStrictlySortedBy};
 ghost use Rattle.std.specs.Ordering.{nat_cmp};
-ghost use Rattle.dnsv_records.specs.Nsec3 as fields;
+ghost use Rattle.dnsv_records.specs.Nsec3 as by_fields;
 ghost use Rattle.dnsv_canonical.specs.Rrsets.{IsNumbered, ReceivedRrset};
 ghost use Rattle.dnsv_gaps.specs.Unusable.{HasUnknownFields, IsHashLabel, IsOfItsParent, IsUnusable, IsWhy};
-ghost use Rattle.dnsv_gaps.specs.UnusableSearch.{AreUnusableAmong, AreUnusableIn, IsUnused, IsWhyUnused};
+ghost use Rattle.dnsv_gaps.specs.UnusableSearch.{AreUnused, IsInFront, IsWhyUnused};
+ghost use Rattle.dnsv_lines.specs.declared.line.fault.denial.WhyNsec3.{WhyNsec3};
 ghost use Rattle.dnsv_remedies.specs.declared.facts.name.UnusableFacts.{UnusableFacts};
 
 use crate::denials::has_signer;
 use dnsv_canonical::{Capture, RecordNumber, Rrset, in_canonical_order};
+use dnsv_denial::owner_hash;
 use dnsv_lines::WhyNsec3;
 use dnsv_names::{Name, RecordType};
 use dnsv_records::{HashAlgorithm, Iterations, Nsec3, base32hex_read};
@@ -25,32 +27,51 @@ pub fn unusable_of(
     numbers: &[usize],
 ) -> Result<Vec<UnusableFacts>, AllocError>
     requires { IsStrictlySortedBy nat_cmp numbers.now }
-    ensures { IfOk result (λ unusable. AreUnusableAmong capture.now.rrsets zone.now (Contains numbers.now) unusable.items) }
+    ensures { IfOk result (λ unusable. AreUnused capture.now.rrsets zone.now (λ each. Contains numbers.now each.rrset)
+        unusable.items) }
 {
     let mut unusable = Vec::new(alloc);
     for number in numbers {
-        if let Some(rrset) = capture.rrset(*number) {
-            add_unusable(alloc, &mut unusable, zone, *number, rrset)?;
-        }
+        add_unusable(alloc, &mut unusable, capture, zone, *number)?;
     }
     Ok(unusable)
 }
 
-/// Adds those of the RRset, which has the number.
+/// Adds those of the RRset with the number, if it has NSEC3 records.
 fn add_unusable(
+    alloc: Global,
+    unusable: &mut Vec<UnusableFacts>,
+    capture: &Capture<'_>,
+    zone: &Name,
+    number: usize,
+) -> Result<(), AllocError>
+    ensures { OnOk result ((more : List UnusableFacts) × (unusable.new.items ≡ unusable.old.items ++ more)
+        × AreUnused capture.now.rrsets zone.now (λ each. each.rrset ≡ number) more) }
+{
+    let Some(rrset) = capture.rrset(number) else {
+        return Ok(());
+    };
+    if rrset.rtype() != RecordType::NSEC3 {
+        return Ok(());
+    }
+    push_unusable(alloc, unusable, zone, number, rrset)?;
+    Ok(())
+}
+
+/// Adds those of the NSEC3 RRset with the number, in canonical order.
+fn push_unusable(
     alloc: Global,
     unusable: &mut Vec<UnusableFacts>,
     zone: &Name,
     number: usize,
     rrset: &Rrset<'_>,
 ) -> Result<(), AllocError>
-    ensures { OnOk result ((more : List UnusableFacts) × (unusable.new.items ≡ unusable.old.items ++ more)
-        × AreUnusableIn zone.now number rrset.now more) }
+    requires { rrset.now.rtype ≡ 50 }
+    ensures { (rrsets : List ReceivedRrset) → IsNumbered rrsets number rrset.now
+        → OnOk result ((more : List UnusableFacts) × (unusable.new.items ≡ unusable.old.items ++ more)
+        × AreUnused rrsets zone.now (λ each. each.rrset ≡ number) more) }
 {
-    if rrset.rtype() != RecordType::NSEC3 {
-        return Ok(());
-    }
-    let is_hashed = is_hashed_owner(rrset.owner(), zone);
+    let is_hashed = is_in_front(rrset.owner(), zone);
     let records = in_canonical_order(alloc, rrset, rrset.nsec3s())?;
     for (place, each) in records.iter().enumerate() {
         let number = RecordNumber {
@@ -64,24 +85,32 @@ fn add_unusable(
     Ok(())
 }
 
-/// Whether the owner spells a hash in front of the zone (RFC 5155 3).
-fn is_hashed_owner(owner: &Name, zone: &Name) -> bool {
-    let Some(parent) = owner.parent() else {
-        return false;
-    };
-    if parent != *zone {
-        return false;
-    }
-    is_hash_label(owner)
+/// Whether the owner is a hash in front of the zone (RFC 5155 3).
+fn is_in_front(owner: &Name, zone: &Name) -> bool
+    ensures { IsTrue result ↔ IsInFront zone.now owner.now }
+{
+    owner_hash(owner, zone).is_some()
 }
 
-/// Why the record can't be used, if it is of no source of the zone; `is_hashed` is whether its owner is a hash in front of
-/// the zone.
-fn why_unused(rrset: &Rrset<'_>, is_hashed: bool, nsec3: &Nsec3<'_>) -> Option<WhyNsec3> {
-    if is_hashed && nsec3.is_usable() {
+/// Why the record can't be used, if it is of no source; `is_hashed` is whether its owner is a hash in front of the zone.
+fn why_unused(rrset: &Rrset<'_>, is_hashed: bool, nsec3: &Nsec3<'_>) -> Option<WhyNsec3>
+    ensures { MatchOption result ((why : WhyNsec3) → ¬ IsWhyUnused is_hashed rrset.now nsec3.now why)
+        (IsWhyUnused is_hashed rrset.now nsec3.now) }
+{
+    if is_source(is_hashed, nsec3) {
         return None;
     }
     why_unusable(rrset, nsec3)
+}
+
+/// Whether it is of a source of the zone.
+fn is_source(is_hashed: bool, nsec3: &Nsec3<'_>) -> bool
+    ensures { IsTrue result ↔ (IsTrue is_hashed × by_fields.IsUsable nsec3.now) }
+{
+    if !is_hashed {
+        return false;
+    }
+    nsec3.is_usable()
 }
 
 /// Why the record can't be used: it asks for too many iterations, or else it is no record that is known, or not of the zone
