@@ -22,7 +22,7 @@ pub fn facts_of_numbers(
     ensures { IfOk result (λ found. AreFactsOf (basis_by facts.now) (Contains numbers.now) found.items) }
 {
     let rrsets = rrsets_of(alloc, numbers)?;
-    facts_of_rrsets(alloc, facts, &rrsets)
+    Ok(facts_of_rrsets(alloc, facts, &rrsets)?)
 }
 
 /// The numbers of their RRsets, rising, each once.

@@ -66,7 +66,7 @@ fn said_by_sources(
     requires zone { AreZoneDenials question.now zone.now }
     ensures { IfOk result (λ facts. AreSaidBySources question.now zone.now.labels facts.items) }
 {
-    facts_of_sources(alloc, question, zone)
+    Ok(facts_of_sources(alloc, question, zone)?)
 }
 
 /// The same, of what is lent for as long.
@@ -80,7 +80,7 @@ fn facts_of_sources<'r>(
     ensures { IfOk result (λ facts. AreSaidBySources question.now zone.now.labels facts.items) }
 {
     let sources = sources_of(alloc, question, zone)?;
-    facts_of_each(alloc, question, zone.labels, &sources)
+    Ok(facts_of_each(alloc, question, zone.labels, &sources)?)
 }
 
 /// What each of the sources says, which are those of the zone with so many labels.

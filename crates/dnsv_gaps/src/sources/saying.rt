@@ -1,11 +1,11 @@
 //! Which records of a source say what of a name that is asked for.
-ghost use Rattle.std.specs.Prelude.{◌≡◌, ◌↔◌, ◌<◌, IfOk, IsTrue, map};
+ghost use Rattle.std.specs.Prelude.{◌≡◌, ◌↔◌, ◌<◌, ℕ, Contains, IfOk, IsTrue, map};
 ghost use Rattle.std.specs.List.{AllByRecursion};
 ghost use Rattle.dnsv_denial.specs.proving.Numbers.{number_at, numbers_of, record_count};
 ghost use Rattle.dnsv_denial.specs.words.Asked.{IsWithin};
 ghost use Rattle.dnsv_canonical.specs.declared.number.RecordNumber.{RecordNumber};
 ghost use Rattle.dnsv_verdict.specs.Case.{basis_by};
-ghost use Rattle.dnsv_gaps.specs.Parts.{AreFactsOf};
+ghost use Rattle.dnsv_gaps.specs.Parts.{AreFactsOf, IsInEvidence};
 ghost use Rattle.dnsv_gaps.specs.SourceSearch.{AreSaying, IsSourceIn, Says};
 
 use crate::asked::AskedQuestion;
@@ -26,10 +26,11 @@ pub fn numbers_saying(
 ) -> Result<Vec<RecordNumber>, AllocError>
     requires source { IsSourceIn question.now source.now }
     requires within { IsWithin question.now.name.now asked }
-    ensures { IfOk result (λ numbers. AreSaying question.now source.now asked word numbers.items) }
+    ensures all { IfOk result (λ numbers. AreSaying question.now source.now asked word numbers.items) }
+    ensures there { IfOk result (λ numbers. AllByRecursion (IsInEvidence question.now.facts.now.rrsets) numbers.items) }
 {
     let places = places_saying(alloc, question.name, asked, word, &source.records)?;
-    numbers_at(alloc, &source.records, &places)
+    Ok(numbers_at(alloc, &source.records, &places)?)
 }
 
 /// The numbers of the records at the places.
@@ -62,7 +63,7 @@ pub fn facts_saying(
         facts.items) }
 {
     let numbers = numbers_saying(alloc, question, source, asked, word)?;
-    facts_of_numbers(alloc, question.facts, &numbers)
+    Ok(facts_of_numbers(alloc, question.facts, &numbers)?)
 }
 
 /// Whether there is such a record.
@@ -78,5 +79,12 @@ pub fn has_saying(
     ensures { IfOk result (λ is. IsTrue is ↔ ((number : RecordNumber) × Says question.now source.now asked word number)) }
 {
     let places = places_saying(alloc, question.name, asked, word, &source.records)?;
-    Ok(!places.is_empty())
+    Ok(has_any(&places))
+}
+
+/// Whether there is a place.
+fn has_any(places: &[usize]) -> bool
+    ensures { IsTrue result ↔ ((place : ℕ) × Contains places.now place) }
+{
+    !places.is_empty()
 }

@@ -45,9 +45,10 @@ pub fn source_case(
     if source.labels == question.name.labels() {
         return Ok(SourceCase::Apex);
     }
-    let empty = facts_saying(alloc, question, source, name, AskedWord::EmptyNonTerminal)?;
-    if !empty.is_empty() {
-        return Ok(SourceCase::NonTerminal(empty));
+    let word = AskedWord::EmptyNonTerminal;
+    if has_saying(alloc, question, source, name, word)? {
+        let rrsets = facts_saying(alloc, question, source, name, word)?;
+        return Ok(SourceCase::NonTerminal(rrsets));
     }
-    encloser_case(alloc, question, source)
+    Ok(encloser_case(alloc, question, source)?)
 }

@@ -12,7 +12,7 @@ ghost use Rattle.dnsv_gaps.specs.SourceSearch.{IsSourceIn, said_in};
 
 use crate::asked::AskedQuestion;
 use crate::sources::ZoneSource;
-use crate::sources::saying::facts_saying;
+use crate::sources::saying::{facts_saying, has_saying};
 use dnsv_canonical::RecordNumber;
 use dnsv_denial::{AskedName, AskedTypes, AskedWord, places_saying};
 use dnsv_lines::WhySource;
@@ -34,9 +34,9 @@ pub fn records_at(
         (asked_name question.now.name.now name) question.now.rtype.0) }
 {
     let word = AskedWord::Types(AskedTypes::Without(question.rtype));
-    let denying = facts_saying(alloc, question, source, name, word)?;
-    if !denying.is_empty() {
-        return Ok(RecordsAt::Denying(denying));
+    if has_saying(alloc, question, source, name, word)? {
+        let rrsets = facts_saying(alloc, question, source, name, word)?;
+        return Ok(RecordsAt::Denying(rrsets));
     }
     let word = AskedWord::Types(AskedTypes::Any);
     Ok(RecordsAt::Holding(HoldingFacts {
@@ -59,7 +59,7 @@ fn held_at(
 {
     let word = AskedWord::Types(AskedTypes::Any);
     let places = places_saying(alloc, question.name, name, word, &source.records)?;
-    held_by_each(alloc, source, question.rtype, &places)
+    Ok(held_by_each(alloc, source, question.rtype, &places)?)
 }
 
 /// What is in the way in the records at the places.

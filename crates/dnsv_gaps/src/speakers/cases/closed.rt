@@ -1,5 +1,5 @@
 //! The first closed record above the name: one of a delegation or of a DNAME.
-ghost use Rattle.std.specs.Prelude.{◌<◌, IfOk, MatchOption, length};
+ghost use Rattle.std.specs.Prelude.{◌≡◌, ◌<◌, ◌∷◌, [], ℕ, IfOk, List, MatchOption, length};
 ghost use Rattle.dnsv_verdict.specs.Case.{basis_by};
 ghost use Rattle.dnsv_denial.specs.proving.Numbers.{record_count};
 ghost use Rattle.dnsv_gaps.specs.CaseSearch.{AreClosedFactsAt, AreFactsAtPlace, HasNoneClosedAt};
@@ -51,11 +51,21 @@ fn closed_at(
     let name = AskedName::Above(labels);
     let word = AskedWord::Types(AskedTypes::Closed);
     let places = places_saying(alloc, question.name, name, word, &source.records)?;
-    if places.is_empty() {
+    let Some(place) = first_of(&places) else {
         return Ok(None);
-    }
-    let facts = closed_record(alloc, question, source, labels, places[0])?;
+    };
+    let facts = closed_record(alloc, question, source, labels, place)?;
     Ok(Some(facts))
+}
+
+/// The first of the places.
+fn first_of(places: &[usize]) -> Option<usize>
+    ensures { MatchOption result (places.now ≡ []) (λ place. (rest : List ℕ) × (places.now ≡ place ∷ rest)) }
+{
+    if places.is_empty() {
+        return None;
+    }
+    Some(places[0])
 }
 
 /// What is so of the closed record at the place, which is at the name with so many labels.

@@ -83,7 +83,8 @@ fn showing(
         return Ok(Vec::new(alloc));
     }
     let name = AskedName::Above(labels);
-    facts_saying(alloc, question, source, name, AskedWord::Encloser)
+    let word = AskedWord::Encloser;
+    Ok(facts_saying(alloc, question, source, name, word)?)
 }
 
 /// What is said of the wildcard right below them.
