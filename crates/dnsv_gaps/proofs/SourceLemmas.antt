@@ -116,7 +116,7 @@ word_alike numbers by of alike (word.Types types) name = alike.types_at name (sa
 
 module _ (numbers : List RecordNumber) (order : IsStrictlySortedBy number_cmp numbers) (By : ℕ → Type 0) (Of : RecordNumber → Type 0)
     (same : SaysAlike numbers By Of) (places : List ℕ) (all : AreAllPlaces By places) where
-  within_all : (place : ℕ) → Contains places place → place < length numbers
+  pub within_all : (place : ℕ) → Contains places place → place < length numbers
   within_all place there =
       let it = same.to place ((all.members place).0 there) in slice_get_within numbers place it.0 it.1
 

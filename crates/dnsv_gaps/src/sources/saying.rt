@@ -82,8 +82,8 @@ pub fn has_saying(
     Ok(has_any(&places))
 }
 
-/// Whether there is a place.
-fn has_any(places: &[usize]) -> bool
+/// Whether there is one of the numbers.
+pub fn has_any(places: &[usize]) -> bool
     ensures { IsTrue result ↔ ((place : ℕ) × Contains places.now place) }
 {
     !places.is_empty()

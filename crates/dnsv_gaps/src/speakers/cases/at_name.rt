@@ -34,15 +34,15 @@ pub fn records_at(
         (asked_name question.now.name.now name) question.now.rtype.0) }
 {
     let word = AskedWord::Types(AskedTypes::Without(question.rtype));
-    if has_saying(alloc, question, source, name, word)? {
-        let rrsets = facts_saying(alloc, question, source, name, word)?;
-        return Ok(RecordsAt::Denying(rrsets));
+    let denies = has_saying(alloc, question, source, name, word)?;
+    if denies {
+        let denying = facts_saying(alloc, question, source, name, word)?;
+        return Ok(RecordsAt::Denying(denying));
     }
     let word = AskedWord::Types(AskedTypes::Any);
-    Ok(RecordsAt::Holding(HoldingFacts {
-        rrsets: facts_saying(alloc, question, source, name, word)?,
-        held: held_at(alloc, question, source, name)?,
-    }))
+    let rrsets = facts_saying(alloc, question, source, name, word)?;
+    let held = held_at(alloc, question, source, name)?;
+    Ok(RecordsAt::Holding(HoldingFacts { rrsets, held }))
 }
 
 /// What is in the way in each record at the name, by their numbers.

@@ -27,8 +27,10 @@ pub fn first_closed(
         (AreClosedFacts (basis_by question.now.facts.now) (said_in question.now source.now) (zone_in question.now source.now.labels)
         question.now.name.now)) }
 {
-    for labels in source.labels + 1..question.name.labels() {
-        if let Some(closed) = closed_at(alloc, question, source, labels)? {
+    let end = question.name.labels();
+    for labels in source.labels + 1..end {
+        let found = closed_at(alloc, question, source, labels)?;
+        if let Some(closed) = found {
             return Ok(Some(closed));
         }
     }
