@@ -11,6 +11,7 @@ pub use forms::proof_form::{ProofForm, WildcardParts};
 pub use forms::wildcard_answer::{no_closer, opts_out_next_closer};
 pub use gathering::denial_records::DenialRecords;
 pub use gathering::gathered::gathered_records;
+pub use gathering::nsec3::owner_hash;
 pub use gathering::parameters::{OrderedParameters, parameters_in_order};
 pub use proving::proof::Proof;
 pub use proving::proof_part::{PartName, PartRelation, ProofPart};

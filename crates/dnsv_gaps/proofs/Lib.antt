@@ -1,5 +1,11 @@
 pub mod AnswerLemmas
+pub mod CaseLemmas
 pub mod DenialLemmas
-pub mod QuestionLemmas
+pub mod PartLemmas
 pub mod RisingLemmas
+pub mod SayingLemmas
 pub mod SignerLemmas
+pub mod SourceLemmas
+pub mod SpeakerLemmas
+pub mod UnusableLemmas
+pub mod ZoneLemmas

@@ -17,7 +17,6 @@ use Rattle.dnsv_lines.specs.declared.line.fault.denial.WhySource.TheVariants as 
 use Rattle.dnsv_verdict.specs.Verdict.{Basis}
 use Rattle.dnsv_remedies.specs.declared.facts.denial.ClosedFacts.{ClosedFacts}
 use Rattle.dnsv_remedies.specs.declared.facts.denial.EncloserFacts.{EncloserFacts}
-use Rattle.dnsv_remedies.specs.declared.facts.denial.HoldingFacts.{HoldingFacts}
 use Rattle.dnsv_remedies.specs.declared.facts.denial.RecordsAt.{RecordsAt}
 use Rattle.dnsv_remedies.specs.declared.facts.denial.RecordsAt.TheVariants as records
 use Rattle.dnsv_remedies.specs.declared.facts.denial.SourceCase.{SourceCase}
@@ -88,11 +87,11 @@ abbrev pub IsDenying : RecordWords RecordNumber → Labels → ℕ → RecordNum
 IsDenying said name t = said.TypesAt name (λ has. Denies has t)
 
 -- what records at the name say of the type: some deny it, or none does
-pub data AreRecordsAt (basis : Basis) (said : RecordWords RecordNumber) (name : Labels) (t : ℕ) : RecordsAt → Type 0 where
-  denying : {rrsets : Vec RrsetFacts Global} → HasOne (IsDenying said name t) → AreFactsOf basis (IsDenying said name t) rrsets.items
-      → AreRecordsAt basis said name t (records.Denying rrsets)
-  holding : {facts : HoldingFacts} → HasNone (IsDenying said name t) → AreFactsOf basis (IsAt said name) facts.rrsets.items
-      → AreHeld said name t facts.held.items → AreRecordsAt basis said name t (records.Holding facts)
+abbrev pub AreRecordsAt : Basis → RecordWords RecordNumber → Labels → ℕ → RecordsAt → Type 0
+AreRecordsAt basis said name t (records.Denying rrsets) =
+    HasOne (IsDenying said name t) × AreFactsOf basis (IsDenying said name t) rrsets.items
+AreRecordsAt basis said name t (records.Holding facts) =
+    HasNone (IsDenying said name t) × AreFactsOf basis (IsAt said name) facts.rrsets.items × AreHeld said name t facts.held.items
 
 -- ---- the cases
 
@@ -135,15 +134,13 @@ pub data AreShowing (basis : Basis) (said : RecordWords RecordNumber) (name : La
   by_records : {facts : List RrsetFacts} → ¬ said.NeedsNone name → AreFactsOf basis (said.Encloser name) facts
       → AreShowing basis said name facts
 
--- what is said of the wildcard, where no record with the Opt-Out flag covers the next closer name
-pub data AreWildcardFacts (basis : Basis) (said : RecordWords RecordNumber) (next below : Labels) (t : ℕ)
-    : WildcardFacts → Type 0 where
-  opted_out : HasOne (said.OptedOut next) → AreWildcardFacts basis said next below t wildcard.OptedOut
-  at : {found : RecordsAt} → HasNone (said.OptedOut next) → HasOne (IsAt said below)
-      → AreRecordsAt basis said below t found → AreWildcardFacts basis said next below t (wildcard.At found)
-  covered : {rrsets : Vec RrsetFacts Global} → HasNone (said.OptedOut next) → HasNone (IsAt said below)
-      → AreFactsOf basis (IsRuledOut said below) rrsets.items
-      → AreWildcardFacts basis said next below t (wildcard.Covered rrsets)
+-- what is said of the wildcard: nothing is asked where a record with the Opt-Out flag covers the next closer name
+abbrev pub AreWildcardFacts : Basis → RecordWords RecordNumber → Labels → Labels → ℕ → WildcardFacts → Type 0
+AreWildcardFacts basis said next below t wildcard.OptedOut = HasOne (said.OptedOut next)
+AreWildcardFacts basis said next below t (wildcard.At found) =
+    HasNone (said.OptedOut next) × HasOne (IsAt said below) × AreRecordsAt basis said below t found
+AreWildcardFacts basis said next below t (wildcard.Covered rrsets) =
+    HasNone (said.OptedOut next) × HasNone (IsAt said below) × AreFactsOf basis (IsRuledOut said below) rrsets.items
 
 pub record AreEncloserFacts (basis : Basis) (said : RecordWords RecordNumber) (zone name : Labels) (t : ℕ)
     (facts : EncloserFacts) : Type 0 where
@@ -161,15 +158,14 @@ pub record IsNotThere (said : RecordWords RecordNumber) (zone name : Labels) : T
   pub not_empty : HasNone (said.EmptyNonTerminal name)
 
 -- the first case that is so
-pub data IsSourceCase (basis : Basis) (said : RecordWords RecordNumber) (zone name : Labels) (t : ℕ) : SourceCase → Type 0 where
-  closed : {facts : ClosedFacts} → AreClosedFacts basis said zone name facts → IsSourceCase basis said zone name t (case.Closed facts)
-  at : {found : RecordsAt} → HasNoneClosed said zone name → HasOne (IsAt said name) → AreRecordsAt basis said name t found
-      → IsSourceCase basis said zone name t (case.At found)
-  apex : HasNoneClosed said zone name → HasNone (IsAt said name) → SameName name zone
-      → IsSourceCase basis said zone name t case.Apex
-  non_terminal : {rrsets : Vec RrsetFacts Global} → HasNoneClosed said zone name → HasNone (IsAt said name) → ¬ SameName name zone
-      → HasOne (said.EmptyNonTerminal name) → AreFactsOf basis (said.EmptyNonTerminal name) rrsets.items
-      → IsSourceCase basis said zone name t (case.NonTerminal rrsets)
-  no_encloser : IsNotThere said zone name → HasNoneShown said zone name → IsSourceCase basis said zone name t case.NoEncloser
-  encloser : {facts : EncloserFacts} → IsNotThere said zone name → AreEncloserFacts basis said zone name t facts
-      → IsSourceCase basis said zone name t (case.Encloser facts)
+abbrev pub IsSourceCase : Basis → RecordWords RecordNumber → Labels → Labels → ℕ → SourceCase → Type 0
+IsSourceCase basis said zone name t (case.Closed facts) = AreClosedFacts basis said zone name facts
+IsSourceCase basis said zone name t (case.At found) =
+    HasNoneClosed said zone name × HasOne (IsAt said name) × AreRecordsAt basis said name t found
+IsSourceCase basis said zone name t case.Apex = HasNoneClosed said zone name × HasNone (IsAt said name) × SameName name zone
+IsSourceCase basis said zone name t (case.NonTerminal rrsets) =
+    HasNoneClosed said zone name × HasNone (IsAt said name) × (¬ SameName name zone)
+    × HasOne (said.EmptyNonTerminal name) × AreFactsOf basis (said.EmptyNonTerminal name) rrsets.items
+IsSourceCase basis said zone name t case.NoEncloser = IsNotThere said zone name × HasNoneShown said zone name
+IsSourceCase basis said zone name t (case.Encloser facts) =
+    IsNotThere said zone name × AreEncloserFacts basis said zone name t facts

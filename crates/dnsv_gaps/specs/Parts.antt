@@ -19,6 +19,10 @@ pub record AreFactsOf (basis : Basis) (Such : RecordNumber → Type 0) (facts : 
   pub each : AllByRecursion (λ each. AreRrsetFacts basis each.number each) facts
   pub members : (k : ℕ) → Contains (map (λ each. each.number) facts) k ↔ HasSuch Such k
 
+-- an RRset of the evidence has the number
+abbrev pub IsRrset : List ReceivedRrset → ℕ → Type 0
+IsRrset rrsets k = (rrset : ReceivedRrset) × IsNumbered rrsets k rrset
+
 -- the record's RRset is one of the evidence
 abbrev pub IsInEvidence : List ReceivedRrset → RecordNumber → Type 0
-IsInEvidence rrsets number = (rrset : ReceivedRrset) × IsNumbered rrsets number.rrset rrset
+IsInEvidence rrsets number = IsRrset rrsets number.rrset

@@ -6,6 +6,8 @@ ghost use Rattle.std.specs.Prelude.{◌≡◌, ◌↔◌, ◌≤◌, ℕ, Contai
 ghost use Rattle.std.specs.List.Sorted.{IsStrictlySortedBy};
 ghost use Rattle.std.specs.Ordering.{nat_cmp};
 ghost use Rattle.dnsv_names.specs.Name.{rightmost};
+ghost use Rattle.dnsv_verdict.specs.Case.{basis_by};
+ghost use Rattle.dnsv_faults.specs.KnownZones.{IsKnownZone};
 ghost use Rattle.dnsv_gaps.specs.Asking.{IsAsked, asking};
 ghost use Rattle.dnsv_gaps.specs.DenialSearch.{HasKnownBetween, IsDenialType, IsKnownAbove};
 ghost use Rattle.dnsv_gaps.specs.Denials.{IsDenial, IsDenialNumber, IsDenialOf, IsStrayOf};
@@ -14,6 +16,7 @@ use crate::asked::AskedQuestion;
 pub use crate::denials::signers::has_signer;
 use crate::denials::signers::{has_speaker, is_stray};
 use dnsv_canonical::Rrset;
+use dnsv_faults::is_above;
 use dnsv_names::{Name, RecordType};
 use std::alloc::{AllocError, Global};
 
@@ -104,6 +107,7 @@ fn is_stray_of(
 /// Whether a known zone with more labels is above the owner.
 fn has_known_between(question: &AskedQuestion<'_, '_>, labels: usize, owner: &Name) -> bool
     requires asked { IsAsked question.now }
+    requires within { labels ≤ length question.now.name.now }
     ensures { IsTrue result ↔ HasKnownBetween (asking question.now) labels owner.now }
 {
     for count in labels + 1..question.name.labels() + 1 {
@@ -120,11 +124,18 @@ fn is_known_above(question: &AskedQuestion<'_, '_>, labels: usize, owner: &Name)
     requires within { labels ≤ length question.now.name.now }
     ensures { IsTrue result ↔ IsKnownAbove (asking question.now) labels owner.now }
 {
-    if !question.known[labels] {
+    if !is_known(question, labels) {
         return false;
     }
-    if owner.labels() <= labels {
-        return false;
-    }
-    owner.is_at_or_below(&question.name.suffix(labels))
+    is_above(owner, &question.name.suffix(labels), true)
+}
+
+/// Whether so many of the name's labels are those of a known zone.
+pub fn is_known(question: &AskedQuestion<'_, '_>, labels: usize) -> bool
+    requires asked { IsAsked question.now }
+    requires within { labels ≤ length question.now.name.now }
+    ensures { IsTrue result ↔ IsKnownZone (basis_by question.now.facts.now) question.now.name.now question.now.rtype.0
+        (rightmost question.now.name.now labels) }
+{
+    question.known[labels]
 }

@@ -3,7 +3,11 @@
 pub mod saying;
 mod unusable;
 
-ghost use Rattle.std.specs.Prelude.{◌≡◌, ◌≤◌, ◌++◌, ℕ, IfOk, List, OnOk, length};
+ghost use Rattle.std.specs.Prelude.{◌≡◌, ◌↔◌, ◌≤◌, ◌++◌, ℕ, Contains, IfOk, List, OnOk, length};
+ghost use Rattle.std.specs.List.Sorted.{IsStrictlySortedBy};
+ghost use Rattle.std.specs.Ordering.{nat_cmp};
+ghost use Rattle.dnsv_names.specs.Name.{rightmost};
+ghost use Rattle.dnsv_gaps.specs.Denials.{IsDenialNumber};
 ghost use Rattle.dnsv_denial.specs.QuestionHashes.{AreUsed};
 ghost use Rattle.dnsv_denial.specs.words.ChainSaid.{HasHashes};
 ghost use Rattle.dnsv_zones.specs.chains.Rdata.{parameters_of};
@@ -14,6 +18,7 @@ ghost use Rattle.dnsv_gaps.specs.declared.sources.HeldSource.{HeldSource};
 
 use crate::asked::AskedQuestion;
 use crate::denials::denials_of;
+use crate::sources::saying::has_any;
 use crate::sources::unusable::unusable_of;
 use dnsv_denial::{
     ChainRecords, GatheredRecords, HashedRecords, NsecEntry, gathered_records, is_source,
@@ -91,14 +96,31 @@ pub fn zone_denials<'a>(
     ensures labels { IfOk result (λ zone. zone.labels ≡ labels) }
     ensures denials { IfOk result (AreZoneDenials question.now) }
 {
+    let numbers = denials_of(alloc, question, labels)?;
+    Ok(denials_with(alloc, question, labels, &numbers)?)
+}
+
+/// The same, which are the RRsets with these numbers.
+fn denials_with<'a>(
+    alloc: Global,
+    question: &AskedQuestion<'_, 'a>,
+    labels: usize,
+    numbers: &[usize],
+) -> Result<ZoneDenials<'a>, AllocError>
+    requires within { labels ≤ length question.now.name.now }
+    requires order { IsStrictlySortedBy nat_cmp numbers.now }
+    requires members { (k : ℕ) → Contains numbers.now k
+        ↔ IsDenialNumber (asking question.now) (rightmost question.now.name.now labels) k }
+    ensures labels { IfOk result (λ zone. zone.labels ≡ labels) }
+    ensures denials { IfOk result (AreZoneDenials question.now) }
+{
     let zone = question.name.suffix(labels);
     let capture = question.facts.capture();
-    let numbers = denials_of(alloc, question, labels)?;
     Ok(ZoneDenials {
         labels,
-        has_denials: !numbers.is_empty(),
-        records: gathered_records(alloc, capture, &zone, &numbers)?,
-        unusable: unusable_of(alloc, capture, &zone, &numbers)?,
+        has_denials: has_any(numbers),
+        records: gathered_records(alloc, capture, &zone, numbers)?,
+        unusable: unusable_of(alloc, capture, &zone, numbers)?,
     })
 }
 

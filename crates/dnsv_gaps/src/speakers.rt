@@ -10,6 +10,7 @@ ghost use Rattle.dnsv_gaps.specs.SpeakerSearch.{AreSaidBySources};
 ghost use Rattle.dnsv_gaps.specs.Speakers.{AreSourceFacts, AreSpeakerFacts, AreSpeakers};
 
 use crate::asked::AskedQuestion;
+use crate::denials::is_known;
 use crate::sources::{HeldSource, ZoneDenials, sources_of, zone_denials};
 use crate::speakers::cases::source_case;
 use dnsv_remedies::{SourceFacts, SpeakerFacts};
@@ -27,7 +28,7 @@ pub fn speaker_facts(
     let count = question.name.labels();
     for above in 0..count + 1 {
         let labels = count - above;
-        if question.known[labels] {
+        if is_known(question, labels) {
             speakers.push(zone_facts(alloc, question, labels)?)?;
         }
     }
@@ -65,13 +66,13 @@ fn said_by_sources(
     requires zone { AreZoneDenials question.now zone.now }
     ensures { IfOk result (λ facts. AreSaidBySources question.now zone.now.labels facts.items) }
 {
-    facts_of_sources(alloc, question, zone)
+    Ok(facts_of_sources(alloc, question, zone)?)
 }
 
 /// The same, of what is lent for as long.
 fn facts_of_sources<'r>(
     alloc: Global,
-    question: &'r AskedQuestion<'r, 'r>,
+    question: &'r AskedQuestion<'r, '_>,
     zone: &'r ZoneDenials<'r>,
 ) -> Result<Vec<SourceFacts>, AllocError>
     requires asked { IsAsked question.now }
@@ -79,7 +80,7 @@ fn facts_of_sources<'r>(
     ensures { IfOk result (λ facts. AreSaidBySources question.now zone.now.labels facts.items) }
 {
     let sources = sources_of(alloc, question, zone)?;
-    facts_of_each(alloc, question, zone.labels, &sources)
+    Ok(facts_of_each(alloc, question, zone.labels, &sources)?)
 }
 
 /// What each of the sources says, which are those of the zone with so many labels.

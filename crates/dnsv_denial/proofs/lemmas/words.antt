@@ -7,4 +7,5 @@ pub mod FirstAmongLemmas
 pub mod FirstLemmas
 pub mod IndexLemmas
 pub mod PlaceLemmas
+pub mod SaidWithinLemmas
 pub mod SourceLemmas

@@ -57,7 +57,7 @@ fn add_nsec3s<'a>(
 }
 
 /// The hash that the owner spells, one label in front of the zone (RFC 5155 3).
-fn owner_hash(owner: &Name, zone: &Name) -> Option<Hash20>
+pub fn owner_hash(owner: &Name, zone: &Name) -> Option<Hash20>
     ensures { MatchOption result ((hash : List ℕ) → ¬ IsHashedOwner zone.now owner.now hash)
         (IsHashedOwner zone.now owner.now) }
 {

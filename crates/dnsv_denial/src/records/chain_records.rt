@@ -1,6 +1,11 @@
 //! The records of one chain of a zone, as a proof is looked for among them.
+ghost use Rattle.std.specs.FinSet as set;
+ghost use Rattle.std.specs.Prelude.{◌≡◌, ◌<◌, length};
+ghost use Rattle.dnsv_denial.specs.records.Record.{read_entry, read_nsec3};
+ghost use Rattle.dnsv_denial.specs.words.SaidAt.{IsSaidAt};
+
 use crate::proving::numbers::record_number;
-use crate::records::entry::NsecEntry;
+use crate::records::entry::{Nsec3Entry, NsecEntry};
 use crate::records::hashed_records::HashedRecords;
 use dnsv_canonical::RecordNumber;
 use dnsv_records::TypeBitmap;
@@ -15,8 +20,6 @@ pub enum ChainRecords<'a> {
 }
 
 impl<'a> ChainRecords<'a> {
-    ghost use Rattle.std.specs.FinSet as set;
-    ghost use Rattle.std.specs.Prelude.{◌≡◌, ◌<◌, ℕ};
     ghost use Rattle.dnsv_denial.specs.proving.Numbers.{numbers_of, number_at, record_count};
     ghost use Rattle.dnsv_denial.specs.words.ChainSaid.{IsTypesAt};
 
@@ -29,16 +32,30 @@ impl<'a> ChainRecords<'a> {
     }
 
     /// The types that the record at the place tells of.
-    pub fn types(&self, place: usize) -> &TypeBitmap<'a>
+    pub fn types(&self, place: usize) -> &'a TypeBitmap<'a>
         requires { place < record_count self.now }
         ensures { IsTypesAt self.now place (λ t. set.contains result.now t) }
     {
         match self {
-            ChainRecords::Nsec(entries) => {
-                let nsec = entries[place].nsec;
-                &nsec.types
-            },
-            ChainRecords::Nsec3(hashed) => hashed.entries.as_slice()[place].types,
+            ChainRecords::Nsec(entries) => nsec_types(place, entries),
+            ChainRecords::Nsec3(hashed) => nsec3_types(place, hashed.entries.as_slice()),
         }
     }
+}
+
+/// The types that the NSEC record at the place tells of.
+fn nsec_types<'a>(place: usize, entries: &[NsecEntry<'a>]) -> &'a TypeBitmap<'a>
+    requires { place < length entries.now }
+    ensures { IsSaidAt (λ entry. (read_entry entry).types ≡ (λ t. set.contains result.now t)) entries.now place }
+{
+    let nsec = entries[place].nsec;
+    &nsec.types
+}
+
+/// The types that the NSEC3 record at the place tells of.
+fn nsec3_types<'a>(place: usize, entries: &[Nsec3Entry<'a>]) -> &'a TypeBitmap<'a>
+    requires { place < length entries.now }
+    ensures { IsSaidAt (λ entry. (read_nsec3 entry).types ≡ (λ t. set.contains result.now t)) entries.now place }
+{
+    entries[place].types
 }

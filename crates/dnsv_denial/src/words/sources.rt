@@ -1,12 +1,12 @@
 //! Which records there are of a chain, whatever name is asked.
-ghost use Rattle.std.specs.Prelude.{◌≡◌, ◌↔◌, ℕ, IsTrue};
+ghost use Rattle.std.specs.Prelude.{◌≡◌, ◌↔◌, ◌<◌, ℕ, IsTrue, length};
 ghost use Rattle.dnsv_zones.specs.chains.Rdata.{parameters_of};
 ghost use Rattle.dnsv_denial.specs.records.Record.{read_nsec3};
 ghost use Rattle.dnsv_denial.specs.words.ChainSaid.{IsOfChain, IsOptOutOfChain};
 ghost use Rattle.dnsv_denial.specs.declared.records.entry.Nsec3Entry.{Nsec3Entry};
 
 use crate::records::chain_records::ChainRecords;
-use crate::records::entry::Nsec3Entry;
+use crate::records::entry::{Nsec3Entry, NsecEntry};
 use crate::words::nsec3::same_parameters;
 use crate::words::search::{Word, first_to_say};
 use dnsv_records::Nsec3Parameters;
@@ -16,11 +16,18 @@ pub fn is_source(records: &ChainRecords<'_>) -> bool
     ensures { IsTrue result ↔ ((place : ℕ) × IsOfChain records.now place) }
 {
     match records {
-        ChainRecords::Nsec(entries) => entries.len() > 0,
+        ChainRecords::Nsec(entries) => is_not_empty(entries),
         ChainRecords::Nsec3(hashed) => {
             first_to_say(&Made(hashed.parameters), hashed.entries.as_slice()).is_some()
         },
     }
+}
+
+/// Whether there are any.
+fn is_not_empty(entries: &[NsecEntry<'_>]) -> bool
+    ensures { IsTrue result ↔ (0 < length entries.now) }
+{
+    entries.len() > 0
 }
 
 /// Whether an NSEC3 record of the chain has the Opt-Out flag (RFC 5155 6).

@@ -1,5 +1,6 @@
 //! The signers of an RRset that may deny.
 ghost use Rattle.std.specs.Prelude.{◌↔◌, IsTrue};
+ghost use Rattle.dnsv_names.specs.Name.{SameName};
 ghost use Rattle.dnsv_gaps.specs.DenialSearch.{HasOneAbove, HasOneBy, HasOneSpeaking, HasSpeaker};
 ghost use Rattle.dnsv_gaps.specs.Denials.{HasSigner, IsStray};
 
@@ -49,5 +50,12 @@ pub fn has_signer(rrset: &Rrset<'_>, zone: &Name) -> bool
 fn is_one_by(rrsigs: &[Rrsig<'_>], zone: &Name) -> bool
     ensures { IsTrue result ↔ HasOneBy rrsigs.now zone.now }
 {
-    rrsigs.iter().any(|rrsig| rrsig.signer.is_same(zone))
+    rrsigs.iter().any(|rrsig| is_by(rrsig, zone))
+}
+
+/// Whether the zone is the signer of the signature.
+fn is_by(rrsig: &Rrsig<'_>, zone: &Name) -> bool
+    ensures { IsTrue result ↔ SameName rrsig.now.signer zone.now }
+{
+    rrsig.signer.is_same(zone)
 }

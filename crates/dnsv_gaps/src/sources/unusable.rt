@@ -1,5 +1,5 @@
 //! NSEC3 records of denials that can't be used.
-ghost use Rattle.std.specs.Prelude.{◌≡◌, ◌↔◌, ◌++◌, ℕ, Contains, IfOk, IsTrue, List, MatchOption, OnOk};
+ghost use Rattle.std.specs.Prelude.{◌≡◌, ◌<◌, ◌↔◌, ◌++◌, ℕ, Contains, IfOk, IsTrue, List, MatchOption, OnOk};
 ghost use Rattle.std.specs.List.Sorted.{IsStrictlySortedBy};
 ghost use Rattle.std.specs.Ordering.{nat_cmp};
 ghost use Rattle.dnsv_records.specs.Nsec3 as by_fields;
@@ -11,6 +11,7 @@ ghost use Rattle.dnsv_remedies.specs.declared.facts.name.UnusableFacts.{Unusable
 
 use crate::denials::has_signer;
 use dnsv_canonical::{Capture, RecordNumber, Rrset, in_canonical_order};
+use dnsv_denial::owner_hash;
 use dnsv_lines::WhyNsec3;
 use dnsv_names::{Name, RecordType};
 use dnsv_records::{HashAlgorithm, Iterations, Nsec3, base32hex_read};
@@ -88,14 +89,7 @@ fn push_unusable(
 fn is_in_front(owner: &Name, zone: &Name) -> bool
     ensures { IsTrue result ↔ IsInFront zone.now owner.now }
 {
-    let labels = owner.labels();
-    if labels == 0 {
-        return false;
-    }
-    if owner.suffix(labels - 1) != *zone {
-        return false;
-    }
-    base32hex_read(owner.label(0)).is_some()
+    owner_hash(owner, zone).is_some()
 }
 
 /// Why the record can't be used, if it is of no source; `is_hashed` is whether its owner is a hash in front of the zone.
@@ -124,13 +118,20 @@ fn is_source(is_hashed: bool, nsec3: &Nsec3<'_>) -> bool
 fn why_unusable(rrset: &Rrset<'_>, nsec3: &Nsec3<'_>) -> Option<WhyNsec3>
     ensures { MatchOption result ((why : WhyNsec3) → ¬ IsWhy rrset.now nsec3.now why) (IsWhy rrset.now nsec3.now) }
 {
-    if nsec3.parameters.iterations > Iterations::LIMIT {
+    if has_many_iterations(nsec3) {
         return Some(WhyNsec3::Iterations(nsec3.parameters.iterations));
     }
     if is_unusable(rrset, nsec3) {
         return Some(WhyNsec3::Unusable);
     }
     None
+}
+
+/// Whether the record asks for more iterations than this profile takes (RFC 5155 10.3).
+fn has_many_iterations(nsec3: &Nsec3<'_>) -> bool
+    ensures { IsTrue result ↔ (500 < nsec3.now.parameters.iterations.0) }
+{
+    nsec3.parameters.iterations > Iterations::LIMIT
 }
 
 /// Whether the record can't be used for another reason than its iterations.

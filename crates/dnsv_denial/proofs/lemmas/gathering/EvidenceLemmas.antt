@@ -84,7 +84,7 @@ any_right : {X : Type 0} (P : X → Type 0) (xs ys : List X) → Any P ys → An
 any_right P [] ys some = some
 any_right P (x ∷ xs) ys some = inr (any_right P xs ys some)
 
-all_to : {E : Type 0} (number : E → RecordNumber) (P : RecordNumber → Type 0) (xs : List E) → AllByRecursion (λ e. P (number e)) xs → AllByRecursion P (map number xs)
+pub all_to : {E : Type 0} (number : E → RecordNumber) (P : RecordNumber → Type 0) (xs : List E) → AllByRecursion (λ e. P (number e)) xs → AllByRecursion P (map number xs)
 all_to number P [] all = tt
 all_to number P (x ∷ xs) all = (all.0, all_to number P xs all.1)
 

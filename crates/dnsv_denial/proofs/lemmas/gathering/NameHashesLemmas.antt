@@ -9,13 +9,16 @@ use Rattle.std.specs.declared.cmp.Ordering.{Ordering}
 use Rattle.std.specs.declared.cmp.Ordering.TheVariants.{Less}
 use Rattle.dnsv_names.specs.Name.{Labels}
 use Rattle.dnsv_zones.specs.Any.{Any}
+use Rattle.dnsv_zones.specs.chains.Nsec3Chain.{Nsec3Record}
 use Rattle.dnsv_zones.specs.chains.Rdata.{parameters_of}
 use Rattle.dnsv_canonical.proofs.CanonicalLemmas.{IsMember, IsMember-from_contains, Contains-from_member}
 use Rattle.dnsv_canonical.specs.CanonicalRdata.{canonical_form}
-use Rattle.dnsv_canonical.specs.Evidence.{nsec3_rdata}
+use Rattle.dnsv_canonical.specs.Evidence.{AreParametersAmong, nsec3_rdata}
 use Rattle.dnsv_canonical.specs.Rrsets.{ReceivedRrset}
 use Rattle.dnsv_chain.specs.Trust.{KeptTrust, SecuredIn}
 use Rattle.dnsv_denial.specs.KeptHashes.{AreKeptHashes}
+use Rattle.dnsv_canonical.specs.declared.number.RecordNumber.{RecordNumber}
+use Rattle.dnsv_denial.specs.gathering.Evidence.{IsNsec3Of}
 use Rattle.dnsv_denial.specs.gathering.Kept.{AreSets, AreZones, IsViewOf}
 use Rattle.dnsv_denial.specs.words.EvidenceWords.{parameters_cmp}
 use Rattle.dnsv_denial.specs.declared.records.zone_records.NameHashes.{NameHashes}
@@ -53,7 +56,7 @@ among_all (first ∷ rest) (suc k) rrset rdata at is found =
     subst (λ xs. Contains xs rdata) (sym (flat_map-cons (λ (r : ReceivedRrset). if r.rtype == 50 then r.rdata else []) first rest))
     (Contains-append_right (if first.rtype == 50 then first.rdata else []) (nsec3_rdata rest) rdata (among_all rest k rrset rdata at is found))
 
-rising_at : {X K : Type 0} (f : X → K) (R : K → K → Ordering) (xs : List X) → IsStrictlySortedBy R (map f xs)
+pub rising_at : {X K : Type 0} (f : X → K) (R : K → K → Ordering) (xs : List X) → IsStrictlySortedBy R (map f xs)
     → (i j : ℕ) (a b : X) → slice_get xs i ≡ Some a → slice_get xs j ≡ Some b → i < j → R (f a) (f b) ≡ Less
 unfolding IsStrictlySortedBy
 rising_at f R [] rising i j a b at_i at_j less = cc
@@ -63,6 +66,17 @@ rising_at f R (x ∷ xs) rising zero (suc j) a b at_i at_j less =
     subst (λ y. R (f y) (f b) ≡ Less) is (each_at (λ y. R (f x) y ≡ Less) (map f xs) j (f b) rising.0 (mapped_at f xs j b at_j))
 rising_at f R (x ∷ xs) rising (suc i) (suc j) a b at_i at_j less = rising_at f R xs rising.1 i j a b at_i at_j (omega (arith, less))
 
+-- a usable record's parameters are among those of the evidence
+pub used_parameters : (rrsets : List ReceivedRrset) (zone : Labels) (n : RecordNumber) (nsec3 : Nsec3Record) (is : IsNsec3Of rrsets zone n nsec3)
+    → AreParametersAmong (nsec3_rdata rrsets) is.fields.parameters
+used_parameters rrsets zone n nsec3 is =
+    let forms : map (canonical_form is.rrset.rtype) is.rrset.rdata ≡ is.rrset.rdata =
+    ap (λ t. map (canonical_form t) is.rrset.rdata) is.rtype ∙ nsec3_forms is.rrset.rdata in
+    let canonical : Contains is.at.canonical is.rdata = Contains-from_member is.at.canonical is.rdata (member_at is.at.canonical (n.place - 1) is.rdata is.at.is_rdata.1) in
+    let received : Contains is.rrset.rdata is.rdata = subst (λ xs. Contains xs is.rdata) forms ((is.at.is_canonical.members is.rdata).0 canonical) in
+    let among : Contains (nsec3_rdata rrsets) is.rdata = among_all rrsets (n.rrset - 1) is.rrset is.rdata is.at.is_rrset.1 is.rtype received in
+    (is.rdata, among, (is.fields, is.read, is.usable, refl))
+
 pub are_sets : (Secured : ℕ → ℕ → Type 0) (rrsets : List ReceivedRrset) (name : Labels) (sets : List NameHashes)
     → AreKeptHashes rrsets name sets → AreSets Secured rrsets sets
 are_sets Secured rrsets name sets kept = record {
@@ -71,13 +85,8 @@ are_sets Secured rrsets name sets kept = record {
       (mapped_at (λ (set : NameHashes). set.parameters.now) sets i a at_i) (mapped_at (λ (set : NameHashes). set.parameters.now) sets j b at_j) less;
   all = λ zone n nsec3 at.
       let is = at.is in
-      let forms : map (canonical_form is.rrset.rtype) is.rrset.rdata ≡ is.rrset.rdata =
-      ap (λ t. map (canonical_form t) is.rrset.rdata) is.rtype ∙ nsec3_forms is.rrset.rdata in
-      let canonical : Contains is.at.canonical is.rdata = Contains-from_member is.at.canonical is.rdata (member_at is.at.canonical (n.place - 1) is.rdata is.at.is_rdata.1) in
-      let received : Contains is.rrset.rdata is.rdata = subst (λ xs. Contains xs is.rdata) forms ((is.at.is_canonical.members is.rdata).0 canonical) in
-      let among : Contains (nsec3_rdata rrsets) is.rdata = among_all rrsets (n.rrset - 1) is.rrset is.rdata is.at.is_rrset.1 is.rtype received in
       let found : Contains (map (λ (set : NameHashes). set.parameters.now) sets) is.fields.parameters =
-      (kept.members is.fields.parameters).1 (is.rdata, among, (is.fields, is.read, is.usable, refl)) in
+      (kept.members is.fields.parameters).1 (used_parameters rrsets zone n nsec3 is) in
       any_leads (λ (set : NameHashes). set.parameters.now ≡ is.fields.parameters) (λ (set : NameHashes). parameters_of set.parameters.now ≡ nsec3.parameters) sets
       (λ set same. ap parameters_of same ∙ sym is.parameters)
       (any_member (λ (set : NameHashes). set.parameters.now) sets is.fields.parameters

@@ -1,7 +1,7 @@
 -- All places where something is said.
-use Rattle.std.proofs.Common.{◌≡◌, ◌⊎◌, Bool, ℕ, zero, suc, ◌+◌, ◌<◌, ◌≤◌, List, [], ◌∷◌, ◌++◌, length, refl, sym, ap, ◌∙◌, subst, inl, inr, ⊎_elim, arith}
+use Rattle.std.proofs.Common.{◌≡◌, ◌⊎◌, Bool, ℕ, zero, suc, ◌+◌, ◌<◌, ◌≤◌, List, [], ◌∷◌, ◌++◌, length, get_or, refl, sym, ap, ◌∙◌, subst, inl, inr, ⊎_elim, arith}
 use Rattle.std.proofs.lemmas.Bool.{cases_lt}
-use Rattle.std.proofs.lemmas.List.Elements.{Contains-append_left, Contains-push, Contains-push_cases, recursion_from_All}
+use Rattle.std.proofs.lemmas.List.Elements.{Contains-append_left, Contains-get_or, Contains-push, Contains-push_cases, recursion_from_All}
 use Rattle.std.proofs.lemmas.Option.{slice_get-get_or, slice_get_within, get_or_from_slice_get}
 use Rattle.std.specs.Cmp.{nat_cmp_is}
 use Rattle.std.specs.List.{AllByRecursion}
@@ -70,7 +70,7 @@ module _ {X : Type 0} (Says : X → Type 0) (xs : List X) where
   pub one_more : (n : ℕ) (x : X) (places : List ℕ) → slice_get xs n ≡ Some x → Says x → AreAllTo n places → AreAllTo (n + 1) (places ++ n ∷ [])
   one_more n x places there says are = record {
     rising = rising_push places n are.rising (recursion_from_All (λ place. nat_cmp place n ≡ Less) places
-        (λ k d within. let it = (are.members _).0 (k, within, refl) in sym (nat_cmp_is _ n Less it.0)));
+        (λ k d within. let it = (are.members (get_or places k d)).0 (Contains-get_or places k d within) in sym (nat_cmp_is (get_or places k d) n Less it.0)));
     members = λ place. (
       λ among. ⊎_elim
           (λ (before : Contains places place). let it = (are.members place).0 before in (omega (arith, it.0), it.1))

@@ -8,7 +8,15 @@ pub loop-count-init : goal.loop-count-init
 loop-count-init c = none_yet (asking c.args.question.now) c.args.labels c.args.owner.now (c.args.labels + 1) (omega arith)
 
 pub returns-then-is_known_above : goal.returns-then-is_known_above
-returns-then-is_known_above c = ?
+returns-then-is_known_above c = (
+  λ yes. record {
+    count = c.loop-count.count;
+    more = omega (arith, c.loop-count.auto.count);
+    within = omega (arith, c.loop-count-test.true, c.labels-count-end.ensures.count);
+    is = c.is_known_above.ensures.0 c.if-is_known_above.true;
+  },
+  λ has. refl,
+)
 
 pub loop-count-preserved : goal.loop-count-preserved
 loop-count-preserved c =
@@ -18,5 +26,6 @@ loop-count-preserved c =
 pub returns : goal.returns
 returns c = (
   λ yes. absurd (false≢true yes),
-  λ has. absurd (none_all (asking c.args.question.now) c.args.labels c.args.owner.now c.loop-count.count ? c.loop-count.invariant has),
+  λ has. absurd (none_all (asking c.args.question.now) c.args.labels c.args.owner.now c.loop-count.count
+      (omega (arith, c.loop-count-test.false, c.labels-count-end.ensures.count)) c.loop-count.invariant has),
 )

@@ -1,4 +1,4 @@
-use Rattle.std.proofs.Common.{◌↔◌, IsTrue, subst, sym, ◌∙◌}
+use Rattle.std.proofs.Common.{◌≡◌, ◌↔◌, IsTrue, not, subst, sym, ◌∙◌}
 use Rattle.std.proofs.lemmas.Bool.{false≢true}
 use Rattle.dnsv_names.specs.Name.{IsAtOrBelow, Labels}
 use Rattle.dnsv_gaps.specs.Asking.{asking}
@@ -25,14 +25,15 @@ returns-then-not-is_at_or_below c =
 pub returns : goal.returns
 returns c =
     let a = asking c.args.question.now in
-    let owner = c.owner.result.now in
-    let Of : Labels → Type 0 = λ zone. IsTrue c.result ↔ IsStrayOf a zone c.args.rrset.now in
+    let owner = c.owner-2.result.now in
+    let first : c.owner.result.now ≡ owner = c.owner.ensures ∙ sym c.owner-2.ensures in
+    let Of : Labels → Type 0 = λ zone. IsTrue (not c.has_known_between.result) ↔ IsStrayOf a zone c.args.rrset.now in
     let At : Labels → Type 0 = λ zone. IsAtOrBelow owner zone in
     subst Of (sym c.requires.zone) (
-      λ yes. stray_of a c.args.labels c.requires.within owner c.args.rrset.now (sym c.owner.ensures)
+      λ yes. stray_of a c.args.labels c.requires.within owner c.args.rrset.now (sym c.owner-2.ensures)
           (c.is_stray.ensures.0 c.if-not-is_stray.false)
-          (subst At c.requires.zone (c.is_at_or_below.ensures.at_or_below.0 c.if-not-is_at_or_below.false))
+          (subst At c.requires.zone (subst (λ (o : Labels). IsAtOrBelow o c.args.zone.now) first (c.is_at_or_below.ensures.at_or_below.0 c.if-not-is_at_or_below.false)))
           (not_so c.has_known_between.result (HasKnownBetween a c.args.labels owner) c.has_known_between.ensures yes),
       λ is. so_not c.has_known_between.result (HasKnownBetween a c.args.labels owner) c.has_known_between.ensures
-          (stray_not_between a c.args.labels c.requires.within owner c.args.rrset.now (sym c.owner.ensures) is),
+          (stray_not_between a c.args.labels c.requires.within owner c.args.rrset.now (sym c.owner-2.ensures) is),
     )

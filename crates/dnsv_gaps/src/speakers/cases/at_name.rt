@@ -1,6 +1,9 @@
 //! What records at a name say of the type that is asked for.
 ghost use Rattle.std.specs.FinSet as set;
-ghost use Rattle.std.specs.Prelude.{◌≡◌, IfOk};
+ghost use Rattle.std.specs.Prelude.{◌≡◌, ◌<◌, IfOk};
+ghost use Rattle.std.specs.List.{AllByRecursion, AllZip};
+ghost use Rattle.dnsv_denial.specs.proving.Numbers.{record_count};
+ghost use Rattle.dnsv_gaps.specs.CaseSearch.{IsHeldBy};
 ghost use Rattle.dnsv_denial.specs.words.Asked.{IsWithin, asked_name};
 ghost use Rattle.dnsv_verdict.specs.Case.{basis_by};
 ghost use Rattle.dnsv_zones.specs.chains.NsecChain.{IsInBitmap};
@@ -9,7 +12,7 @@ ghost use Rattle.dnsv_gaps.specs.SourceSearch.{IsSourceIn, said_in};
 
 use crate::asked::AskedQuestion;
 use crate::sources::ZoneSource;
-use crate::sources::saying::facts_saying;
+use crate::sources::saying::{facts_saying, has_saying};
 use dnsv_canonical::RecordNumber;
 use dnsv_denial::{AskedName, AskedTypes, AskedWord, places_saying};
 use dnsv_lines::WhySource;
@@ -31,15 +34,15 @@ pub fn records_at(
         (asked_name question.now.name.now name) question.now.rtype.0) }
 {
     let word = AskedWord::Types(AskedTypes::Without(question.rtype));
-    let denying = facts_saying(alloc, question, source, name, word)?;
-    if !denying.is_empty() {
+    let denies = has_saying(alloc, question, source, name, word)?;
+    if denies {
+        let denying = facts_saying(alloc, question, source, name, word)?;
         return Ok(RecordsAt::Denying(denying));
     }
     let word = AskedWord::Types(AskedTypes::Any);
-    Ok(RecordsAt::Holding(HoldingFacts {
-        rrsets: facts_saying(alloc, question, source, name, word)?,
-        held: held_at(alloc, question, source, name)?,
-    }))
+    let rrsets = facts_saying(alloc, question, source, name, word)?;
+    let held = held_at(alloc, question, source, name)?;
+    Ok(RecordsAt::Holding(HoldingFacts { rrsets, held }))
 }
 
 /// What is in the way in each record at the name, by their numbers.
@@ -56,12 +59,33 @@ fn held_at(
 {
     let word = AskedWord::Types(AskedTypes::Any);
     let places = places_saying(alloc, question.name, name, word, &source.records)?;
+    Ok(held_by_each(alloc, source, question.rtype, &places)?)
+}
+
+/// What is in the way in the records at the places.
+fn held_by_each(
+    alloc: Global,
+    source: &ZoneSource<'_>,
+    rtype: RecordType,
+    places: &[usize],
+) -> Result<Vec<WhySource>, AllocError>
+    requires { AllByRecursion (λ place. place < record_count source.now.records) places.now }
+    ensures { IfOk result (λ told. AllZip (IsHeldBy source.now rtype.0) places.now told.items) }
+{
     let mut told = Vec::with_capacity(alloc, places.len())?;
-    for place in &places {
-        let held = held(source.records.types(*place), question.rtype);
-        told.push(why_held(source.records.number(*place), held))?;
+    for place in places {
+        told.push(held_by(source, rtype, *place))?;
     }
     Ok(told)
+}
+
+/// What is in the way in the record at the place.
+fn held_by(source: &ZoneSource<'_>, rtype: RecordType, place: usize) -> WhySource
+    requires { place < record_count source.now.records }
+    ensures { IsHeldBy source.now rtype.0 place result }
+{
+    let records = &source.records;
+    why_held(records.number(place), held(records.types(place), rtype))
 }
 
 /// The first that is among the types: the one asked, or CNAME; where DS is asked, SOA.

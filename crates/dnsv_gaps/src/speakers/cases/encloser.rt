@@ -26,16 +26,21 @@ pub fn encloser_case(
     ensures { IfOk result (IsSourceCase (basis_by question.now.facts.now) (said_in question.now source.now)
         (zone_in question.now source.now.labels) question.now.name.now question.now.rtype.0) }
 {
+    // A name has at most 127 labels.
+    let _ = question.name.labels();
     let Some(labels) = longest_shown(question, source) else {
         return Ok(SourceCase::NoEncloser);
     };
     let next = AskedName::Above(labels + 1);
+    let shown = showing(alloc, question, source, labels)?;
+    let covers = facts_saying(alloc, question, source, next, AskedWord::Covered)?;
+    let wildcard = wildcard_facts(alloc, question, source, labels)?;
     Ok(SourceCase::Encloser(EncloserFacts {
         name: labels,
         next: labels + 1,
-        shown: showing(alloc, question, source, labels)?,
-        covers: facts_saying(alloc, question, source, next, AskedWord::Covered)?,
-        wildcard: wildcard_facts(alloc, question, source, labels)?,
+        shown,
+        covers,
+        wildcard,
     }))
 }
 
@@ -83,7 +88,8 @@ fn showing(
         return Ok(Vec::new(alloc));
     }
     let name = AskedName::Above(labels);
-    facts_saying(alloc, question, source, name, AskedWord::Encloser)
+    let word = AskedWord::Encloser;
+    Ok(facts_saying(alloc, question, source, name, word)?)
 }
 
 /// What is said of the wildcard right below them.
@@ -99,19 +105,20 @@ fn wildcard_facts(
         (rightmost question.now.name.now (labels + 1)) (wildcard_of (rightmost question.now.name.now labels))
         question.now.rtype.0) }
 {
+    // A name has at most 127 labels.
+    let _ = question.name.labels();
     let next = AskedName::Above(labels + 1);
-    if has_saying(alloc, question, source, next, AskedWord::OptedOut)? {
+    let word = AskedWord::OptedOut;
+    let opts_out = has_saying(alloc, question, source, next, word)?;
+    if opts_out {
         return Ok(WildcardFacts::OptedOut);
     }
     let wildcard = AskedName::Wildcard(labels);
-    if has_saying(
-        alloc,
-        question,
-        source,
-        wildcard,
-        AskedWord::Types(AskedTypes::Any),
-    )? {
-        return Ok(WildcardFacts::At(records_at(alloc, question, source, wildcard)?));
+    let word = AskedWord::Types(AskedTypes::Any);
+    let is_there = has_saying(alloc, question, source, wildcard, word)?;
+    if is_there {
+        let records = records_at(alloc, question, source, wildcard)?;
+        return Ok(WildcardFacts::At(records));
     }
     let covers = facts_saying(alloc, question, source, wildcard, AskedWord::RuledOut)?;
     Ok(WildcardFacts::Covered(covers))
