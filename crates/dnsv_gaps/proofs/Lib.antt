@@ -2,6 +2,7 @@ pub mod AnswerLemmas
 pub mod CaseLemmas
 pub mod DenialLemmas
 pub mod PartLemmas
+pub mod QuestionLemmas
 pub mod RisingLemmas
 pub mod SayingLemmas
 pub mod SignerLemmas

@@ -1,5 +1,5 @@
 -- What a source of a zone says of a question: the first case that is so (RFC 4035 5.4, RFC 5155 8.3 to 8.7, RFC 6840 4.1).
-use Rattle.std.specs.Prelude.{⊤, ◌≡◌, ◌≢◌, ◌⊎◌, ◌↔◌, ◌+◌, ◌<◌, ℕ, IsTrue, List, [], ◌∷◌, Option, Some, None, Vec, Global, Contains, length}
+use Rattle.std.specs.Prelude.{⊤, ◌≡◌, ◌≢◌, ◌⊎◌, ◌↔◌, ◌+◌, ◌<◌, ℕ, IsTrue, List, [], ◌∷◌, Option, Some, None, Contains, length}
 use Rattle.std.specs.List.{AllZip}
 use Rattle.std.specs.List.Sorted.{IsStrictlySortedBy}
 use Rattle.std.specs.declared.cmp.Ordering.TheVariants.{Less}

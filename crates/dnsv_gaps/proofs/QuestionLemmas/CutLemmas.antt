@@ -21,7 +21,7 @@ use Rattle.dnsv_remedies.specs.declared.facts.cut.ParentFacts.{ParentFacts}
 use Rattle.dnsv_gaps.specs.Asking.{Asking, asking}
 use Rattle.dnsv_gaps.specs.SourceSearch.{AreHeldSources, chain_of, held_chain, zone_in}
 use Rattle.dnsv_gaps.specs.Sources.{source_said}
-use Rattle.dnsv_gaps.specs.questions.Cuts.{AreCutFacts, AreParentFacts, AreParents, IsNext, IsNextZone, IsOptedOutBySome, IsParent, IsSeen, IsShown, IsTypedBySome, HasGoal, HasOptOut, IsCutCase, IsDsFromAbove, IsSeenHere, IsThere, lowest_cut}
+use Rattle.dnsv_gaps.specs.questions.Cuts.{AreCutFacts, AreParentFacts, AreParents, IsNext, IsNextZone, IsOptedOutBySome, IsParent, IsSeen, IsShown, IsTypedBySome, HasGoal, HasOptOut, IsCutCase, IsDsFromAbove, IsSeenHere, IsSeenUnsigned, IsThere, lowest_cut}
 use Rattle.dnsv_gaps.specs.questions.CutSearch.{HasOneFromAbove, IsCaseOfCut, IsFirstSeen, IsSaidByOne}
 use Rattle.dnsv_gaps.specs.declared.asked.AskedQuestion.{AskedQuestion}
 use Rattle.dnsv_gaps.specs.declared.sources.HeldSource.{HeldSource}
@@ -166,6 +166,39 @@ not_here a zone next cut ns soa typed out (inl has) = ns has
 not_here a zone next cut ns soa typed out (inr (inl has)) = soa has
 not_here a zone next cut ns soa typed out (inr (inr (inl is))) = typed is
 not_here a zone next cut ns soa typed out (inr (inr (inr is))) = out is
+
+-- a name that is seen, by whether it is the known zone next below
+module _ (a : Asking) (zone : Labels) (c : ℕ) where
+  pub seen_alone : (next : Option ℕ) → next ≡ None → IsSeenHere a zone next (rightmost a.name c) ↔ IsSeen a zone next c
+  seen_alone None none = (λ here. here, λ seen. seen)
+  seen_alone (Some n) none = absurd (cc none)
+
+  pub seen_above : (next : Option ℕ) (n : ℕ) → next ≡ Some n → c < n → IsSeenHere a zone next (rightmost a.name c) ↔ IsSeen a zone next c
+  seen_above None n some less = absurd (cc some)
+  seen_above (Some m) n some less =
+      let same : m ≡ n = cc some in (
+        λ here. inl (omega (arith, less, same), here),
+        λ seen. ⊎_elim (λ (is : (c < m) × IsSeenHere a zone (Some m) (rightmost a.name c)). is.1)
+            (λ (is : (c ≡ m) × IsSeenUnsigned a zone (rightmost a.name c)). let at = is.0 in absurd (omega (arith, less, same, at))) seen,
+      )
+
+  pub seen_beyond : (next : Option ℕ) (n : ℕ) → next ≡ Some n → n < c → ¬ IsSeen a zone next c
+  seen_beyond None n some more seen = cc some
+  seen_beyond (Some m) n some more (inl is) = let same : m ≡ n = cc some in let at = is.0 in absurd (omega (arith, more, same, at))
+  seen_beyond (Some m) n some more (inr is) = let same : m ≡ n = cc some in let at = is.0 in absurd (omega (arith, more, same, at))
+
+  pub seen_next : (next : Option ℕ) (n : ℕ) → next ≡ Some n → n ≤ c → c ≤ n → IsSeenUnsigned a zone (rightmost a.name c) ↔ IsSeen a zone next c
+  seen_next None n some more less = absurd (cc some)
+  seen_next (Some m) n some more less =
+      let same : m ≡ n = cc some in (
+        λ here. inr (let at : c ≡ m = omega (arith, more, less, same) in at, here),
+        λ seen. ⊎_elim (λ (is : (c < m) × IsSeenHere a zone (Some m) (rightmost a.name c)). let at = is.0 in absurd (omega (arith, more, same, at)))
+            (λ (is : (c ≡ m) × IsSeenUnsigned a zone (rightmost a.name c)). is.1) seen,
+      )
+
+-- one test and the other
+pub by_both : (b : Bool) (P Q : Type 0) → (IsTrue b ↔ P) → (P ↔ Q) → IsTrue b ↔ Q
+by_both b P Q test same = (λ yes. same.0 (test.0 yes), λ is. test.1 (same.1 is))
 
 -- something may answer, by its type or as an alias
 pub a_goal_of_type : (a : Asking) → HasRrset a.basis.rrsets a.name a.rtype → HasGoal a

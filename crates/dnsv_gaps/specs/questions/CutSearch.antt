@@ -1,13 +1,12 @@
 -- How names that may be unsigned delegations are looked for. No public clause cites this module.
 use Rattle.std.specs.Prelude.{◌≡◌, ◌-◌, ◌≤◌, ◌<◌, ℕ, Bool, if◌then◌else◌, List, Contains, Option, Some, None, length}
-use Rattle.std.specs.Ordering.{nat_cmp}
 use Rattle.dnsv_names.specs.Name.{Labels, rightmost}
 use Rattle.dnsv_names.specs.Order.{IsBelow}
 use Rattle.dnsv_records.specs.declared.rrsig.Rrsig.{Rrsig}
 use Rattle.dnsv_zones.specs.forms.Parts.{IsFirstToSay}
 use Rattle.dnsv_zones.specs.zones.TypeNumbers.{ds, soa}
 use Rattle.dnsv_canonical.specs.declared.number.RecordNumber.{RecordNumber}
-use Rattle.dnsv_denial.specs.proving.Numbers.{record_count}
+use Rattle.dnsv_denial.specs.proving.Numbers.{number_at, numbers_of, record_count}
 use Rattle.dnsv_denial.specs.words.Asked.{asked_name, said_word}
 use Rattle.dnsv_denial.specs.words.ChainSaid.{chain_said}
 use Rattle.dnsv_denial.specs.declared.words.asked.AskedName.{AskedName}
@@ -16,6 +15,8 @@ use Rattle.dnsv_denial.specs.declared.words.asked.AskedWord.{AskedWord}
 use Rattle.dnsv_denial.specs.declared.words.asked.AskedWord.TheVariants as word
 use Rattle.dnsv_remedies.specs.declared.facts.cut.CutCase.{CutCase}
 use Rattle.dnsv_gaps.specs.Asking.{Asking, IsAsked, asking}
+use Rattle.dnsv_denial.specs.words.EvidenceWords.{number_cmp}
+use Rattle.dnsv_gaps.specs.Cases.{IsAt}
 use Rattle.dnsv_gaps.specs.questions.Cuts.{HasOptOut, IsCutCase, IsNext, IsSeen, IsShown, lowest_cut}
 use Rattle.dnsv_gaps.specs.SourceSearch.{AreHeldSources, chain_of, held_chain, said_in, zone_in}
 use Rattle.dnsv_gaps.specs.Sources.{source_said}
@@ -51,11 +52,11 @@ abbrev pub IsFirstSeen : Asking → ℕ → Option ℕ → Option ℕ → Type 0
 IsFirstSeen a zone next None = (c : ℕ) → zone < c → c ≤ lowest_cut a → ¬ IsSeen a (rightmost a.name zone) next c
 IsFirstSeen a zone next (Some shown) = (zone < shown) × (shown ≤ lowest_cut a) × IsShown a zone next shown
 
--- the first of the records of the source at the name with c labels stands at the place
+-- the record at the place is at the name with c labels, and has the lowest number of those of the source that are
 pub record IsLowestPlace (question : AskedQuestion) (source : ZoneSource) (c place : ℕ) : Type 0 where
   pub within : place < record_count source.records
-  pub first : IsFirstToSay nat_cmp (said_word (chain_said (zone_in question source.labels) source.records) (word.Types types.Any)
-      (rightmost question.name.now c)) place
+  pub at : said_word (chain_said (zone_in question source.labels) source.records) (word.Types types.Any) (rightmost question.name.now c) place
+  pub lowest : IsFirstToSay number_cmp (IsAt (said_in question source) (rightmost question.name.now c)) (number_at (numbers_of source.records) place)
 
 -- DS, where it is there; else SOA
 abbrev pub held_instead : (ℕ → Bool) → ℕ
