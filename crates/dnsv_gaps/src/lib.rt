@@ -5,8 +5,6 @@
 #![tactic(auto)]
 
 pub use asked::AskedQuestion;
-pub use question::question_facts;
-pub use sources::{HeldSource, ZoneDenials, ZoneSource, sources_of, zone_denials};
 pub use speakers::speaker_facts;
 
 mod asked;
