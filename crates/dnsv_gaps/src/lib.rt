@@ -5,6 +5,7 @@
 #![tactic(auto)]
 
 pub use asked::AskedQuestion;
+pub use question::question_facts;
 pub use speakers::speaker_facts;
 
 mod asked;
