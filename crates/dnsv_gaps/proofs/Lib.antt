@@ -1,0 +1,12 @@
+pub mod AnswerLemmas
+pub mod CaseLemmas
+pub mod DenialLemmas
+pub mod PartLemmas
+pub mod QuestionLemmas
+pub mod RisingLemmas
+pub mod SayingLemmas
+pub mod SignerLemmas
+pub mod SourceLemmas
+pub mod SpeakerLemmas
+pub mod UnusableLemmas
+pub mod ZoneLemmas

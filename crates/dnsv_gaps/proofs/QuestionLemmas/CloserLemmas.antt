@@ -1,0 +1,177 @@
+-- What wildcards' signatures ask for beside them.
+use Rattle.std.proofs.Common.{◌≡◌, ◌↔◌, ◌⊎◌, ◌&&◌, ◌+◌, ◌-◌, ◌<◌, ◌≤◌, ◌==◌, ℕ, Bool, true, false, inl, inr, ⊎_elim, List, [], ◌∷◌, ◌++◌, Option, Some, None, if◌then◌else◌, length, get_or, map, take, refl, sym, ap, ◌∙◌, subst, arith, IsTrue}
+use Rattle.std.proofs.lemmas.Bool.{and_from, and_parts, eqb-true, false≢true}
+use Rattle.std.proofs.lemmas.Cmp.{nat_cmp_total, nat_eq_equiv, on_total, then_total}
+use Rattle.std.proofs.lemmas.List.Elements.{All-contains, All-from_recursion, Contains-append_cases, Contains-append_left, Contains-append_right, Contains-get_or}
+use Rattle.std.proofs.lemmas.List.Kept.{Contains-dedup, Contains-from_dedup, IsStrictlySortedBy-dedup}
+use Rattle.std.proofs.lemmas.List.Sorted.{Contains-permutation, IsPermutation-sym}
+use Rattle.std.proofs.lemmas.Option.{slice_get-get_or, slice_get_within}
+use Rattle.std.specs.Cmp.{IsEquivalence, IsTotalOrder, unsigned_ties}
+use Rattle.std.specs.Cmp.Derive.{on_tied, then_tied, tie}
+use Rattle.std.specs.List.{AllByRecursion, AllZip, Contains, dedup}
+use Rattle.std.specs.List.Sorted.{IsPermutation, IsSorted, IsStrictlySortedBy}
+use Rattle.std.specs.Option.{is_some}
+use Rattle.std.specs.Ordering.{eq_by_cmp, nat_cmp}
+use Rattle.std.specs.Prelude.{MatchOption, nat_eq, not, slice_get}
+use Rattle.dnsv_names.specs.Name.{IsAtOrBelow, Labels, SameName, rightmost}
+use Rattle.dnsv_names.specs.Tree.{is_wildcard}
+use Rattle.dnsv_names.specs.Tree.TreeLaws.{at_or_below_length, same_labels}
+use Rattle.dnsv_records.specs.Rrsig.{IsRrsig}
+use Rattle.dnsv_records.specs.declared.rrsig.Rrsig.{Rrsig}
+use Rattle.dnsv_zones.specs.chains.Nsec3Chain.{Nsec3Record, Parameters}
+use Rattle.dnsv_zones.specs.chains.NsecChain.{NsecRecord}
+use Rattle.dnsv_canonical.specs.Rrsets.{IsNumbered, ReceivedRrset}
+use Rattle.dnsv_canonical.specs.SignedData.{IsExpanded, signed_label_count}
+use Rattle.dnsv_canonical.specs.declared.number.RecordNumber.{RecordNumber}
+use Rattle.dnsv_canonical.proofs.OrderLemmas.{zip_at}
+use Rattle.dnsv_chain.proofs.ZipLemmas.{zip_at as pairs_at, zip_length}
+use Rattle.dnsv_records.proofs.OneRecord.{one_rrsig}
+use Rattle.dnsv_verifier.specs.Admissible.{IsSignatureOf}
+use Rattle.dnsv_chain.specs.Trust.{KeptTrust, SecuredIn}
+use Rattle.dnsv_chain.specs.Trusted.{IsSecured}
+use Rattle.dnsv_denial.specs.proving.FirstProof.{CanProveNoCloser}
+use Rattle.dnsv_denial.specs.words.EvidenceWords.{Chain, number_cmp}
+use Rattle.dnsv_denial.specs.words.EvidenceWords.Chain.{ByNsec, ByNsec3}
+use Rattle.dnsv_mending.specs.declared.facts.signature.RrsetFacts.{RrsetFacts}
+use Rattle.dnsv_verdict.specs.Case.{CaseContents, HasTrust, basis_by}
+use Rattle.dnsv_verdict.specs.Verdict.{Basis}
+use Rattle.dnsv_verdict.proofs.SettledLemmas.EvidenceLemmas.{no_closer_can_to}
+use Rattle.dnsv_verifier.specs.Asking.{AddsJust}
+use Rattle.dnsv_faults.specs.Signatures.{IsSignatureAt}
+use Rattle.dnsv_gaps.specs.Asking.{Asking, asking}
+use Rattle.dnsv_gaps.specs.Parts.{AreFactsOf, HasSuch}
+use Rattle.dnsv_gaps.specs.Sources.{HasRecords, IsSourceNsec, IsSourceNsec3, source_said}
+use Rattle.dnsv_gaps.specs.questions.Closers.{IsCloserDenied}
+
+-- ---- signatures
+
+-- the signature at a place has the next number
+pub signature_at : (rrset : ReceivedRrset) (signatures : List Rrsig) (number : ℕ) (rrsig : Rrsig) → AllZip IsRrsig rrset.signatures signatures
+    → 1 ≤ number → number ≤ length signatures → rrsig ≡ get_or signatures (number - 1) rrsig → IsSignatureAt rrset number rrsig
+signature_at rrset signatures number rrsig read from within at =
+    let there : slice_get signatures (number - 1) ≡ Some rrsig =
+    slice_get-get_or signatures (number - 1) rrsig (omega (arith, from, within)) ∙ ap (λ y. Some y) (sym at) in
+    let own = zip_at IsRrsig rrset.signatures signatures (number - 1) rrsig read there in
+    record { rdata = own.0; numbered = (from, own.1); is = own.2 }
+
+-- a number of a signature is in range
+pub in_range : (rrset : ReceivedRrset) (signatures : List Rrsig) (number : ℕ) (rrsig : Rrsig) → AllZip IsRrsig rrset.signatures signatures
+    → IsSignatureAt rrset number rrsig → (1 ≤ number) × (number ≤ length signatures)
+in_range rrset signatures number rrsig read its =
+    let size = zip_length IsRrsig rrset.signatures signatures read in
+    let from = its.numbered.0 in
+    let within = slice_get_within rrset.signatures (number - 1) its.rdata its.numbered.1 in
+    (from, omega (arith, size, from, within))
+
+-- what is read of the signatures of an RRset
+module _ (rrset : ReceivedRrset) (rrsigs : List Rrsig) (each : AllZip IsRrsig rrset.signatures rrsigs) where
+  pub signature_read : (rrsig : Rrsig) → Contains rrsigs rrsig → IsSignatureOf rrset rrsig
+  signature_read rrsig there =
+      let size = zip_length IsRrsig rrset.signatures rrsigs each in
+      let within = there.1 in
+      let inside : there.0 < length rrset.signatures = omega (arith, size, within) in (
+        get_or rrset.signatures there.0 [],
+        Contains-get_or rrset.signatures there.0 [] inside,
+        subst (λ (r : Rrsig). IsRrsig (get_or rrset.signatures there.0 []) r) there.2
+            (pairs_at IsRrsig rrset.signatures rrsigs there.0 [] rrsig each inside),
+      )
+
+  pub signature_among : (rrsig : Rrsig) → IsSignatureOf rrset rrsig → Contains rrsigs rrsig
+  signature_among rrsig its =
+      let size = zip_length IsRrsig rrset.signatures rrsigs each in
+      let k : ℕ = its.1.0 in
+      let within : k < length rrset.signatures = its.1.1 in
+      let there : IsRrsig its.0 (get_or rrsigs k rrsig) =
+      subst (λ (rdata : List ℕ). IsRrsig rdata (get_or rrsigs k rrsig)) its.1.2
+      (pairs_at IsRrsig rrset.signatures rrsigs k its.0 rrsig each within) in
+      (k, omega (arith, size, within), sym (one_rrsig its.0 rrsig (get_or rrsigs k rrsig) its.2 there))
+
+counted_by : (b : Bool) (n : ℕ) → (if b then n - 1 else n) ≤ n
+counted_by true n = omega arith
+counted_by false n = omega arith
+
+-- an expanded RRset has more labels than its signature counts
+pub fewer_counted : (name owner : Labels) (rrsig : Rrsig) → SameName owner name → IsExpanded owner rrsig → rrsig.labels < length name
+fewer_counted name owner rrsig same expanded =
+    let size = same_labels owner name same in
+    let counted : signed_label_count owner ≤ length owner = counted_by (is_wildcard owner) (length owner) in
+    omega (arith, size, counted, expanded)
+
+-- ---- what is proved against closer names
+
+module _ (case : CaseContents) (trust : HasTrust case) (name : Labels) (labels : ℕ) (zone : Labels) where
+  abbrev Secured : ℕ → ℕ → Type 0
+  Secured = IsSecured (basis_by case).meaning (basis_by case).moment case.rrsets case.anchors
+
+  pub denied_by_trust : CanProveNoCloser Secured case.rrsets name labels zone → CanProveNoCloser (SecuredIn case.trust) case.rrsets name labels zone
+  denied_by_trust = no_closer_can_to Secured (SecuredIn case.trust) (λ k s secured. ((trust.signed k).members s).1 secured) case.rrsets case.rrsets
+      (λ k rrset is. is) name labels zone
+
+  pub denied_from_trust : CanProveNoCloser (SecuredIn case.trust) case.rrsets name labels zone → CanProveNoCloser Secured case.rrsets name labels zone
+  denied_from_trust = no_closer_can_to (SecuredIn case.trust) Secured (λ k s secured. ((trust.signed k).members s).0 secured) case.rrsets case.rrsets
+      (λ k rrset is. is) name labels zone
+
+-- no proof is found just where nothing is proved, by the trust or as it is told
+pub none_proved : {Proof : Type 0} (found : Option Proof) (b : Bool) (Can Denied : Type 0) (Is : Proof → Type 0) → (Can → Denied) → (Denied → Can)
+    → ((proof : Proof) → Is proof → Can) → MatchOption found (¬ Can) Is → is_some found ≡ not b → IsTrue b ↔ (¬ Denied)
+none_proved None true Can Denied Is to from shows none test = (λ yes denied. none (from denied), λ never. refl)
+none_proved None false Can Denied Is to from shows none test = absurd (false≢true test)
+none_proved (Some proof) true Can Denied Is to from shows first test = absurd (false≢true (sym test))
+none_proved (Some proof) false Can Denied Is to from shows first test =
+    (λ yes. absurd (false≢true yes), λ never. absurd (never (to (shows proof first))))
+
+-- ---- numbers of records in their order
+
+pub number_cmp_total : IsTotalOrder number_cmp
+number_cmp_total = then_total (on_total (λ (n : RecordNumber). n.rrset) nat_cmp_total) (on_total (λ (n : RecordNumber). n.place) nat_cmp_total)
+
+abbrev pub number_eq : RecordNumber → RecordNumber → Bool
+number_eq a b = nat_eq a.rrset b.rrset && nat_eq a.place b.place
+
+same_number : (a b : RecordNumber) → number_eq a b ≡ true → a ≡ b
+same_number a b same =
+    let parts = and_parts _ _ same in
+    let rrset : a.rrset ≡ b.rrset = eqb-true _ _ parts.0 in
+    let place : a.place ≡ b.place = eqb-true _ _ parts.1 in
+    λ i. record { rrset = rrset i; place = place i }
+
+number_eq_ties : (a b : RecordNumber) → number_eq a b ≡ eq_by_cmp number_cmp a b
+number_eq_ties = (then_tied (on_tied (λ (n : RecordNumber). n.rrset) (tie nat_cmp unsigned_ties)) (on_tied (λ (n : RecordNumber). n.place) (tie nat_cmp unsigned_ties))).ties
+
+number_eq_equiv : IsEquivalence number_eq
+number_eq_equiv = record {
+  refl = λ a. and_from _ _ (nat_eq_equiv.refl a.rrset) (nat_eq_equiv.refl a.place);
+  symm = λ a b. ap (λ c. c && nat_eq a.place b.place) (nat_eq_equiv.symm a.rrset b.rrset) ∙ ap (λ c. nat_eq b.rrset a.rrset && c) (nat_eq_equiv.symm a.place b.place);
+  congr = λ a b c same. ap (λ n. number_eq n c) (same_number a b same);
+}
+
+-- sorted, and each once
+pub rising_once : (sorted : List RecordNumber) → IsSorted number_cmp sorted → IsStrictlySortedBy number_cmp (dedup number_eq sorted)
+rising_once sorted ordered = IsStrictlySortedBy-dedup number_cmp_total number_eq_ties sorted ordered
+
+pub same_members : (old sorted : List RecordNumber) → IsPermutation old sorted → (n : RecordNumber) → Contains (dedup number_eq sorted) n ↔ Contains old n
+same_members old sorted moved n = (
+  λ there. Contains-permutation sorted old n (IsPermutation-sym old sorted moved) (Contains-from_dedup number_eq sorted n there),
+  λ there. Contains-dedup number_eq_equiv same_number sorted n (Contains-permutation old sorted n moved there),
+)
+
+-- ---- facts of the same records
+
+pub facts_same : (basis : Basis) (P Q : RecordNumber → Type 0) (facts : List RrsetFacts) → ((n : RecordNumber) → P n ↔ Q n)
+    → AreFactsOf basis P facts → AreFactsOf basis Q facts
+facts_same basis P Q facts same are = record {
+  rising = are.rising;
+  each = are.each;
+  members = λ k. (
+    λ there. let has = (are.members k).0 there in (has.0, has.1, (same has.0).0 has.2),
+    λ has. (are.members k).1 (has.0, has.1, (same has.0).1 has.2),
+  );
+}
+
+pub no_facts : (basis : Basis) (P : RecordNumber → Type 0) (facts : List RrsetFacts) → facts ≡ [] → ((n : RecordNumber) → ¬ P n) → AreFactsOf basis P facts
+unfolding IsStrictlySortedBy
+no_facts basis P facts none never = subst (AreFactsOf basis P) (sym none) (record {
+  rising = tt;
+  each = tt;
+  members = λ k. (λ there. absurd (let within = there.1 in omega (arith, within)), λ has. absurd (never has.0 has.2));
+})

@@ -1,0 +1,25 @@
+use Rattle.std.proofs.Common.{List, subst, sym, ◌∙◌}
+use Rattle.std.proofs.lemmas.Bool.{false≢true}
+use Rattle.dnsv_names.specs.Name.{Labels, rightmost}
+use Rattle.dnsv_chain.specs.declared.anchor.Anchor.{Anchor}
+use Rattle.dnsv_verdict.specs.Verdict.{HasAnchor}
+use Rattle.dnsv_gaps.proofs.question.cuts.is_parent.Goals as goal
+
+pub returns-then-not-is_known : goal.returns-then-not-is_known
+returns-then-not-is_known c = (
+  λ yes. absurd (false≢true yes),
+  λ is. absurd (false≢true (sym c.if-not-is_known.true ∙ c.is_known.ensures.1 is.known)),
+)
+
+pub returns : goal.returns
+returns c =
+    let zone = rightmost c.args.question.now.name.now c.args.labels in
+    let At : Labels → Type 0 = λ name. HasAnchor c.args.anchors.now name in
+    let Of : List Anchor → Type 0 = λ anchors. HasAnchor anchors zone in (
+      λ yes. record {
+        within = c.requires.within;
+        known = c.is_known.ensures.0 c.if-not-is_known.false;
+        anchored = subst Of c.requires.anchors (subst At c.suffix.ensures.labels (c.has_anchor.ensures.0 yes));
+      },
+      λ is. c.has_anchor.ensures.1 (subst At (sym c.suffix.ensures.labels) (subst Of (sym c.requires.anchors) is.anchored)),
+    )

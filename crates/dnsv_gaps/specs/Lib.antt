@@ -1,0 +1,13 @@
+pub mod Asking
+pub mod CaseSearch
+pub mod Cases
+pub mod DenialSearch
+pub mod Denials
+pub mod Parts
+pub mod SourceSearch
+pub mod Sources
+pub mod SpeakerSearch
+pub mod Speakers
+pub mod Unusable
+pub mod UnusableSearch
+pub mod questions

@@ -1,0 +1,16 @@
+//! What the evidence has that may answer a question or deny it, whether it is trusted or not, and what it lacks.
+//!
+//! The facts are those of `dnsv_remedies`, which finds by them the least that has to be mended. The program doesn't use this
+//! crate yet.
+#![tactic(auto)]
+
+pub use asked::AskedQuestion;
+pub use question::question_facts;
+pub use speakers::speaker_facts;
+
+mod asked;
+mod denials;
+mod parts;
+mod question;
+mod sources;
+mod speakers;

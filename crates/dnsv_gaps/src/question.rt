@@ -1,0 +1,73 @@
+//! What is so of a question.
+
+mod closers;
+mod cuts;
+mod dnames;
+mod goals;
+
+ghost use Rattle.std.specs.Prelude.{◌≡◌, IfOk};
+ghost use Rattle.dnsv_verdict.specs.Case.{basis_by};
+ghost use Rattle.dnsv_gaps.specs.Asking.{IsAsked, asking, asking_of};
+ghost use Rattle.dnsv_gaps.specs.questions.CloserSearch.{IsViewOf};
+ghost use Rattle.dnsv_gaps.specs.questions.Questions.{AreQuestionFacts};
+
+use crate::asked::AskedQuestion;
+use crate::question::cuts::{has_anchor, parents};
+use crate::question::dnames::dnames;
+use crate::question::goals::goals;
+use crate::speakers::speaker_facts;
+use dnsv_chain::Anchor;
+use dnsv_denial::{Hashes, View};
+use dnsv_faults::CaseFacts;
+use dnsv_names::{Name, RecordType};
+use dnsv_remedies::QuestionFacts;
+use dnsv_verdict::Case;
+use std::alloc::{AllocError, Global};
+
+/// What the evidence of the case has that may answer the question of a name and a type or deny it, whether it is trusted or not.
+/// `facts` are found in the case, and `hashes` are those for the name. Nothing is asked of a verifier, and nothing is hashed.
+pub fn question_facts<'s, 'a>(
+    alloc: Global,
+    case: &'s Case<'a>,
+    facts: &'s CaseFacts<'a>,
+    hashes: &'s Hashes<'a>,
+    name: &'s Name,
+    rtype: RecordType,
+) -> Result<QuestionFacts, AllocError>
+    requires facts { facts.now ≡ case.now }
+    requires hashes { hashes.now ≡ record { rrsets = case.now.rrsets; name = name.now } }
+    ensures { IfOk result (AreQuestionFacts (asking_of case.now name.now rtype.0)) }
+{
+    let known = facts.known_zones(alloc, name, rtype)?;
+    let question = AskedQuestion {
+        facts,
+        name,
+        rtype,
+        known: &known,
+        hashes,
+    };
+    let view = View::through(alloc, case.capture(), case.trust(), case.denials(), hashes)?;
+    facts_of(alloc, &question, &view, case.anchors().as_slice())
+}
+
+/// What is so of the question. The view is of its name, and the anchors are those of the case.
+fn facts_of(
+    alloc: Global,
+    question: &AskedQuestion<'_, '_>,
+    view: &View<'_, '_>,
+    anchors: &[Anchor<'_>],
+) -> Result<QuestionFacts, AllocError>
+    requires asked { IsAsked question.now }
+    requires view { IsViewOf question.now view.now }
+    requires anchors { anchors.now ≡ question.now.facts.now.anchors }
+    ensures { IfOk result (AreQuestionFacts (asking question.now)) }
+{
+    Ok(QuestionFacts {
+        labels: question.name.labels(),
+        is_anchored: has_anchor(anchors, question.name),
+        goals: goals(alloc, question, view)?,
+        dnames: dnames(alloc, question)?,
+        speakers: speaker_facts(alloc, question)?,
+        parents: parents(alloc, question, anchors)?,
+    })
+}

@@ -1,0 +1,212 @@
+//! The first name below a zone that something in the evidence shows to be an unsigned delegation.
+ghost use Rattle.std.specs.Prelude.{◌≡◌, ◌⊎◌, ◌↔◌, ◌≤◌, ◌<◌, IfOk, IsTrue, length};
+ghost use Rattle.dnsv_canonical.specs.declared.number.RecordNumber.{RecordNumber};
+ghost use Rattle.dnsv_faults.specs.KnownZones.{HasOwnAnchor, HasRrset};
+ghost use Rattle.dnsv_names.specs.Name.{rightmost};
+ghost use Rattle.dnsv_names.specs.Order.{IsBelow};
+ghost use Rattle.dnsv_gaps.specs.Asking.{asking};
+ghost use Rattle.dnsv_gaps.specs.SourceSearch.{zone_in};
+ghost use Rattle.dnsv_denial.specs.words.Asked.{IsWithin};
+ghost use Rattle.dnsv_gaps.specs.questions.Cuts.{HasDsFromAbove, HasGoal, IsDsFromAbove, IsSeen, IsSeenHere, IsSeenUnsigned, IsThere, lowest_cut};
+ghost use Rattle.dnsv_gaps.specs.questions.CutSearch.{HasOneFromAbove, IsFirstSeen, IsParentZone, IsSaidByOne};
+
+use crate::asked::AskedQuestion;
+use crate::question::cuts::ParentZone;
+use crate::sources::saying::has_saying;
+use dnsv_canonical::Rrset;
+use dnsv_chain::Anchor;
+use dnsv_denial::{AskedName, AskedTypes, AskedWord};
+use dnsv_names::{Name, RecordType};
+use dnsv_records::Rrsig;
+use std::alloc::{AllocError, Global};
+
+/// How many labels the first name below the zone has that is seen so, if one is. None has more labels than `lowest`.
+pub fn first_seen(
+    alloc: Global,
+    parent: &ParentZone<'_, '_, '_>,
+    lowest: usize,
+) -> Result<Option<usize>, AllocError>
+    requires parent { IsParentZone parent.now }
+    requires lowest { lowest ≡ lowest_cut (asking parent.now.question.now) }
+    requires within { lowest ≤ length parent.now.question.now.name.now }
+    ensures { IfOk result (IsFirstSeen (asking parent.now.question.now) parent.now.labels parent.now.next) }
+{
+    // What is true of every name: it has few labels.
+    let _labels = parent.question.name.labels();
+    for name in parent.labels + 1..lowest + 1 {
+        if is_seen(alloc, parent, name)? {
+            return Ok(Some(name));
+        }
+    }
+    Ok(None)
+}
+
+/// Whether the name with so many labels is.
+fn is_seen(alloc: Global, parent: &ParentZone<'_, '_, '_>, name: usize) -> Result<bool, AllocError>
+    requires parent { IsParentZone parent.now }
+    requires within { name ≤ length parent.now.question.now.name.now }
+    ensures { IfOk result (λ is. IsTrue is ↔ IsSeen (asking parent.now.question.now) (zone_in parent.now.question.now parent.now.labels)
+        parent.now.next name) }
+{
+    let Some(next) = parent.next else {
+        return Ok(is_seen_here(alloc, parent, name)?);
+    };
+    if name < next {
+        return Ok(is_seen_here(alloc, parent, name)?);
+    }
+    if name > next {
+        return Ok(false);
+    }
+    Ok(is_seen_unsigned(alloc, parent, name)?)
+}
+
+/// Whether the name with so many labels is, which is no known zone.
+fn is_seen_here(
+    alloc: Global,
+    parent: &ParentZone<'_, '_, '_>,
+    name: usize,
+) -> Result<bool, AllocError>
+    requires parent { IsParentZone parent.now }
+    requires within { name ≤ length parent.now.question.now.name.now }
+    ensures { IfOk result (λ is. IsTrue is ↔ IsSeenHere (asking parent.now.question.now) (zone_in parent.now.question.now parent.now.labels)
+        parent.now.next (rightmost parent.now.question.now.name.now name)) }
+{
+    let cut = parent.question.name.suffix(name);
+    if has_rrset(parent.question, &cut, RecordType::NS) {
+        return Ok(true);
+    }
+    if has_rrset(parent.question, &cut, RecordType::SOA) {
+        return Ok(true);
+    }
+    let delegation = AskedWord::Types(AskedTypes::Delegation);
+    if is_said(alloc, parent, AskedName::Above(name), delegation)? {
+        return Ok(true);
+    }
+    if !may_be_left_out(parent) {
+        return Ok(false);
+    }
+    Ok(is_said(alloc, parent, AskedName::Above(name), AskedWord::OptedOut)?)
+}
+
+/// Whether something may answer the question, or a known zone is below.
+fn may_be_left_out(parent: &ParentZone<'_, '_, '_>) -> bool
+    ensures { IsTrue result ↔ (HasGoal (asking parent.now.question.now) ⊎ IsThere parent.now.next) }
+{
+    match parent.next {
+        Some(_) => true,
+        None => has_goal(parent.question),
+    }
+}
+
+/// Whether something may answer the question.
+fn has_goal(question: &AskedQuestion<'_, '_>) -> bool
+    ensures { IsTrue result ↔ HasGoal (asking question.now) }
+{
+    if has_rrset(question, question.name, question.rtype) {
+        return true;
+    }
+    has_rrset(question, question.name, RecordType::CNAME)
+}
+
+/// Whether an RRset of the type is at the name.
+fn has_rrset(question: &AskedQuestion<'_, '_>, name: &Name, rtype: RecordType) -> bool
+    ensures { IsTrue result ↔ HasRrset question.now.facts.now.rrsets name.now rtype.0 }
+{
+    !question.facts.capture().at(name, rtype).is_empty()
+}
+
+/// Whether the known zone next below, which has so many labels, is.
+fn is_seen_unsigned(
+    alloc: Global,
+    parent: &ParentZone<'_, '_, '_>,
+    name: usize,
+) -> Result<bool, AllocError>
+    requires parent { IsParentZone parent.now }
+    requires within { name ≤ length parent.now.question.now.name.now }
+    ensures { IfOk result (λ is. IsTrue is ↔ IsSeenUnsigned (asking parent.now.question.now)
+        (zone_in parent.now.question.now parent.now.labels) (rightmost parent.now.question.now.name.now name)) }
+{
+    let cut = parent.question.name.suffix(name);
+    if has_own_anchor(parent.anchors, &cut) {
+        return Ok(false);
+    }
+    if has_ds_from_above(parent.question, &cut) {
+        return Ok(false);
+    }
+    let unsigned = AskedWord::Types(AskedTypes::UnsignedDelegation);
+    if is_said(alloc, parent, AskedName::Above(name), unsigned)? {
+        return Ok(true);
+    }
+    Ok(is_said(alloc, parent, AskedName::Above(name), AskedWord::OptedOut)?)
+}
+
+/// Whether a trust anchor is just at the name.
+fn has_own_anchor(anchors: &[Anchor<'_>], name: &Name) -> bool
+    ensures { IsTrue result ↔ HasOwnAnchor anchors.now name.now }
+{
+    anchors.iter().any(|anchor| *anchor.owner() == *name)
+}
+
+/// Whether a DS RRset of the zone has a signature by one above it.
+fn has_ds_from_above(question: &AskedQuestion<'_, '_>, zone: &Name) -> bool
+    ensures { IsTrue result ↔ HasDsFromAbove question.now.facts.now.rrsets zone.now }
+{
+    has_one_from_above(question.facts.capture().rrsets(), zone)
+}
+
+/// Whether one of the RRsets is such a one.
+fn has_one_from_above(rrsets: &[Rrset<'_>], zone: &Name) -> bool
+    ensures { IsTrue result ↔ HasDsFromAbove rrsets.now zone.now }
+{
+    rrsets.iter().any(|rrset| is_ds_from_above(rrset, zone))
+}
+
+/// Whether the RRset is one of DS records of the zone, with a signature by one above it.
+fn is_ds_from_above(rrset: &Rrset<'_>, zone: &Name) -> bool
+    ensures { IsTrue result ↔ IsDsFromAbove zone.now rrset.now }
+{
+    if rrset.rtype() != RecordType::DS {
+        return false;
+    }
+    if *rrset.owner() != *zone {
+        return false;
+    }
+    has_signer_above(rrset.signatures(), zone)
+}
+
+/// Whether the signer of one of the signatures is above the zone.
+fn has_signer_above(rrsigs: &[Rrsig<'_>], zone: &Name) -> bool
+    ensures { IsTrue result ↔ HasOneFromAbove rrsigs.now zone.now }
+{
+    rrsigs
+        .iter()
+        .any(|rrsig| is_below(zone, &rrsig.signer.to_name()))
+}
+
+/// Whether the name is below the zone, and not just it.
+fn is_below(name: &Name, zone: &Name) -> bool
+    ensures { IsTrue result ↔ IsBelow name.now zone.now }
+{
+    name.is_at_or_below(zone) && zone.labels() < name.labels()
+}
+
+/// Whether a record of one of the sources says so of the name.
+fn is_said(
+    alloc: Global,
+    parent: &ParentZone<'_, '_, '_>,
+    asked: AskedName,
+    word: AskedWord,
+) -> Result<bool, AllocError>
+    requires parent { IsParentZone parent.now }
+    requires within { IsWithin parent.now.question.now.name.now asked }
+    ensures { IfOk result (λ is. IsTrue is ↔ ((number : RecordNumber)
+        × IsSaidByOne parent.now.question.now parent.now.labels asked word parent.now.sources.now number)) }
+{
+    for held in parent.sources {
+        let source = held.source(parent.labels);
+        if has_saying(alloc, parent.question, &source, asked, word)? {
+            return Ok(true);
+        }
+    }
+    Ok(false)
+}
