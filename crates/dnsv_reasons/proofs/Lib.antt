@@ -1,0 +1,4 @@
+mod EachLemmas
+mod LineLemmas
+mod PlaceLemmas
+mod SourceLemmas

@@ -1,0 +1,77 @@
+//! What fails, where nothing answers a question.
+ghost use Rattle.std.specs.Prelude.{◌≡◌, IfOk};
+ghost use Rattle.dnsv_gaps.specs.Asking.{IsAsked, asking, asking_of};
+ghost use Rattle.dnsv_reasons.specs.Failures.{AreFailures, AreToldOf};
+ghost use Rattle.dnsv_reasons.specs.Lines.{AreSaidLines};
+
+use crate::lines::said_lines;
+use crate::sources::{all_denials, named_sources};
+use dnsv_denial::Hashes;
+use dnsv_faults::CaseFacts;
+use dnsv_gaps::{AskedQuestion, question_facts};
+use dnsv_lines::Line;
+use dnsv_mending::levels_of;
+use dnsv_names::{Name, RecordType};
+use dnsv_remedies::{Said, lines_told, question_remedy};
+use dnsv_verdict::Case;
+use std::alloc::{AllocError, Global};
+
+/// What fails of the question of a name and a type, where nothing answers it: the least that has to be mended, from the root
+/// down. `facts` are found in the case, and `hashes` are those for the name.
+pub fn failures<'s, 'a>(
+    alloc: Global,
+    case: &'s Case<'a>,
+    facts: &'s CaseFacts<'a>,
+    hashes: &'s Hashes<'a>,
+    name: &'s Name,
+    rtype: RecordType,
+) -> Result<Vec<Line>, AllocError>
+    requires facts { facts.now ≡ case.now }
+    requires hashes { hashes.now ≡ record { rrsets = case.now.rrsets; name = name.now } }
+    ensures { IfOk result (λ lines. AreFailures (asking_of case.now name.now rtype.0) lines.items) }
+{
+    let told = told(alloc, case, facts, hashes, name, rtype)?;
+    let known = facts.known_zones(alloc, name, rtype)?;
+    let question = AskedQuestion {
+        facts,
+        name,
+        rtype,
+        known: &known,
+        hashes,
+    };
+    lines_of(alloc, &question, &told)
+}
+
+/// What is told of the question, by numbers.
+fn told<'s, 'a>(
+    alloc: Global,
+    case: &'s Case<'a>,
+    facts: &'s CaseFacts<'a>,
+    hashes: &'s Hashes<'a>,
+    name: &'s Name,
+    rtype: RecordType,
+) -> Result<Vec<Said>, AllocError>
+    requires facts { facts.now ≡ case.now }
+    requires hashes { hashes.now ≡ record { rrsets = case.now.rrsets; name = name.now } }
+    ensures { IfOk result (λ told. AreToldOf (asking_of case.now name.now rtype.0) told.items) }
+{
+    let zones = facts.zone_facts(alloc, name, rtype)?;
+    let question = question_facts(alloc, case, facts, hashes, name, rtype)?;
+    let levels = levels_of(alloc, question.is_anchored, &zones)?;
+    let remedy = question_remedy(alloc, &levels, &question)?;
+    lines_told(alloc, &question, remedy.as_ref())
+}
+
+/// The lines that say what is told of the question.
+fn lines_of(
+    alloc: Global,
+    question: &AskedQuestion<'_, '_>,
+    told: &[Said],
+) -> Result<Vec<Line>, AllocError>
+    requires { IsAsked question.now }
+    ensures { IfOk result (λ lines. AreSaidLines (asking question.now) told.now lines.items) }
+{
+    let zones = all_denials(alloc, question)?;
+    let named = named_sources(alloc, question, &zones)?;
+    said_lines(alloc, question, &named, told)
+}
