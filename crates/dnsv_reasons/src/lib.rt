@@ -1,11 +1,11 @@
 //! What fails, as lines: what is told of a question by numbers, with the names, the keys and the records that these are of.
 #![tactic(auto)]
 
-pub use failures::failures;
+pub use failing::failures;
 
 mod above;
 mod entry;
-mod failures;
+mod failing;
 mod key;
 mod lines;
 mod question;
