@@ -4,7 +4,7 @@ from .explanation import DNSKEY, DS, Explanation, Line
 from .chain import ABSENT, FAILS, FOLLOWS, HOLDS, MISSING, PLAIN, QUESTION, RELATIONS, SHORT, UNDER
 from .chain import Chain, Key, anchor_box, ds_box, key_box, keys_box, rrset_box
 from .holding import UNUSABLE
-from .missing import DNAME, ROLES, is_unasked
+from .missing import DNAME, ROLES, is_unasked, sought
 from .values import date, owned
 from .vouchers import is_voucher
 
@@ -14,7 +14,8 @@ OF_ZONES = (DS, DNSKEY)
 
 def chain_of(told: Explanation) -> Chain:
     """The chain of an explanation."""
-    chain, signers = Chain(), {line["rrset"]: line["signer"] for line in told.lines if {"rrset", "signer"} <= set(line)}
+    chain = Chain(told)
+    signers = {line["rrset"]: line["signer"] for line in told.lines if {"rrset", "signer"} <= set(line)}
     scene = Scene(told, chain, signers)
     for line in told.lines:
         DRAWN[line["line"]](scene, line)
@@ -77,7 +78,7 @@ class Scene:
 
     def of_signature(self, line: Line, state: str, text: str = "") -> None:
         """The edge from the key that signs to the RRset, whichever zone that is in."""
-        tail = key_box(self.told, self.chain, line["signer"], line, FOLLOWS if state == FOLLOWS else PLAIN)
+        tail = key_box(self.chain, line["signer"], line, FOLLOWS if state == FOLLOWS else PLAIN)
         for head in signed_boxes(self, line, state):
             if line["type"] not in OF_ZONES:
                 self.lead(head, state)
@@ -86,14 +87,14 @@ class Scene:
 
 def trusted(scene: Scene, line: Line) -> None:
     zone = line["zone"]
-    signing = key_box(scene.told, scene.chain, zone, line, HOLDS)
+    signing = key_box(scene.chain, zone, line, HOLDS)
     scene.chain.join(scene.voucher(line, zone, HOLDS), signing, HOLDS)
     scene.chain.join(signing, keys_box(scene.chain, zone, line["rrset"], HOLDS), HOLDS)
 
 
 def signed(scene: Scene, line: Line) -> None:
     zone = line["signer"]
-    signing, keys = key_box(scene.told, scene.chain, zone, line, HOLDS), ("rrset", line["keys"])
+    signing, keys = key_box(scene.chain, zone, line, HOLDS), ("rrset", line["keys"])
     if (signing, keys, "") not in scene.chain.edges:
         scene.chain.join(keys_box(scene.chain, zone, line["keys"], HOLDS), signing, HOLDS)
     for head in signed_boxes(scene, line, HOLDS):
@@ -150,7 +151,7 @@ def unseen(_scene: Scene, _line: Line) -> None:
 
 def key(scene: Scene, line: Line) -> None:
     zone = line["zone"]
-    box = key_box(scene.told, scene.chain, zone, line, PLAIN)
+    box = key_box(scene.chain, zone, line, PLAIN)
     keys = keys_box(scene.chain, zone, line["rrset"], PLAIN)
     if "signature" in line:
         scene.chain.join(box, keys, HOLDS)
@@ -186,16 +187,25 @@ def of_voucher(scene: Scene, line: Line) -> None:
         tail = anchor_box(scene.chain, line["anchor"], zone, FAILS, line.get("digest_type"))
     else:
         tail = ds_box(scene.chain, scene.signers, (line["rrset"], line["record"]), zone, FAILS, line)
-    known = {(each["tag"], each["algorithm"]) for each in scene.told.keys(zone)}
+    known = {(each["tag"], each["algorithm"]) for each in scene.told.keys.of(zone)}
     is_there = (line["tag"], line["algorithm"]) in known
-    head = key_box(scene.told, scene.chain, zone, line, PLAIN if is_there else MISSING)
+    head = key_box(scene.chain, zone, line, PLAIN if is_there else MISSING)
     scene.chain.join(tail, head, MISSING, SHORT[line["word"]])
 
 
 def not_self_signed(scene: Scene, line: Line) -> None:
-    box = key_box(scene.told, scene.chain, line["zone"], line, PLAIN)
+    box = key_box(scene.chain, line["zone"], line, PLAIN)
     keys = keys_box(scene.chain, line["zone"], line["rrset"], PLAIN)
     scene.chain.join(box, keys, MISSING, SHORT[line["word"]])
+
+
+def not_vouched(scene: Scene, line: Line) -> None:
+    """What isn't there, above the keys that sign theirs, or all where none does."""
+    box = scene.chain.add((line["word"], line["zone"]), line["zone"], absent(scene, line), MISSING)
+    keys_box(scene.chain, line["zone"], line["rrset"], FAILS)
+    among = [each for each in scene.told.keys.of(line["zone"]) if each["rrset"] == line["rrset"]]
+    for each in [each for each in among if "signature" in each] or among:
+        scene.chain.join(box, key_box(scene.chain, line["zone"], each, PLAIN), MISSING)
 
 
 def unsigned(scene: Scene, line: Line) -> None:
@@ -217,14 +227,8 @@ def absent(scene: Scene, line: Line) -> Tuple[str, ...]:
 
 def at_name(scene: Scene, line: Line) -> None:
     """What a proof lacks, as an empty box with the name."""
-    role = (ROLES[line["role"]],) if "role" in line else ()
-    box = scene.chain.add(
-        (line["word"], line["zone"], line["name"]),
-        line["zone"],
-        (f"no {line['kind'].upper()}", line["name"], *role),
-        MISSING,
-    )
-    scene.lead(box, MISSING)
+    text = (f"no {line['kind'].upper()}", *sought(scene.told, line))
+    scene.lead(scene.chain.add((line["word"], line["zone"], line["name"]), line["zone"], text, MISSING), MISSING)
 
 
 def record(scene: Scene, line: Line) -> None:
@@ -263,7 +267,7 @@ REASONS = {
     "dnskey-missing": at_zone,
     "ds-missing": at_zone,
     "not-self-signed": not_self_signed,
-    "not-vouched": at_zone,
+    "not-vouched": not_vouched,
     "unsigned": unsigned,
     "dname": dname,
     "nsec3-iterations": record,

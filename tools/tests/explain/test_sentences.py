@@ -99,9 +99,9 @@ class Samples(unittest.TestCase):
         self.assertEqual(texts(told_of("roll-gone")), [
             "FAIL shop.example.test. DNSKEY: the DS names key 43646; the zone has 29000 and 45316 [EDE 9]",
             "HAS shop.example.test. DNSKEY: key 45316 (ECDSAP256SHA256, ZONE) signs the keys; "
-            "neither an anchor nor a DS names it",
+            "neither an anchor nor a DS matches it",
             "HAS shop.example.test. DNSKEY: key 29000 (ECDSAP256SHA256, ZONE SEP) signs the keys; "
-            "neither an anchor nor a DS names it",
+            "neither an anchor nor a DS matches it",
             "THEN www.shop.example.test. A: signed by key 45316 of shop.example.test., which isn't trusted",
             "HOLDS shop.example.test. DS: signed by example.test.; the chain holds down to here, from anchor 1 of "
             "example.test. on"])
