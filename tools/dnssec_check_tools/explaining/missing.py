@@ -227,7 +227,7 @@ def denial_unproved(told: Explanation, line: Line) -> Words:
 
 
 def ds_unproved(told: Explanation, line: Line) -> Words:
-    text = f"nothing that {line['zone']} says proves that there is none, which an unsigned zone needs"
+    text = f"nothing that {line['zone']} says proves that there is none, which a zone without DS needs"
     return owned(line["name"], DS), with_answer(told, line, (line["name"], DS), text)
 
 

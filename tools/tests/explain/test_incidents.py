@@ -5,7 +5,7 @@ from dnssec_check_tools.explaining import chain, drawn, sentences
 from judge.helper import needs_dns
 from .helper import incident_of
 
-CUT = "proves that there is none, which an unsigned zone needs [EDE 12]"
+CUT = "proves that there is none, which a zone without DS needs [EDE 12]"
 # What was broken, and sentences that have to stand among those of the incident, in this order.
 SAID = {
     "leftover-ds-key-expired": (

@@ -125,7 +125,7 @@ class Sentences(unittest.TestCase):
             (self.ANSWER, f"www.example. A: {UNASKED} [EDE 12]"),
             (self.DENIAL, f"www.example. A: {UNASKED}; what example. says doesn't prove that there is none [EDE 12]"),
             (cut, f"b.example. DS: {UNASKED}; nothing that example. says proves that there is none, "
-                  "which an unsigned zone needs [EDE 12]"),
+                  "which a zone without DS needs [EDE 12]"),
         )
         for line, text in rows:
             with self.subTest(line["word"]):
