@@ -101,7 +101,7 @@ def not_self_signed(told: Explanation, line: Line) -> Words:
     """The key that an anchor or a DS names, and which keys sign instead."""
     tags = told.keys.signing_tags(line["zone"], line["rrset"])
     others = [f"another key {tag}" if tag == line["tag"] else str(tag) for tag in tags]
-    beside = f"{all_of(others)} {'does' if len(tags) == 1 else 'do'}" if tags else "no key does"
+    beside = f"{all_of(others)} {'does' if len(tags) == 1 else 'do'}" if tags else "none does by a good signature"
     key = key_name(line["tag"], line["algorithm"])
     named = [each for each in told.keys.vouched(line["zone"]) if each["tag"] == line["tag"] and "anchor" in each]
     namer = voucher_of(named[0]) if named else "the DS"

@@ -1,5 +1,5 @@
 """What the lines of an explanation, and the capture, say of the keys of zones."""
-from typing import Any, Dict, List, Optional, Sequence, Tuple
+from typing import Any, Dict, List, Optional, Sequence, Set, Tuple
 
 from ..capturing.messages import TYPE_DNSKEY
 from .keys import DNSSEC, Key, Keys
@@ -21,12 +21,15 @@ class ZoneKeys:
         self.by_zone: Dict[str, List[Line]] = {}
         self.by_name: Dict[Named, List[Line]] = {}
         self.reasons: Dict[Named, List[Line]] = {}
+        self.without_signature: Set[Tuple[Named, int]] = set()  # by DNSKEY RRset
         for line in lines:
             if line["line"] == "key":
                 self.by_zone.setdefault(line["zone"], []).append(line)
                 self.by_name.setdefault(named_by(line["zone"], line), []).append(line)
             elif line["line"] == "reason" and "signer" in line:
                 self.reasons.setdefault(named_by(line["signer"], line), []).append(line)
+            elif line.get("word") == "not-self-signed":
+                self.without_signature.add((named_by(line["zone"], line), line["rrset"]))
 
     def of(self, zone: str) -> List[Line]:
         return self.by_zone.get(zone, [])
@@ -58,9 +61,9 @@ class ZoneKeys:
         return [each["word"] for each in reasons if (each["owner"], each["type"], each["rrset"]) == place]
 
     def may_have_signed(self, line: Line) -> Optional[bool]:
-        """Whether a signature of the keys that it's among may be of the key of the line: none is where there is none by
-        its tag and algorithm, or that is of another key. None where the capture's signatures aren't known."""
-        if self.is_beside_signer(line):
+        """Whether a signature of the keys that it's among may be of the key of the line: none is where a reason says so,
+        or none has its tag and algorithm, or but one of another key. None where it isn't known which there are."""
+        if self.is_beside_signer(line) or (named_by(line["zone"], line), line["rrset"]) in self.without_signature:
             return False
         key = self.known_key(line["zone"], line)
         return None if key is None else line["rrset"] in key.signed

@@ -116,6 +116,12 @@ class Samples(unittest.TestCase):
         self.assertEqual(first, "FAIL shop.example.test. DNSKEY: the DS names key 42592 (ECDSAP256SHA256), which doesn't "
                                 "sign the keys; 30850 and 44813 do [EDE 10]")
 
+    def test_a_key_that_does_not_sign_where_none_does(self):
+        """Signatures there are, by the word's own meaning."""
+        reason = {"line": "reason", "word": "not-self-signed", "ede": 10, "zone": "b.", "rrset": 1, "tag": 9, "algorithm": 13}
+        self.assertEqual(texts(told_by(reason))[0], "FAIL b. DNSKEY: the DS names key 9 (ECDSAP256SHA256), which doesn't sign the "
+                                                    "keys; none does by a good signature [EDE 10]")
+
     def test_expired_signatures(self):
         first, second, *_ = texts(told_of("expired-www-a"))
         self.assertEqual(first, "FAIL expired.test. DNSKEY: the signature by key 53641 expired on 2026-10-01 (52 days ago) "

@@ -48,6 +48,11 @@ class Signing(unittest.TestCase):
             self.assertEqual(self.text(there=known(signed=signed)), text, signed)
         self.assertEqual(self.text(*of_keys("bad"), there=known(signed=[1])), "signs the keys by a signature that is bad")
 
+    def test_a_reason_that_it_has_none(self):
+        reason = {"line": "reason", "word": "not-self-signed", "ede": 10, "zone": "b.", "rrset": 1, **NAMED}
+        for other, text in (({}, "doesn't sign the keys"), ({"rrset": 2}, UNKNOWN), ({"tag": 8}, UNKNOWN), ({"zone": "c."}, UNKNOWN)):
+            self.assertEqual(self.text({**reason, **other}), text, other)
+
     def test_a_signature_of_another_key_of_the_same_tag(self):
         for other, text in (({}, "doesn't sign the keys"), ({"rrset": 2}, USELESS), ({"algorithm": 8}, USELESS), ({"zone": "c."}, USELESS)):
             twin = {**KEY, "record": 2, "signature": 1, **other}
