@@ -1,5 +1,5 @@
 """RRsets that a capture has several times, told apart by their messages where they don't stand alike."""
-from typing import Any, Dict, FrozenSet, List, Optional, Sequence, Set, Tuple
+from typing import Any, Dict, FrozenSet, Optional, Sequence, Set, Tuple
 
 from ..capturing.messages import TYPE_DNSKEY
 from .values import all_of, owned
@@ -7,7 +7,7 @@ from .values import all_of, owned
 Line = Dict[str, Any]
 Named = Tuple[str, int]  # an owner and a type
 Fact = FrozenSet[Tuple[str, Any]]
-Groups = Dict[FrozenSet[Fact], List[int]]  # the messages of those that stand alike
+Texts = Dict[FrozenSet[Fact], str]  # the messages of those that stand alike
 # What only says where something stands, and differs from copy to copy.
 PLACES = {"rrset", "record", "signature", "keys", "ds_rrset", "ds_record"}
 MESSAGES_MOST = 3  # that are named
@@ -33,7 +33,7 @@ class Copies:
     def __init__(self, lines: Sequence[Line]) -> None:
         self.messages = {line["rrset"]: line["message"] for line in lines if line["line"] == "rrset"}
         self.facts: Dict[Named, Dict[int, Set[Fact]]] = {}
-        self.kept: Dict[Named, Groups] = {}
+        self.kept: Dict[Named, Texts] = {}
         for line in lines:
             about = rrset_of(line)
             if about:
@@ -49,23 +49,22 @@ class Copies:
 
     def messages_of(self, named: Named, number: int) -> str:
         """The messages of the RRset, and of those that stand as it does; nothing where all do, or none is known."""
-        groups = self.groups(named)
-        found = groups.get(frozenset(self.facts.get(named, {}).get(number, ())), [])
-        is_alone = all(set(others) <= set(found) for others in groups.values())
-        return "" if is_alone or not found else messages_text(found)
-
-    def groups(self, named: Named) -> Groups:
+        facts = self.facts.get(named, {})
         if named not in self.kept:
-            found = self.kept.setdefault(named, {})
-            for number, facts in self.facts.get(named, {}).items():
-                messages = found.setdefault(frozenset(facts), [])
-                messages += [self.messages[number]] if number in self.messages else []
-        return self.kept[named]
+            self.kept[named] = self.texts(facts)
+        return self.kept[named].get(frozenset(facts.get(number, ())), "")
+
+    def texts(self, facts: Dict[int, Set[Fact]]) -> Texts:
+        groups: Dict[FrozenSet[Fact], Set[int]] = {}
+        for number, said in facts.items():
+            messages = groups.setdefault(frozenset(said), set())
+            messages.update([self.messages[number]] if number in self.messages else [])
+        everywhere = set().union(*groups.values())
+        return {said: messages_text(found) for said, found in groups.items() if found and found != everywhere}
 
 
-def messages_text(numbers: List[int]) -> str:
+def messages_text(numbers: Set[int]) -> str:
     """The numbers of messages, of many the first."""
-    each_once = sorted(set(numbers))
-    more = len(each_once) - MESSAGES_MOST
-    words = [*map(str, each_once[:MESSAGES_MOST]), *([f"{more} more"] if more > 0 else [])]
+    more = len(numbers) - MESSAGES_MOST
+    words = [*map(str, sorted(numbers)[:MESSAGES_MOST]), *([f"{more} more"] if more > 0 else [])]
     return f"message {words[0]}" if len(words) == 1 else f"messages {all_of(words)}"

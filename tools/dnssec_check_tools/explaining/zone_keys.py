@@ -7,29 +7,47 @@ from .values import ZONE_KEY
 
 Line = Dict[str, Any]
 Named = Tuple[str, int, int]  # a zone, a tag and an algorithm
+Placed = Tuple[Named, int]  # the same, in a DNSKEY RRset
 
 
 def named_by(zone: str, line: Line) -> Named:
     return zone, line["tag"], line["algorithm"]
 
 
+def placed_by(line: Line) -> Placed:
+    """The key that a line of a zone names, where it stands."""
+    return named_by(line["zone"], line), line["rrset"]
+
+
 class ZoneKeys:
-    """The lines `key` by zone and by key, and the reasons of signatures by the key that they name."""
+    """The lines `key` by zone, and what they and reasons say of keys."""
 
     def __init__(self, lines: Sequence[Line], known: Keys) -> None:
         self.known = known
         self.by_zone: Dict[str, List[Line]] = {}
-        self.by_name: Dict[Named, List[Line]] = {}
-        self.reasons: Dict[Named, List[Line]] = {}
-        self.without_signature: Set[Tuple[Named, int]] = set()  # by DNSKEY RRset
+        self.flags: Dict[Named, Set[int]] = {}
+        self.signing: Set[Placed] = set()  # those that sign the keys, and those that don't
+        self.not_signing: Set[Placed] = set()
+        self.flawed: Dict[Placed, List[str]] = {}
+        self.no_zone_keys: Set[Named] = set()
         for line in lines:
             if line["line"] == "key":
-                self.by_zone.setdefault(line["zone"], []).append(line)
-                self.by_name.setdefault(named_by(line["zone"], line), []).append(line)
+                self.add_key(line)
             elif line["line"] == "reason" and "signer" in line:
-                self.reasons.setdefault(named_by(line["signer"], line), []).append(line)
+                self.add_signature(line)
             elif line.get("word") == "not-self-signed":
-                self.without_signature.add((named_by(line["zone"], line), line["rrset"]))
+                self.not_signing.add(placed_by(line))
+
+    def add_key(self, line: Line) -> None:
+        self.by_zone.setdefault(line["zone"], []).append(line)
+        self.flags.setdefault(named_by(line["zone"], line), set()).add(line["flags"])
+        self.signing.update([placed_by(line)] if "signature" in line else [])
+
+    def add_signature(self, line: Line) -> None:
+        named = named_by(line["signer"], line)
+        if (line["owner"], line["type"]) == (line["signer"], TYPE_DNSKEY):
+            self.flawed.setdefault((named, line["rrset"]), []).append(line["word"])
+        self.no_zone_keys.update([named] if line["word"] == "not-zone-key" else [])
 
     def of(self, zone: str) -> List[Line]:
         return self.by_zone.get(zone, [])
@@ -56,34 +74,28 @@ class ZoneKeys:
 
     def flaws(self, line: Line) -> List[str]:
         """The words of what fails of the signature that the key of the line has over the keys it's among."""
-        place = (line["zone"], TYPE_DNSKEY, line["rrset"])
-        reasons = self.reasons.get(named_by(line["zone"], line), ())
-        return [each["word"] for each in reasons if (each["owner"], each["type"], each["rrset"]) == place]
+        return self.flawed.get(placed_by(line), [])
 
     def may_have_signed(self, line: Line) -> Optional[bool]:
         """Whether a signature of the keys that it's among may be of the key of the line: none is where a reason says so,
         or none has its tag and algorithm, or but one of another key. None where it isn't known which there are."""
-        if self.is_beside_signer(line) or (named_by(line["zone"], line), line["rrset"]) in self.without_signature:
+        if self.is_beside_signer(line) or placed_by(line) in self.not_signing:
             return False
         key = self.known_key(line["zone"], line)
         return None if key is None else line["rrset"] in key.signed
 
     def is_beside_signer(self, line: Line) -> bool:
         """Whether the line is of a key that doesn't sign the keys, beside one of its tag and algorithm that does."""
-        is_of_key = line["line"] == "key" and "signature" not in line
-        if not is_of_key and line.get("word") != "not-self-signed":
-            return False
-        twins = self.by_name.get(named_by(line["zone"], line), ())
-        return any("signature" in each and each["rrset"] == line["rrset"] for each in twins)
+        is_without = (line["line"] == "key" and "signature" not in line) or line.get("word") == "not-self-signed"
+        return is_without and placed_by(line) in self.signing
 
     def lack(self, zone: str, line: Line) -> Optional[str]:
         """What the key that the line names lacks to be a zone key (RFC 4034 2.1); None where it's one, as far as is
         known."""
-        there = self.by_name.get(named_by(zone, line), [])
-        if any(not each["flags"] & ZONE_KEY for each in there):
+        named = named_by(zone, line)
+        if any(not flags & ZONE_KEY for flags in self.flags.get(named, ())):
             return "its flags lack ZONE"
         key = self.known_key(zone, line)
         if key and key.protocol != DNSSEC:
             return f"its protocol is {key.protocol}, and not {DNSSEC}"
-        words = (each["word"] for each in self.reasons.get(named_by(zone, line), ()))
-        return f"its protocol isn't {DNSSEC}" if there and "not-zone-key" in words else None
+        return f"its protocol isn't {DNSSEC}" if named in self.flags and named in self.no_zone_keys else None

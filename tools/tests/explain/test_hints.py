@@ -1,4 +1,5 @@
 """Tests of what many reasons together point to, and of copies that are told apart."""
+import time
 import unittest
 
 from dnssec_check_tools.explaining import copies, sentences
@@ -82,8 +83,15 @@ class Copies(unittest.TestCase):
             self.assertEqual(self.about(*lines, *places), ["b. DNSKEY", "b. DNSKEY"], places)
         self.assertEqual(self.about(reason("bad", 1, 1), {**KEY, "rrset": 2}, *placed(4, 7)), ["b. A", "b. DNSKEY of message 7"])
 
+    def test_many_copies_take_little_time(self):
+        """A fifth of a second of a processor on the machine where it was measured; compared pair by pair, a minute."""
+        lines = [line for number in range(1, 5001) for line in (reason("expired", number, 48, by=number % 7), {**KEY, "rrset": number})]
+        begun = time.process_time()
+        self.assertEqual(len(self.about(*lines, *placed(*range(1, 5001)))), 14)
+        self.assertLess(time.process_time() - begun, 5)
+
     def test_of_many_messages_the_first_are_said(self):
-        rows = (([7], "message 7"), ([7, 4, 7], "messages 4 and 7"), ([3, 2, 1], "messages 1, 2 and 3"), ([4, 3, 2, 1], "messages 1, 2, 3 and 1 more"))
+        rows = (({7}, "message 7"), ({7, 4}, "messages 4 and 7"), ({3, 2, 1}, "messages 1, 2 and 3"), ({4, 3, 2, 1}, "messages 1, 2, 3 and 1 more"))
         for numbers, text in rows:
             self.assertEqual(copies.messages_text(numbers), text)
 
