@@ -172,14 +172,20 @@ def anchor_box(chain: Chain, number: int, zone: str, state: str, digest: Optiona
 
 
 def ds_box(
-    chain: Chain, signers: Dict[int, str], place: Tuple[int, int], zone: str, state: str, line: Optional[Line] = None
+    chain: Chain,
+    signers: Dict[int, str],
+    place: Tuple[int, int],
+    zone: str,
+    state: str,
+    line: Optional[Line] = None,
+    behind: Sequence[str] = (),
 ) -> Key:
     """The box of a DS record, in the frame of the zone that signs its RRset."""
     rrset, record = place
     lines: Tuple[str, ...] = owned(zone, DS), f"record {record}"
     if line is not None:
         lines += (f"key {line['tag']}", digest_name(line["digest_type"]))
-    return chain.add(("ds", rrset, record), signers.get(rrset), lines, state)
+    return chain.add(("ds", rrset, record), signers.get(rrset), (*lines, *behind), state)
 
 
 def rrset_box(

@@ -1,8 +1,9 @@
 """The boxes and edges that each line of an explanation puts into the picture of the chain."""
 from typing import Dict, List, Set, Tuple
 from .explanation import DNSKEY, DS, Explanation, Line
-from .chain import ABSENT, FAILS, FOLLOWS, HOLDS, MISSING, PLAIN, QUESTION, RELATIONS, SHORT, UNDER
+from .chain import ABSENT, FAILS, FOLLOWS, HOLDS, MISSING, PLAIN, QUESTION, RELATIONS, SHORT
 from .chain import Chain, Key, anchor_box, ds_box, key_box, keys_box, rrset_box
+from .frames import lay_under, signers_of
 from .holding import UNUSABLE
 from .missing import DNAME, ROLES, is_unasked, sought
 from .values import date, owned
@@ -15,8 +16,7 @@ OF_ZONES = (DS, DNSKEY)
 def chain_of(told: Explanation) -> Chain:
     """The chain of an explanation."""
     chain = Chain(told)
-    signers = {line["rrset"]: line["signer"] for line in told.lines if {"rrset", "signer"} <= set(line)}
-    scene = Scene(told, chain, signers)
+    scene = Scene(told, chain, signers_of(told))
     for line in told.lines:
         DRAWN[line["line"]](scene, line)
     value = told.value
@@ -38,6 +38,9 @@ class Scene:
     def __init__(self, told: Explanation, chain: Chain, signers: Dict[int, str]) -> None:
         self.told, self.chain, self.signers = told, chain, signers
         self.leading: List[Tuple[Key, str, str, Key]] = []
+        # How RRsets stand by the lines of their signatures: a DS record of one that has none may match a key.
+        self.states = {line["rrset"]: FOLLOWS for line in told.of("follows")}
+        self.states.update((line["rrset"], HOLDS) for line in told.of("signed"))
 
     def lead(self, box: Key, state: str, text: str = "", head: Key = QUESTION) -> None:
         """An edge to the question, or to what leads to it."""
@@ -48,7 +51,8 @@ class Scene:
         for box, state, text, head in self.leading:
             if box in self.chain.boxes and head in self.chain.boxes:
                 self.chain.join(box, head, state, text)
-        self.lay_under()
+        links = self.told.of("trusted")
+        lay_under(self.chain, ("rrset", links[-1]["rrset"]) if links else None)
 
     def lead_over_aliases(self) -> None:
         """From each link of the way to the next, and from the last, or the answer, to the question."""
@@ -57,17 +61,6 @@ class Scene:
         way += [("rrset", value["rrset"])] if "rrset" in value else []
         for place, box in enumerate(way):
             self.lead(box, HOLDS, "alias" if place < len(value["aliases"]) else "", (way + [QUESTION])[place + 1])
-
-    def lay_under(self) -> None:
-        """What no edge leads to stands under the last link of the chain, and the question under all."""
-        links = [line["rrset"] for line in self.told.of("trusted")]
-        heads = {each.head for each in self.chain.edges.values()}
-        last = ("rrset", links[-1]) if links else None
-        for box in list(self.chain.boxes.values()):
-            if last and box.key not in heads and box.key != last and box.state in (FAILS, MISSING):
-                self.chain.join(last, box.key, UNDER)
-        if last:
-            self.chain.join(last, QUESTION, UNDER)
 
     def voucher(self, line: Line, zone: str, state: str) -> Key:
         """The box of the anchor or DS record that a line names by `anchor`, or by `ds_rrset` and `ds_record`."""
@@ -78,7 +71,10 @@ class Scene:
 
     def of_signature(self, line: Line, state: str, text: str = "") -> None:
         """The edge from the key that signs to the RRset, whichever zone that is in."""
-        tail = key_box(self.chain, line["signer"], line, FOLLOWS if state == FOLLOWS else PLAIN)
+        is_missing = line["line"] == "reason" and line["word"] == "key-missing"
+        tail = key_box(
+            self.chain, line["signer"], line, MISSING if is_missing else FOLLOWS if state == FOLLOWS else PLAIN
+        )
         for head in signed_boxes(self, line, state):
             if line["type"] not in OF_ZONES:
                 self.lead(head, state)
@@ -101,13 +97,15 @@ def signed(scene: Scene, line: Line) -> None:
         scene.chain.join(signing, head, HOLDS)
 
 
-def signed_boxes(scene: Scene, line: Line, state: str) -> List[Key]:
+def signed_boxes(scene: Scene, line: Line, state: str, *behind: str) -> List[Key]:
     """The RRset, or of a DS RRset the records that lines name."""
-    zone, number = line["signer"], line["rrset"]
+    number, owner = line["rrset"], line["owner"]
     records = sorted(records_of(scene.told, number)) if line["type"] == DS else []
     if not records:
-        return [rrset_box(scene.chain, zone, number, line["owner"], line["type"], state)]
-    return [ds_box(scene.chain, scene.signers, (number, record), line["owner"], state) for record in records]
+        zone = line.get("signer") or scene.signers.get(number)
+        return [rrset_box(scene.chain, zone, number, owner, line["type"], state, behind)]
+    places = ((number, record) for record in records)
+    return [ds_box(scene.chain, scene.signers, place, owner, state, None, behind) for place in places]
 
 
 def records_of(told: Explanation, number: int) -> Set[int]:
@@ -158,8 +156,8 @@ def key(scene: Scene, line: Line) -> None:
     if "anchor" in line:
         scene.chain.join(anchor_box(scene.chain, line["anchor"], zone, HOLDS), box, HOLDS)
     if "ds_record" in line:
-        place = line["ds_rrset"], line["ds_record"]
-        scene.chain.join(ds_box(scene.chain, scene.signers, place, zone, HOLDS), box, HOLDS)
+        place, state = (line["ds_rrset"], line["ds_record"]), scene.states.get(line["ds_rrset"], PLAIN)
+        scene.chain.join(ds_box(scene.chain, scene.signers, place, zone, state), box, state)
 
 
 def reason(scene: Scene, line: Line) -> None:
@@ -209,10 +207,9 @@ def not_vouched(scene: Scene, line: Line) -> None:
 
 
 def unsigned(scene: Scene, line: Line) -> None:
-    zone = line["owner"] if line["type"] == DNSKEY else None
-    box = rrset_box(scene.chain, zone, line["rrset"], line["owner"], line["type"], FAILS, ("unsigned",))
-    if line["type"] not in OF_ZONES:
-        scene.lead(box, FAILS)
+    for box in signed_boxes(scene, line, FAILS, "unsigned"):
+        if line["type"] not in OF_ZONES:
+            scene.lead(box, FAILS)
 
 
 def at_zone(scene: Scene, line: Line) -> None:

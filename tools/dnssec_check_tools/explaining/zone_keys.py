@@ -77,7 +77,7 @@ class ZoneKeys:
         return self.flawed.get(placed_by(line), [])
 
     def may_have_signed(self, line: Line) -> Optional[bool]:
-        """Whether a signature of the keys that it's among may be of the key of the line: none is where a reason says so,
+        """Whether a signature of the keys that it's among may be of the line's key: none is where a reason says so,
         or none has its tag and algorithm, or but one of another key. None where it isn't known which there are."""
         if self.is_beside_signer(line) or placed_by(line) in self.not_signing:
             return False

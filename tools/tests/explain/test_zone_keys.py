@@ -86,6 +86,11 @@ class Zones(unittest.TestCase):
             self.assertEqual("no zone key" in box.lines, lack is not None, row)
             self.assertEqual(box.mark == chain.ENTRY, bool(row[0] & keys.SEP) and lack is None, row)
 
+    def test_a_key_that_is_not_there(self):
+        for word, state in (("key-missing", chain.MISSING), ("bad", chain.PLAIN)):
+            boxes = drawn.chain_of(told_by(*of_keys(word, owner="a.b.", type=1))).boxes
+            self.assertEqual(boxes["key", "b.", 9, 13, False].state, state, word)
+
 
 if __name__ == "__main__":
     unittest.main()
