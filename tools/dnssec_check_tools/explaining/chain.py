@@ -1,9 +1,9 @@
 """The chain of trust as boxes and edges: what a picture of an explanation has, whoever draws it."""
 from typing import Any, Dict, List, NamedTuple, Optional, Sequence, Set, Tuple
 
-from .explanation import DNSKEY, DS, Explanation, Line
+from .explanation import Explanation, Line
 from .keys import SEP, key_lines
-from .values import digest_name, flag_names, owned
+from .values import DNSKEY, DS, digest_name, flag_names, owned
 
 # How a box or an edge stands: it holds; it fails; it isn't there; it follows from what fails; or it just is. An edge
 # may only say what stands under what.

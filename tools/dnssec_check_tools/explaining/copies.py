@@ -1,8 +1,7 @@
 """RRsets that a capture has several times, told apart by their messages where they don't stand alike."""
 from typing import Any, Dict, FrozenSet, Optional, Sequence, Set, Tuple
 
-from ..capturing.messages import TYPE_DNSKEY
-from .values import all_of, owned
+from .values import DNSKEY, all_of, owned
 
 Line = Dict[str, Any]
 Named = Tuple[str, int]  # an owner and a type
@@ -19,7 +18,7 @@ def rrset_of(line: Line) -> Optional[Tuple[Named, int]]:
         return None
     if "type" in line:
         return (line["owner"], line["type"]), line["rrset"]
-    return ((line["zone"], TYPE_DNSKEY), line["rrset"]) if "zone" in line and "name" not in line else None
+    return ((line["zone"], DNSKEY), line["rrset"]) if "zone" in line and "name" not in line else None
 
 
 def fact_of(line: Line) -> Fact:

@@ -1,12 +1,12 @@
 """The boxes and edges that each line of an explanation puts into the picture of the chain."""
 from typing import Dict, List, Set, Tuple
-from .explanation import DNSKEY, DS, Explanation, Line
+from .explanation import Explanation, Line
 from .chain import ABSENT, FAILS, FOLLOWS, HOLDS, MISSING, PLAIN, QUESTION, RELATIONS, SHORT
 from .chain import Chain, Key, anchor_box, ds_box, key_box, keys_box, rrset_box
 from .frames import lay_under, signers_of
 from .holding import UNUSABLE
 from .missing import DNAME, ROLES, is_unasked, sought
-from .values import date, owned
+from .values import DNSKEY, DS, date, owned
 from .vouchers import is_voucher
 
 # The types that only lead on to a zone; all others are what is asked for, or deny it.

@@ -5,9 +5,8 @@ from typing import Any, Dict, List, Optional, Sequence, Tuple
 from .copies import Copies
 from .keys import Keys
 from .replies import Replies, Reply
+from .values import DS
 from .zone_keys import ZoneKeys
-
-DNSKEY, DS = 48, 43
 
 Line = Dict[str, Any]
 Asked = Tuple[str, int]  # a name and a type

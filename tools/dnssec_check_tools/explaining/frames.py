@@ -4,7 +4,8 @@ from itertools import groupby
 from typing import Dict, List, Optional
 
 from .chain import FAILS, MISSING, QUESTION, UNDER, Box, Chain, Key
-from .explanation import DNSKEY, DS, Explanation
+from .explanation import Explanation
+from .values import DNSKEY, DS
 
 
 def is_at_or_below(name: str, zone: str) -> bool:

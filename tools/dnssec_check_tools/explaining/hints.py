@@ -2,9 +2,9 @@
 from typing import List, Optional, Tuple
 
 from ..asking.moments import moment_text
-from .explanation import DNSKEY, Explanation, Line
+from .explanation import Explanation, Line
 from .said import WHY, Said
-from .values import owned
+from .values import DNSKEY, owned
 
 # What is said where time is what fails of all signatures.
 CLOCKS = {

@@ -1,8 +1,8 @@
 """What holds, a sentence for each line that says it."""
-from .explanation import DNSKEY, DS, Explanation, Line
+from .explanation import Explanation, Line
 from .missing import ROLES
 from .said import HAS, HOLDS, WHY, Said
-from .values import SECTIONS, algorithm_name, date, digest_name, flag_names, key_name, owned, until
+from .values import DNSKEY, DS, SECTIONS, algorithm_name, date, digest_name, flag_names, key_name, owned, until
 
 FORMS = {
     "no-name": "there is no such name",

@@ -3,10 +3,10 @@ import re
 from typing import Optional, Tuple
 
 from ..asking.hashes import nsec3_hash
-from .explanation import DNSKEY, DS, Asked, Explanation, Line
+from .explanation import Asked, Explanation, Line
 from .replies import NO_NAME, Reply
 from .said import Words
-from .values import all_of, key_name, owned
+from .values import DNSKEY, DS, all_of, key_name, owned
 
 SOA, DNAME, NSEC, NSEC3 = 6, 39, 47, 50
 # What a part of a proof is for.

@@ -1,13 +1,13 @@
 """The sentences of an explanation: the verdict; then what fails first, what the zone has beside what is wanted, what
 follows, and how far it holds. All of it is from one JSON object of `explain`."""
 from typing import Dict, List, Optional
-from .explanation import DNSKEY, Explanation, Line
+from .explanation import Explanation, Line
 from . import holding
 from .hints import hints
 from .missing import is_beside_no_name, is_unasked
 from .reasons import follows, reason
 from .said import HOLDS, Said
-from .values import counted, owned, until
+from .values import DNSKEY, counted, owned, until
 
 LINES = {
     "reason": reason,

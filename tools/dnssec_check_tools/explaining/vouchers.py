@@ -1,7 +1,7 @@
 """What is wrong with a trust anchor or a DS record: what it names, and what the zone has instead."""
-from .explanation import DNSKEY, DS, Explanation, Line
+from .explanation import Explanation, Line
 from .said import Words
-from .values import algorithm_name, all_of, digest_name, key_name, owned
+from .values import DNSKEY, DS, algorithm_name, all_of, digest_name, key_name, owned
 
 
 def is_voucher(line: Line) -> bool:

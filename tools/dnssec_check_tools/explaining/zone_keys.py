@@ -1,9 +1,8 @@
 """What the lines of an explanation, and the capture, say of the keys of zones."""
 from typing import Any, Dict, List, Optional, Sequence, Set, Tuple
 
-from ..capturing.messages import TYPE_DNSKEY
 from .keys import DNSSEC, Key, Keys
-from .values import ZONE_KEY
+from .values import DNSKEY, ZONE_KEY
 
 Line = Dict[str, Any]
 Named = Tuple[str, int, int]  # a zone, a tag and an algorithm
@@ -45,7 +44,7 @@ class ZoneKeys:
 
     def add_signature(self, line: Line) -> None:
         named = named_by(line["signer"], line)
-        if (line["owner"], line["type"]) == (line["signer"], TYPE_DNSKEY):
+        if (line["owner"], line["type"]) == (line["signer"], DNSKEY):
             self.flawed.setdefault((named, line["rrset"]), []).append(line["word"])
         self.no_zone_keys.update([named] if line["word"] == "not-zone-key" else [])
 
