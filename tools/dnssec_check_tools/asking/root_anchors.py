@@ -1,5 +1,6 @@
 """Trust anchors as IANA publishes those of the root, in XML (RFC 9718): each with the time within which it may be
 used."""
+import re
 from xml.etree import ElementTree
 from typing import Any, List, NamedTuple, Optional
 
@@ -7,7 +8,9 @@ from .faults import Refusal, escaped
 from .moments import of_date
 from .zone_file import WrongEntry, ZoneFile
 
-FIELDS = ("KeyTag", "Algorithm", "DigestType", "Digest")
+# The elements of an anchor, and what each may have: what is read of a zone file besides, as an escape, is none of it.
+NUMBER, HEX = re.compile(r"\s*[0-9]+\s*", re.ASCII), re.compile(r"[0-9A-Fa-f\s]+", re.ASCII)
+FIELDS = {"KeyTag": NUMBER, "Algorithm": NUMBER, "DigestType": NUMBER, "Digest": HEX}
 
 
 class Timed(NamedTuple):
@@ -48,10 +51,17 @@ def tree_of(octets: bytes, path: str) -> ElementTree.Element:
 
 def timed(zone: str, element: ElementTree.Element, place: str) -> Timed:
     """The anchor of an element KeyDigest."""
-    words = " ".join([zone, "DS", *(element.findtext(field, "") for field in FIELDS)]).split()
     start, end = element.get("validFrom"), element.get("validUntil")
     try:
+        words = " ".join([zone, "DS", *(field_of(element, name) for name in FIELDS)]).split()
         (entry,) = ZoneFile(" ".join(words)).entries()
         return Timed(entry.owner, entry.record, of_date(start or ""), None if end is None else of_date(end))
     except (WrongEntry, ValueError) as fault:
         raise Refusal(f"{place}: {escaped(str(fault))}") from fault
+
+
+def field_of(element: ElementTree.Element, name: str) -> str:
+    text = element.findtext(name, "")
+    if not FIELDS[name].fullmatch(text):
+        raise ValueError(f"its {name} is {text!r}")
+    return text

@@ -1,9 +1,9 @@
 """The chain of trust as boxes and edges: what a picture of an explanation has, whoever draws it."""
 from typing import Any, Dict, List, NamedTuple, Optional, Sequence, Set, Tuple
 
-from .explanation import DNSKEY, DS, Explanation, Line
+from .explanation import Explanation, Line
 from .keys import SEP, key_lines
-from .values import digest_name, flag_names, owned
+from .values import DNSKEY, DS, digest_name, flag_names, owned
 
 # How a box or an edge stands: it holds; it fails; it isn't there; it follows from what fails; or it just is. An edge
 # may only say what stands under what.
@@ -85,9 +85,11 @@ class Edge(NamedTuple):
 
 
 class Chain:
-    """Boxes by their keys, in the order in which they are said, and edges between them."""
+    """Boxes by their keys, in the order in which they are said, and edges between them; copies that don't stand alike
+    are told apart."""
 
-    def __init__(self) -> None:
+    def __init__(self, told: Explanation) -> None:
+        self.told = told
         self.boxes: Dict[Key, Box] = {}
         self.edges: Dict[Tuple[Key, Key, str], Edge] = {}
 
@@ -117,7 +119,7 @@ class Chain:
         if len(groups) == len(self.boxes):
             return self
         first = {box.key: boxes[0].key for boxes in groups.values() for box in boxes}
-        chain = Chain()
+        chain = Chain(self.told)
         for boxes in groups.values():
             chain.boxes[boxes[0].key] = boxes[0]._replace(copies=sum(box.copies for box in boxes))
         for edge in self.edges.values():
@@ -153,13 +155,15 @@ class Chain:
         return frames
 
 
-def key_box(told: Explanation, chain: Chain, zone: str, line: Line, state: str) -> Key:
+def key_box(chain: Chain, zone: str, line: Line, state: str) -> Key:
     """The box of a key, by its tag and algorithm, with its flags where they are known."""
-    key = told.known_key(zone, line)
+    keys = chain.told.keys
+    key, is_zone_key = keys.known_key(zone, line), keys.lack(zone, line) is None
     flags = key.flags if key else line.get("flags")
     lines = (*key_lines(line["tag"], line["algorithm"], key), *([flag_names(flags)] if flags is not None else []))
-    mark = ENTRY if flags is not None and flags & SEP else ""
-    return chain.add(("key", zone, line["tag"], line["algorithm"]), zone, lines, state, mark)
+    mark = ENTRY if flags is not None and flags & SEP and is_zone_key else ""
+    about = ("key", zone, line["tag"], line["algorithm"], keys.is_beside_signer(line))
+    return chain.add(about, zone, (*lines, *(() if is_zone_key else ("no zone key",))), state, mark)
 
 
 def anchor_box(chain: Chain, number: int, zone: str, state: str, digest: Optional[int] = None) -> Key:
@@ -168,20 +172,27 @@ def anchor_box(chain: Chain, number: int, zone: str, state: str, digest: Optiona
 
 
 def ds_box(
-    chain: Chain, signers: Dict[int, str], place: Tuple[int, int], zone: str, state: str, line: Optional[Line] = None
+    chain: Chain,
+    signers: Dict[int, str],
+    place: Tuple[int, int],
+    zone: str,
+    state: str,
+    line: Optional[Line] = None,
+    behind: Sequence[str] = (),
 ) -> Key:
     """The box of a DS record, in the frame of the zone that signs its RRset."""
     rrset, record = place
     lines: Tuple[str, ...] = owned(zone, DS), f"record {record}"
     if line is not None:
         lines += (f"key {line['tag']}", digest_name(line["digest_type"]))
-    return chain.add(("ds", rrset, record), signers.get(rrset), lines, state)
+    return chain.add(("ds", rrset, record), signers.get(rrset), (*lines, *behind), state)
 
 
 def rrset_box(
     chain: Chain, zone: Optional[str], number: int, owner: str, kind: int, state: str, lines: Sequence[str] = ()
 ) -> Key:
-    return chain.add(("rrset", number), zone, (owned(owner, kind), *lines), state)
+    messages = chain.told.copies.messages_of((owner, kind), number)
+    return chain.add(("rrset", number), zone, (owned(owner, kind), *([messages] if messages else []), *lines), state)
 
 
 def keys_box(chain: Chain, zone: str, number: int, state: str) -> Key:

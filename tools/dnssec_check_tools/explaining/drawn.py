@@ -1,11 +1,12 @@
 """The boxes and edges that each line of an explanation puts into the picture of the chain."""
 from typing import Dict, List, Set, Tuple
-from .explanation import DNSKEY, DS, Explanation, Line
-from .chain import ABSENT, FAILS, FOLLOWS, HOLDS, MISSING, PLAIN, QUESTION, RELATIONS, SHORT, UNDER
+from .explanation import Explanation, Line
+from .chain import ABSENT, FAILS, FOLLOWS, HOLDS, MISSING, PLAIN, QUESTION, RELATIONS, SHORT
 from .chain import Chain, Key, anchor_box, ds_box, key_box, keys_box, rrset_box
+from .frames import lay_under, signers_of
 from .holding import UNUSABLE
-from .missing import DNAME, ROLES, is_unasked
-from .values import date, owned
+from .missing import DNAME, ROLES, is_unasked, sought
+from .values import DNSKEY, DS, date, owned
 from .vouchers import is_voucher
 
 # The types that only lead on to a zone; all others are what is asked for, or deny it.
@@ -14,8 +15,8 @@ OF_ZONES = (DS, DNSKEY)
 
 def chain_of(told: Explanation) -> Chain:
     """The chain of an explanation."""
-    chain, signers = Chain(), {line["rrset"]: line["signer"] for line in told.lines if {"rrset", "signer"} <= set(line)}
-    scene = Scene(told, chain, signers)
+    chain = Chain(told)
+    scene = Scene(told, chain, signers_of(told))
     for line in told.lines:
         DRAWN[line["line"]](scene, line)
     value = told.value
@@ -37,6 +38,9 @@ class Scene:
     def __init__(self, told: Explanation, chain: Chain, signers: Dict[int, str]) -> None:
         self.told, self.chain, self.signers = told, chain, signers
         self.leading: List[Tuple[Key, str, str, Key]] = []
+        # How RRsets stand by the lines of their signatures: a DS record of one that has none may match a key.
+        self.states = {line["rrset"]: FOLLOWS for line in told.of("follows")}
+        self.states.update((line["rrset"], HOLDS) for line in told.of("signed"))
 
     def lead(self, box: Key, state: str, text: str = "", head: Key = QUESTION) -> None:
         """An edge to the question, or to what leads to it."""
@@ -47,7 +51,8 @@ class Scene:
         for box, state, text, head in self.leading:
             if box in self.chain.boxes and head in self.chain.boxes:
                 self.chain.join(box, head, state, text)
-        self.lay_under()
+        links = self.told.of("trusted")
+        lay_under(self.chain, ("rrset", links[-1]["rrset"]) if links else None)
 
     def lead_over_aliases(self) -> None:
         """From each link of the way to the next, and from the last, or the answer, to the question."""
@@ -56,17 +61,6 @@ class Scene:
         way += [("rrset", value["rrset"])] if "rrset" in value else []
         for place, box in enumerate(way):
             self.lead(box, HOLDS, "alias" if place < len(value["aliases"]) else "", (way + [QUESTION])[place + 1])
-
-    def lay_under(self) -> None:
-        """What no edge leads to stands under the last link of the chain, and the question under all."""
-        links = [line["rrset"] for line in self.told.of("trusted")]
-        heads = {each.head for each in self.chain.edges.values()}
-        last = ("rrset", links[-1]) if links else None
-        for box in list(self.chain.boxes.values()):
-            if last and box.key not in heads and box.key != last and box.state in (FAILS, MISSING):
-                self.chain.join(last, box.key, UNDER)
-        if last:
-            self.chain.join(last, QUESTION, UNDER)
 
     def voucher(self, line: Line, zone: str, state: str) -> Key:
         """The box of the anchor or DS record that a line names by `anchor`, or by `ds_rrset` and `ds_record`."""
@@ -77,7 +71,10 @@ class Scene:
 
     def of_signature(self, line: Line, state: str, text: str = "") -> None:
         """The edge from the key that signs to the RRset, whichever zone that is in."""
-        tail = key_box(self.told, self.chain, line["signer"], line, FOLLOWS if state == FOLLOWS else PLAIN)
+        is_missing = line["line"] == "reason" and line["word"] == "key-missing"
+        tail = key_box(
+            self.chain, line["signer"], line, MISSING if is_missing else FOLLOWS if state == FOLLOWS else PLAIN
+        )
         for head in signed_boxes(self, line, state):
             if line["type"] not in OF_ZONES:
                 self.lead(head, state)
@@ -86,27 +83,29 @@ class Scene:
 
 def trusted(scene: Scene, line: Line) -> None:
     zone = line["zone"]
-    signing = key_box(scene.told, scene.chain, zone, line, HOLDS)
+    signing = key_box(scene.chain, zone, line, HOLDS)
     scene.chain.join(scene.voucher(line, zone, HOLDS), signing, HOLDS)
     scene.chain.join(signing, keys_box(scene.chain, zone, line["rrset"], HOLDS), HOLDS)
 
 
 def signed(scene: Scene, line: Line) -> None:
     zone = line["signer"]
-    signing, keys = key_box(scene.told, scene.chain, zone, line, HOLDS), ("rrset", line["keys"])
+    signing, keys = key_box(scene.chain, zone, line, HOLDS), ("rrset", line["keys"])
     if (signing, keys, "") not in scene.chain.edges:
         scene.chain.join(keys_box(scene.chain, zone, line["keys"], HOLDS), signing, HOLDS)
     for head in signed_boxes(scene, line, HOLDS):
         scene.chain.join(signing, head, HOLDS)
 
 
-def signed_boxes(scene: Scene, line: Line, state: str) -> List[Key]:
+def signed_boxes(scene: Scene, line: Line, state: str, *behind: str) -> List[Key]:
     """The RRset, or of a DS RRset the records that lines name."""
-    zone, number = line["signer"], line["rrset"]
+    number, owner = line["rrset"], line["owner"]
     records = sorted(records_of(scene.told, number)) if line["type"] == DS else []
     if not records:
-        return [rrset_box(scene.chain, zone, number, line["owner"], line["type"], state)]
-    return [ds_box(scene.chain, scene.signers, (number, record), line["owner"], state) for record in records]
+        zone = line.get("signer") or scene.signers.get(number)
+        return [rrset_box(scene.chain, zone, number, owner, line["type"], state, behind)]
+    places = ((number, record) for record in records)
+    return [ds_box(scene.chain, scene.signers, place, owner, state, None, behind) for place in places]
 
 
 def records_of(told: Explanation, number: int) -> Set[int]:
@@ -150,15 +149,15 @@ def unseen(_scene: Scene, _line: Line) -> None:
 
 def key(scene: Scene, line: Line) -> None:
     zone = line["zone"]
-    box = key_box(scene.told, scene.chain, zone, line, PLAIN)
+    box = key_box(scene.chain, zone, line, PLAIN)
     keys = keys_box(scene.chain, zone, line["rrset"], PLAIN)
     if "signature" in line:
         scene.chain.join(box, keys, HOLDS)
     if "anchor" in line:
         scene.chain.join(anchor_box(scene.chain, line["anchor"], zone, HOLDS), box, HOLDS)
     if "ds_record" in line:
-        place = line["ds_rrset"], line["ds_record"]
-        scene.chain.join(ds_box(scene.chain, scene.signers, place, zone, HOLDS), box, HOLDS)
+        place, state = (line["ds_rrset"], line["ds_record"]), scene.states.get(line["ds_rrset"], PLAIN)
+        scene.chain.join(ds_box(scene.chain, scene.signers, place, zone, state), box, state)
 
 
 def reason(scene: Scene, line: Line) -> None:
@@ -186,23 +185,31 @@ def of_voucher(scene: Scene, line: Line) -> None:
         tail = anchor_box(scene.chain, line["anchor"], zone, FAILS, line.get("digest_type"))
     else:
         tail = ds_box(scene.chain, scene.signers, (line["rrset"], line["record"]), zone, FAILS, line)
-    known = {(each["tag"], each["algorithm"]) for each in scene.told.keys(zone)}
+    known = {(each["tag"], each["algorithm"]) for each in scene.told.keys.of(zone)}
     is_there = (line["tag"], line["algorithm"]) in known
-    head = key_box(scene.told, scene.chain, zone, line, PLAIN if is_there else MISSING)
+    head = key_box(scene.chain, zone, line, PLAIN if is_there else MISSING)
     scene.chain.join(tail, head, MISSING, SHORT[line["word"]])
 
 
 def not_self_signed(scene: Scene, line: Line) -> None:
-    box = key_box(scene.told, scene.chain, line["zone"], line, PLAIN)
+    box = key_box(scene.chain, line["zone"], line, PLAIN)
     keys = keys_box(scene.chain, line["zone"], line["rrset"], PLAIN)
     scene.chain.join(box, keys, MISSING, SHORT[line["word"]])
 
 
+def not_vouched(scene: Scene, line: Line) -> None:
+    """What isn't there, above the keys that sign theirs, or all where none does."""
+    box = scene.chain.add((line["word"], line["zone"]), line["zone"], absent(scene, line), MISSING)
+    keys_box(scene.chain, line["zone"], line["rrset"], FAILS)
+    among = [each for each in scene.told.keys.of(line["zone"]) if each["rrset"] == line["rrset"]]
+    for each in [each for each in among if "signature" in each] or among:
+        scene.chain.join(box, key_box(scene.chain, line["zone"], each, PLAIN), MISSING)
+
+
 def unsigned(scene: Scene, line: Line) -> None:
-    zone = line["owner"] if line["type"] == DNSKEY else None
-    box = rrset_box(scene.chain, zone, line["rrset"], line["owner"], line["type"], FAILS, ("unsigned",))
-    if line["type"] not in OF_ZONES:
-        scene.lead(box, FAILS)
+    for box in signed_boxes(scene, line, FAILS, "unsigned"):
+        if line["type"] not in OF_ZONES:
+            scene.lead(box, FAILS)
 
 
 def at_zone(scene: Scene, line: Line) -> None:
@@ -217,14 +224,8 @@ def absent(scene: Scene, line: Line) -> Tuple[str, ...]:
 
 def at_name(scene: Scene, line: Line) -> None:
     """What a proof lacks, as an empty box with the name."""
-    role = (ROLES[line["role"]],) if "role" in line else ()
-    box = scene.chain.add(
-        (line["word"], line["zone"], line["name"]),
-        line["zone"],
-        (f"no {line['kind'].upper()}", line["name"], *role),
-        MISSING,
-    )
-    scene.lead(box, MISSING)
+    text = (f"no {line['kind'].upper()}", *sought(scene.told, line))
+    scene.lead(scene.chain.add((line["word"], line["zone"], line["name"]), line["zone"], text, MISSING), MISSING)
 
 
 def record(scene: Scene, line: Line) -> None:
@@ -263,7 +264,7 @@ REASONS = {
     "dnskey-missing": at_zone,
     "ds-missing": at_zone,
     "not-self-signed": not_self_signed,
-    "not-vouched": at_zone,
+    "not-vouched": not_vouched,
     "unsigned": unsigned,
     "dname": dname,
     "nsec3-iterations": record,

@@ -1,11 +1,12 @@
-"""What a JSON object of `explain` says besides its lines, what its lines say of keys, and what was asked for."""
+"""What a JSON object of `explain` says besides its lines, and what was asked for."""
 import functools
 from typing import Any, Dict, List, Optional, Sequence, Tuple
 
-from .keys import Key, Keys
+from .copies import Copies
+from .keys import Keys
 from .replies import Replies, Reply
-
-DNSKEY, DS = 48, 43
+from .values import DS
+from .zone_keys import ZoneKeys
 
 Line = Dict[str, Any]
 Asked = Tuple[str, int]  # a name and a type
@@ -23,25 +24,17 @@ class Explanation:
         """The lines that begin with this word."""
         return [each for each in self.lines if each["line"] == line]
 
-    def keys(self, zone: str) -> List[Line]:
-        """The lines of the zone's keys."""
-        return [each for each in self.of("key") if each["zone"] == zone]
+    @functools.cached_property
+    def keys(self) -> ZoneKeys:
+        return ZoneKeys(self.lines, self.known_keys)
 
-    def known_key(self, zone: str, line: Line) -> Optional[Key]:
-        """The zone's key with the tag and the algorithm of the line, where the capture has it."""
-        return self.known_keys.get((zone, line["tag"], line["algorithm"]))
+    @functools.cached_property
+    def copies(self) -> Copies:
+        return Copies(self.lines)
 
-    def tags(self, zone: str, *others: int) -> List[int]:
-        """The tags of the zone's keys, each once and rising, but for these."""
-        return sorted({each["tag"] for each in self.keys(zone)}.difference(others))
-
-    def algorithms(self, zone: str, tag: int) -> List[int]:
-        """The algorithms of the zone's keys with this tag, each once and rising."""
-        return sorted({each["algorithm"] for each in self.keys(zone) if each["tag"] == tag})
-
-    def signing_tags(self, zone: str, rrset: int) -> List[int]:
-        """The tags of the keys that sign the DNSKEY RRset they are in."""
-        return sorted({each["tag"] for each in self.keys(zone) if each["rrset"] == rrset and "signature" in each})
+    def named(self, line: Line, about: str) -> str:
+        """What a sentence of the line is about; of copies that don't stand alike, with their messages."""
+        return about + self.copies.of(line, about)
 
     def reply(self, name: str, kind: int) -> Optional[Reply]:
         """How a message answers what was asked; None where nobody asked, or nothing is known of it."""

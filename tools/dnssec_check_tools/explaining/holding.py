@@ -1,8 +1,8 @@
 """What holds, a sentence for each line that says it."""
-from .explanation import DNSKEY, DS, Explanation, Line
+from .explanation import Explanation, Line
 from .missing import ROLES
 from .said import HAS, HOLDS, WHY, Said
-from .values import SECTIONS, ZONE_KEY, algorithm_name, date, digest_name, flag_names, key_name, owned, until
+from .values import DNSKEY, DS, SECTIONS, algorithm_name, date, digest_name, flag_names, key_name, owned, until
 
 FORMS = {
     "no-name": "there is no such name",
@@ -31,6 +31,14 @@ UNUSABLE = {
     "digest-type": "the digest type isn't supported",
     "digest-ignored": "a stronger digest stands beside it",
 }
+# What a signature of the keys is by which none of them signs.
+FLAWS = {
+    "expired": "that has expired",
+    "not-yet": "that begins later",
+    "bad": "that is bad",
+    "unanswered": "that could not be verified",
+}
+USELESS = "that doesn't count"
 
 
 def unverified(line: Line) -> str:
@@ -38,16 +46,16 @@ def unverified(line: Line) -> str:
     return f", if signature {line['todo']} of those to verify is good" if "todo" in line else ""
 
 
-def trusted(_told: Explanation, line: Line) -> Said:
+def trusted(told: Explanation, line: Line) -> Said:
     named = f"anchor {line['anchor']}" if "anchor" in line else "the DS"
     digest = f" by {digest_name(line['digest_type'])}" if "digest_type" in line else ""
     text = f"signed by its {key_name(line['tag'], line['algorithm'])}, which {named} names{digest}"
-    return Said(HOLDS, owned(line["zone"], DNSKEY), text + unverified(line))
+    return Said(HOLDS, told.named(line, owned(line["zone"], DNSKEY)), text + unverified(line))
 
 
-def signed(_told: Explanation, line: Line) -> Said:
+def signed(told: Explanation, line: Line) -> Said:
     text = f"signed by {key_name(line['tag'], line['algorithm'])} of {line['signer']}"
-    return Said(HOLDS, owned(line["owner"], line["type"]), text + unverified(line))
+    return Said(HOLDS, told.named(line, owned(line["owner"], line["type"])), text + unverified(line))
 
 
 def proof(_told: Explanation, line: Line) -> Said:
@@ -83,22 +91,35 @@ def holds(told: Explanation, line: Line) -> Said:
     return Said(HOLDS, told.value["name"], text)
 
 
-def key(_told: Explanation, line: Line) -> Said:
+def key(told: Explanation, line: Line) -> Said:
     """What the zone has."""
     name = f"key {line['tag']} ({algorithm_name(line['algorithm'])}, {flag_names(line['flags'])})"
-    signs = "signs the keys" if "signature" in line else "doesn't sign the keys"
-    zone_key = "" if line["flags"] & ZONE_KEY else "; it is no zone key"
-    return Said(HAS, owned(line["zone"], DNSKEY), f"{name} {signs}; {named_by(line)}{zone_key}")
+    lack = told.keys.lack(line["zone"], line)
+    zone_key = f"; it is no zone key: {lack}" if lack else ""
+    about = told.named(line, owned(line["zone"], DNSKEY))
+    return Said(HAS, about, f"{name} {signs(told, line)}; {matched_by(line)}{zone_key}")
 
 
-def named_by(line: Line) -> str:
-    """What names the key."""
+def signs(told: Explanation, line: Line) -> str:
+    """Whether the key signs the keys, and by what signature, where that isn't good."""
+    if "signature" in line:
+        return "signs the keys"
+    flaws, may_have_signed = told.keys.flaws(line), told.keys.may_have_signed(line)
+    if flaws:
+        return "signs the keys by a signature " + next((FLAWS[each] for each in flaws if each in FLAWS), USELESS)
+    if may_have_signed is None:
+        return "has no good signature over the keys"
+    return f"signs the keys by a signature {USELESS}" if may_have_signed else "doesn't sign the keys"
+
+
+def matched_by(line: Line) -> str:
+    """What matches the key: anchors and DS records may name it by its tag, and be of another."""
     anchor, has_ds = line.get("anchor"), "ds_record" in line
     if anchor and has_ds:
-        return f"anchor {anchor} and the DS name it"
+        return f"anchor {anchor} and the DS match it"
     if anchor or has_ds:
-        return f"{f'anchor {anchor}' if anchor else 'the DS'} names it"
-    return "neither an anchor nor a DS names it"
+        return f"{f'anchor {anchor}' if anchor else 'the DS'} matches it"
+    return "neither an anchor nor a DS matches it"
 
 
 def rrset(_told: Explanation, line: Line) -> Said:

@@ -1,23 +1,23 @@
-"""The keys that a capture has, as a picture shows them: their flags, and how long they are."""
-from typing import Dict, NamedTuple, Optional, Tuple
+"""The keys that a capture has: their flags and protocol, how long they are, and which RRsets they may have signed."""
+from typing import Dict, FrozenSet, NamedTuple, Optional, Tuple
 
 from .values import algorithm_name, counted
 
 SEP = 1  # the bit of the flags by which a key is said to be a zone's secure entry point (RFC 4034 2.1.1)
+DNSSEC = 3  # the protocol of a zone key (RFC 4034 2.1.2)
 # The algorithms of RSA, and of curves with how many bits a key on each has.
 OF_RSA = {1, 5, 7, 8, 10}
 OF_CURVES = {13: 256, 14: 384, 15: 256, 16: 456}
 
 
 class Key(NamedTuple):
-    """The flags of a key and its length in bits, None where the field isn't laid out so that there is one."""
+    """The flags of a key, its length in bits, None where the field isn't laid out so that there is one, its protocol,
+    and the DNSKEY RRsets that have a signature by its tag and algorithm."""
 
     flags: int
     bits: Optional[int]
-
-    @property
-    def is_entry(self) -> bool:
-        return bool(self.flags & SEP)
+    protocol: int = DNSSEC
+    signed: FrozenSet[int] = frozenset()
 
 
 Keys = Dict[Tuple[str, int, int], Key]  # by zone, tag and algorithm

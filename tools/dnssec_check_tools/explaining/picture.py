@@ -18,7 +18,7 @@ EDGE_STYLES = {
     FAILS: "style=bold penwidth=2.5",
     MISSING: "style=dashed penwidth=1.5",
     FOLLOWS: "style=dotted",
-    UNDER: "style=invis weight=0",
+    UNDER: "style=invis weight=1",
 }
 FRONT = """digraph chain {
 graph [rankdir=TB nodesep=0.25 ranksep=0.35 margin=0 bgcolor=transparent fontname="Helvetica" fontsize=12]

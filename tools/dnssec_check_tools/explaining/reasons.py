@@ -55,7 +55,7 @@ OF_OTHERS: Dict[str, Reason] = {
 def reason(told: Explanation, line: Line) -> Said:
     """The sentence of a fact of its own."""
     about, text = words_of(line)[line["word"]](told, line)
-    return Said(FAIL, about, text, line["ede"])
+    return Said(FAIL, told.named(line, about), text, line["ede"])
 
 
 def words_of(line: Line) -> Dict[str, Reason]:
@@ -64,9 +64,9 @@ def words_of(line: Line) -> Dict[str, Reason]:
     return OF_VOUCHERS if is_voucher(line) else OF_OTHERS
 
 
-def follows(_told: Explanation, line: Line) -> Said:
+def follows(told: Explanation, line: Line) -> Said:
     """The sentence of a consequence."""
-    about = owned(line["owner"], line["type"])
+    about = told.named(line, owned(line["owner"], line["type"]))
     return Said(THEN, about, FOLLOWS[line["word"]].format(**line))
 
 

@@ -1,12 +1,13 @@
 """The sentences of an explanation: the verdict; then what fails first, what the zone has beside what is wanted, what
 follows, and how far it holds. All of it is from one JSON object of `explain`."""
 from typing import Dict, List, Optional
-from .explanation import DNSKEY, Explanation, Line
+from .explanation import Explanation, Line
 from . import holding
+from .hints import hints
 from .missing import is_beside_no_name, is_unasked
 from .reasons import follows, reason
 from .said import HOLDS, Said
-from .values import counted, owned, until
+from .values import DNSKEY, counted, owned, until
 
 LINES = {
     "reason": reason,
@@ -58,7 +59,7 @@ def why(told: Explanation) -> List[Said]:
     is_failing = told.value["verdict"] in FAILING
     words = ("key", "follows") if is_failing else ("case", "unusable", "hope")
     others = dict.fromkeys(sentence(told, line) for word in words for line in told.of(word))
-    said = [*(reasons(told) if is_failing else ()), *others]
+    said = [*reasons(told), *hints(told), *others] if is_failing else list(others)
     return said + how_far(told) if said and is_failing else said
 
 
@@ -70,8 +71,9 @@ def how_far(told: Explanation) -> List[Said]:
     last, start = links[-1], start_of(links)
     whole = "the chain holds down to here" + (f", from anchor {start['anchor']} of {start['zone']} on" if start else "")
     if last["line"] == "trusted":
-        return [Said(HOLDS, owned(last["zone"], DNSKEY), whole)]
-    return [Said(HOLDS, owned(last["owner"], last["type"]), f"signed by {last['signer']}; {whole}")]
+        return [Said(HOLDS, told.named(last, owned(last["zone"], DNSKEY)), whole)]
+    about = told.named(last, owned(last["owner"], last["type"]))
+    return [Said(HOLDS, about, f"signed by {last['signer']}; {whole}")]
 
 
 def start_of(links: List[Line]) -> Optional[Line]:

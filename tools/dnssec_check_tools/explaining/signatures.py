@@ -44,14 +44,15 @@ def key_missing(told: Explanation, line: Line) -> Words:
 
 def beside(told: Explanation, line: Line) -> str:
     """The keys that the signer has; one with the tag is of another algorithm."""
-    others, tags = told.algorithms(line["signer"], line["tag"]), told.tags(line["signer"])
+    others, tags = told.keys.algorithms(line["signer"], line["tag"]), told.keys.tags(line["signer"])
     if others:
         return f"the zone's is of {all_of(map(algorithm_name, others))}"
     return f"the zone has {all_of(map(str, tags))}" if tags else "the zone has no such key"
 
 
-def not_zone_key(_told: Explanation, line: Line) -> Words:
-    return about(line), f"{by(line)} is by a key that is no zone key"
+def not_zone_key(told: Explanation, line: Line) -> Words:
+    lack = told.keys.lack(line["signer"], line)
+    return about(line), f"{by(line)} is by a key that is no zone key" + (f": {lack}" if lack else "")
 
 
 def bad(_told: Explanation, line: Line) -> Words:

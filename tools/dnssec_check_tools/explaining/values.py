@@ -3,6 +3,7 @@ from typing import Iterable
 from ..asking.kinds import mnemonic_of
 from ..asking.moments import moment_text
 
+DS, DNSKEY = 43, 48
 # Numbers of the IANA registries "DNS Security Algorithm Numbers" and "Delegation Signer (DS) Resource Record (RR) Type
 # Digest Algorithms".
 ALGORITHMS = {

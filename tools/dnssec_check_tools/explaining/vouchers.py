@@ -1,7 +1,7 @@
 """What is wrong with a trust anchor or a DS record: what it names, and what the zone has instead."""
-from .explanation import DNSKEY, DS, Explanation, Line
+from .explanation import Explanation, Line
 from .said import Words
-from .values import algorithm_name, all_of, digest_name, key_name, owned
+from .values import DNSKEY, DS, algorithm_name, all_of, digest_name, key_name, owned
 
 
 def is_voucher(line: Line) -> bool:
@@ -41,14 +41,14 @@ def key_missing(told: Explanation, line: Line) -> Words:
 
 def beside(told: Explanation, line: Line) -> str:
     """The keys that the zone has; one that an anchor writes out may have the tag, and be another."""
-    tags = told.tags(line["zone"])
+    tags = told.keys.tags(line["zone"])
     if line["tag"] in tags:
         return f"the zone's key {line['tag']} is another"
     return f"the zone has {all_of(map(str, tags))}" if tags else "the zone has no such key"
 
 
 def key_algorithm(told: Explanation, line: Line) -> Words:
-    others = told.algorithms(line["zone"], line["tag"])
+    others = told.keys.algorithms(line["zone"], line["tag"])
     instead = f"the zone's is of {all_of(map(algorithm_name, others))}" if others else "the zone's is of another"
     return owned(line["zone"], DNSKEY), f"{named(line)}; {instead}"
 

@@ -1,5 +1,5 @@
 """The RRsets of a capture with their signatures, numbered as the program does, and to what aliases lead."""
-from typing import Any, Dict, List, NamedTuple, Optional, Tuple
+from typing import Any, Dict, List, NamedTuple, Optional, Set, Tuple
 
 from ..capturing.frames import frames_of
 from ..capturing.messages import (
@@ -21,8 +21,9 @@ from ..explaining.keys import Keys, bits_of
 CLASS_IN = 1
 # The types below 128 that form no RRset: 0, the legacy ones, OPT and RRSIG; those of 128 to 255 don't either.
 UNGROUPED = {0, 3, 4, 7, 8, 9, 14, 17, 18, 21, 24, 26, 30, 35, 36, 38, 41, 46}
-KEY_FIELD = 4  # where the key stands in the RDATA of a DNSKEY record (RFC 4034 2.1)
-TAG, SIGNER = 16, 18  # where the key tag and the signer's name stand in the RDATA of an RRSIG record (RFC 4034 3.1)
+PROTOCOL, KEY_FIELD = 2, 4  # where the protocol and the key stand in the RDATA of a DNSKEY record (RFC 4034 2.1)
+# Where the algorithm, the key tag and the signer's name stand in the RDATA of an RRSIG record (RFC 4034 3.1).
+ALGORITHM, TAG, SIGNER = 2, 16, 18
 
 Key = Tuple[int, Labels, int]
 
@@ -30,6 +31,7 @@ Key = Tuple[int, Labels, int]
 class Signature(NamedTuple):
     tag: int
     signer: Labels
+    algorithm: int
 
 
 class Rrset:
@@ -68,7 +70,8 @@ def target_of(octets: bytes, record: Record) -> Optional[str]:
 
 
 def signature_of(octets: bytes, record: Record) -> Signature:
-    return Signature(number_at(octets, record.front + TAG, 2), lower(name_at(octets, record.front + SIGNER)))
+    tag, algorithm = number_at(octets, record.front + TAG, 2), octets[record.front + ALGORITHM]
+    return Signature(tag, lower(name_at(octets, record.front + SIGNER)), algorithm)
 
 
 def rdata_of_signature(octets: bytes, record: Record) -> Tuple[bytes, Labels, bytes]:
@@ -162,11 +165,23 @@ class Evidence:
 def keys_of(evidence: Evidence) -> Keys:
     """The keys of all DNSKEY records of the capture."""
     found: Keys = {}
+    signed = signed_keys_of(evidence)
     for message, placed in zip(evidence.messages, evidence.placed):
         for each in placed:
             rdata = bytes(message[each.record.front : each.record.end])
             if each.rrset and each.record.kind == TYPE_DNSKEY and len(rdata) > KEY_FIELD:
-                flags, algorithm = number_at(rdata, 0, 2), rdata[KEY_FIELD - 1]
-                key = KeyThere(flags, bits_of(algorithm, rdata[KEY_FIELD:]))
-                found[name_text(each.rrset.owner), key_tag(rdata), algorithm] = key
+                tag, algorithm = key_tag(rdata), rdata[KEY_FIELD - 1]
+                rrsets = signed.get(Signature(tag, each.rrset.owner, algorithm), set())
+                key = number_at(rdata, 0, 2), bits_of(algorithm, rdata[KEY_FIELD:]), rdata[PROTOCOL], frozenset(rrsets)
+                found[name_text(each.rrset.owner), tag, algorithm] = KeyThere(*key)
+    return found
+
+
+def signed_keys_of(evidence: Evidence) -> Dict[Signature, Set[int]]:
+    """The DNSKEY RRsets that the zone itself signed, by tag and algorithm."""
+    found: Dict[Signature, Set[int]] = {}
+    for rrset in evidence.rrsets:
+        for each in rrset.signatures:
+            if rrset.kind == TYPE_DNSKEY and each.signer == rrset.owner:
+                found.setdefault(each, set()).add(rrset.number)
     return found

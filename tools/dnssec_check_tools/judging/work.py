@@ -186,7 +186,7 @@ class View:
 
     @property
     def keys(self) -> Keys:
-        """Read where a page has a picture."""
+        """Read where a verdict fails, or a page has a picture."""
         if self.kept_keys is None:
             self.kept_keys = keys_of(self.evidence)
         return self.kept_keys
@@ -202,7 +202,7 @@ class View:
         if told.status == SECURE and not self.is_whole:
             told.value["why"] = [line for line in told.value["why"] if line["line"] == HOLDS]
         replies = self.replies if told.word in FAILING else None
-        keys = self.keys if self.is_whole else None
+        keys = self.keys if self.is_whole or told.word in FAILING else None
         is_failing = bool(self.oddities and self.oddities.is_failing(odd or ()))
         return Row(moment, question, told.status, told.word, evidence, told.value, replies, keys, odd, is_failing)
 

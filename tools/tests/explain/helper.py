@@ -18,6 +18,12 @@ def told_of(name):
     return Explanation(json.loads((DATA / "explain" / f"{name}.json").read_text()))
 
 
+def incident_of(name, replies=None):
+    """What a plain program wrote of a real incident: zones that ldns-signzone, dnssec-signzone or kzonesign signed, broken as
+    happens, and what their servers said."""
+    return Explanation(json.loads((DATA / "incidents" / f"{name}.json").read_text()), replies)
+
+
 def told_by(*lines, verdict="Bogus", moment=NOON, replies=None, **others):
     """An explanation of these lines."""
     value = {"command": "explain", "name": "www.example.", "type": 1, "moment": moment, "verdict": verdict, "status": 5,

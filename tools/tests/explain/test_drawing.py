@@ -45,9 +45,10 @@ class Keys(unittest.TestCase):
         found = keys_of(Evidence(capture_of("bind-www-a").read_bytes()))
         others = {(".", 24834, 8): 2048, ("bind.test.", 11133, 8): 1024, ("bind.test.", 58600, 8): 2048, ("test.", 1127, 13): 256,
                   ("test.", 52835, 13): 256}
-        entries = {(".", 36374, 8): 2048, ("bind.test.", 28346, 8): 2048, ("test.", 56592, 13): 256}
-        wanted = [(each, keys.Key(flags, bits)) for flags, of in ((256, others), (257, entries)) for each, bits in of.items()]
-        self.assertEqual(found, dict(wanted))
+        entries = {(".", 36374, 8): (2048, 1), ("test.", 56592, 13): (256, 3), ("bind.test.", 28346, 8): (2048, 5)}
+        wanted = {each: keys.Key(256, bits) for each, bits in others.items()}
+        wanted.update((each, keys.Key(257, bits, 3, frozenset([rrset]))) for each, (bits, rrset) in entries.items())
+        self.assertEqual(found, wanted)
         self.assertEqual(keys_of(Evidence(b"\x00\x01x")), {})
 
 
@@ -96,7 +97,7 @@ class Boxes(unittest.TestCase):
                                                                 "record": 1, "tag": 9, "algorithm": 8, "digest_type": 2}]
         made = drawn.chain_of(with_keys(*lines))
         self.assertEqual((made.boxes["ds", 2, 1].zone, ("rrset", 2) in made.boxes), ("a.", False))
-        self.assertIn((("key", "a.", 6, 8), ("ds", 2, 1)), {(each.tail, each.head) for each in made.edges.values()})
+        self.assertIn((("key", "a.", 6, 8, False), ("ds", 2, 1)), {(each.tail, each.head) for each in made.edges.values()})
 
     def test_relations_are_said_in_plain_english(self):
         """No word of the program stands beside an edge."""

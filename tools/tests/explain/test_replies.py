@@ -124,7 +124,8 @@ class Sentences(unittest.TestCase):
             (ds, f"example. DS: {UNASKED}, and there is no anchor for it [EDE 12]"),
             (self.ANSWER, f"www.example. A: {UNASKED} [EDE 12]"),
             (self.DENIAL, f"www.example. A: {UNASKED}; what example. says doesn't prove that there is none [EDE 12]"),
-            (cut, f"b.example. DS: {UNASKED}; nothing that example. says proves that there is none [EDE 12]"),
+            (cut, f"b.example. DS: {UNASKED}; nothing that example. says proves that there is none, "
+                  "which a zone without DS needs [EDE 12]"),
         )
         for line, text in rows:
             with self.subTest(line["word"]):

@@ -99,9 +99,9 @@ class Samples(unittest.TestCase):
         self.assertEqual(texts(told_of("roll-gone")), [
             "FAIL shop.example.test. DNSKEY: the DS names key 43646; the zone has 29000 and 45316 [EDE 9]",
             "HAS shop.example.test. DNSKEY: key 45316 (ECDSAP256SHA256, ZONE) signs the keys; "
-            "neither an anchor nor a DS names it",
+            "neither an anchor nor a DS matches it",
             "HAS shop.example.test. DNSKEY: key 29000 (ECDSAP256SHA256, ZONE SEP) signs the keys; "
-            "neither an anchor nor a DS names it",
+            "neither an anchor nor a DS matches it",
             "THEN www.shop.example.test. A: signed by key 45316 of shop.example.test., which isn't trusted",
             "HOLDS shop.example.test. DS: signed by example.test.; the chain holds down to here, from anchor 1 of "
             "example.test. on"])
@@ -115,6 +115,12 @@ class Samples(unittest.TestCase):
         first, *_ = texts(told_of("roll-early"))
         self.assertEqual(first, "FAIL shop.example.test. DNSKEY: the DS names key 42592 (ECDSAP256SHA256), which doesn't "
                                 "sign the keys; 30850 and 44813 do [EDE 10]")
+
+    def test_a_key_that_does_not_sign_where_none_does(self):
+        """Signatures there are, by the word's own meaning."""
+        reason = {"line": "reason", "word": "not-self-signed", "ede": 10, "zone": "b.", "rrset": 1, "tag": 9, "algorithm": 13}
+        self.assertEqual(texts(told_by(reason))[0], "FAIL b. DNSKEY: the DS names key 9 (ECDSAP256SHA256), which doesn't sign the "
+                                                    "keys; none does by a good signature [EDE 10]")
 
     def test_expired_signatures(self):
         first, second, *_ = texts(told_of("expired-www-a"))

@@ -3,7 +3,7 @@ import re
 import unittest
 from unittest import mock
 
-from dnssec_check_tools.asking import anchors, captures, questions, zone_file
+from dnssec_check_tools.asking import anchors, captures, questions, root_anchors, zone_file
 from dnssec_check_tools.capturing import answers, dnsviz, packets, sources, splitting
 from dnssec_check_tools.judging import evidence
 from dnssec_check_tools.verifying import entries, rsa
@@ -55,6 +55,7 @@ PLANTED = {
     "an anchor in another form": ("anchors", anchors, "anchor_line", anchor_in_upper_case, "a line that is no anchor"),
     "faults of the library": ("zone", zone_file, "FAULTS", (), "Error"),
     "another record": ("zone", zone_file.ZoneFile, "words", words_without_the_last, "the library reads other records"),
+    "elements that aren't looked at": ("xml", root_anchors, "FIELDS", dict.fromkeys(root_anchors.FIELDS, re.compile("(?s:.*)")), "none of the elements"),
     "another tag": ("xml", anchors, "anchor_line", anchor_of_the_next_tag, "none of the elements"),
     "a dot that is always added": ("questions", questions, "name_of", lambda text: text + ".", "is read as another"),
 }

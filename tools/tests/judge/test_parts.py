@@ -167,7 +167,10 @@ ABABABABABABABABABAB</Digest><PublicKey>AQID</PublicKey><Flags>257</Flags>
             (">.<", ">.&e;<", "no XML: "), ("TrustAnchor", "TrustAnchors", "'TrustAnchors'"), ("<Zone>.</Zone>", "", "KeyDigest 1: "), \
             ("<Zone>.<", "<Zone>;<", "KeyDigest 1: "), (" validFrom=", " from=", "KeyDigest 1: '' is no moment"), \
             ("1970-01-01T00:25:00+00:00", "1970-01-01", "KeyDigest 2: '1970-01-01' is no moment"), ("> 2 <", "> x <", "KeyDigest 2: "), \
-            ("ABAB", "", "KeyDigest 2: digest length"), ("<Digest>", "<Hash>", "no XML: "), (".", "\ufffe", "no XML: ")
+            ("ABAB", "", "KeyDigest 2: digest length"), ("ABAB", "\\ABAB", "KeyDigest 2: its Digest is '0"), \
+            ("ABAB<", "AB;AB<", "KeyDigest 2: its Digest is '0"), ("<KeyTag>1<", "<KeyTag>\\1<", r"KeyDigest 1: its KeyTag is '"), \
+            ("<Algorithm>8<", "<Algorithm>RSASHA256<", "KeyDigest 1: its Algorithm is 'RSASHA256'"), \
+            ("<DigestType>1<", "<DigestType>(1)<", r"KeyDigest 1: its DigestType is '\(1\)'"), ("<Digest>", "<Hash>", "no XML: "), (".", "\ufffe", "no XML: ")
         for old, new, told in changes:
             with self.subTest(new), self.assertRaisesRegex(faults.Refusal, f"^the anchors .*: .*{told}"):
                 self.of(self.XML.replace(old, new))
