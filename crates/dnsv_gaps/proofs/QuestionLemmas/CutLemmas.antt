@@ -167,6 +167,14 @@ not_here a zone next cut ns soa typed out (inr (inl has)) = soa has
 not_here a zone next cut ns soa typed out (inr (inr (inl is))) = typed is
 not_here a zone next cut ns soa typed out (inr (inr (inr is))) = out is
 
+-- and where nothing else shows one, Opt-Out may leave it out
+pub here_left_out : (a : Asking) (zone : Labels) (next : Option ℕ) (cut : Labels) → ¬ HasRrset a.basis.rrsets cut 2 → ¬ HasRrset a.basis.rrsets cut 6
+    → ¬ IsTypedBySome a zone cut IsDelegation → IsSeenHere a zone next cut → (HasGoal a ⊎ IsThere next) × IsOptedOutBySome a zone cut
+here_left_out a zone next cut ns soa typed (inl has) = absurd (ns has)
+here_left_out a zone next cut ns soa typed (inr (inl has)) = absurd (soa has)
+here_left_out a zone next cut ns soa typed (inr (inr (inl is))) = absurd (typed is)
+here_left_out a zone next cut ns soa typed (inr (inr (inr is))) = is
+
 -- a name that is seen, by whether it is the known zone next below
 module _ (a : Asking) (zone : Labels) (c : ℕ) where
   pub seen_alone : (next : Option ℕ) → next ≡ None → IsSeenHere a zone next (rightmost a.name c) ↔ IsSeen a zone next c
@@ -199,6 +207,11 @@ module _ (a : Asking) (zone : Labels) (c : ℕ) where
 -- one test and the other
 pub by_both : (b : Bool) (P Q : Type 0) → (IsTrue b ↔ P) → (P ↔ Q) → IsTrue b ↔ Q
 by_both b P Q test same = (λ yes. same.0 (test.0 yes), λ is. test.1 (same.1 is))
+
+-- of two the other
+pub the_other : (P Q : Type 0) → ¬ P → P ⊎ Q → Q
+the_other P Q not (inl is) = absurd (not is)
+the_other P Q not (inr is) = is
 
 -- something may answer, by its type or as an alias
 pub a_goal_of_type : (a : Asking) → HasRrset a.basis.rrsets a.name a.rtype → HasGoal a

@@ -2,7 +2,8 @@
 ghost use Rattle.std.specs.Prelude.{◌≡◌, ◌⊎◌, ◌↔◌, ◌≤◌, ◌<◌, IfOk, IsTrue, length};
 ghost use Rattle.dnsv_canonical.specs.declared.number.RecordNumber.{RecordNumber};
 ghost use Rattle.dnsv_faults.specs.KnownZones.{HasOwnAnchor, HasRrset};
-ghost use Rattle.dnsv_names.specs.Name.{rightmost};
+ghost use Rattle.dnsv_names.specs.Name.{SameName, rightmost};
+ghost use Rattle.dnsv_zones.specs.zones.TypeNumbers.{ds};
 ghost use Rattle.dnsv_names.specs.Order.{IsBelow};
 ghost use Rattle.dnsv_gaps.specs.Asking.{asking};
 ghost use Rattle.dnsv_gaps.specs.SourceSearch.{zone_in};
@@ -165,13 +166,17 @@ fn has_one_from_above(rrsets: &[Rrset<'_>], zone: &Name) -> bool
 fn is_ds_from_above(rrset: &Rrset<'_>, zone: &Name) -> bool
     ensures { IsTrue result ↔ IsDsFromAbove zone.now rrset.now }
 {
-    if rrset.rtype() != RecordType::DS {
-        return false;
-    }
-    if *rrset.owner() != *zone {
+    if !is_ds_of(rrset, zone) {
         return false;
     }
     has_signer_above(rrset.signatures(), zone)
+}
+
+/// Whether the RRset is one of DS records of the zone.
+fn is_ds_of(rrset: &Rrset<'_>, zone: &Name) -> bool
+    ensures { IsTrue result ↔ ((rrset.now.rtype ≡ ds) × SameName rrset.now.owner zone.now) }
+{
+    rrset.rtype() == RecordType::DS && *rrset.owner() == *zone
 }
 
 /// Whether the signer of one of the signatures is above the zone.
