@@ -47,7 +47,12 @@ pub fn question_facts<'s, 'a>(
         hashes,
     };
     let view = View::through(alloc, case.capture(), case.trust(), case.denials(), hashes)?;
-    facts_of(alloc, &question, &view, case.anchors().as_slice())
+    Ok(facts_of(
+        alloc,
+        &question,
+        &view,
+        case.anchors().as_slice(),
+    )?)
 }
 
 /// What is so of the question. The view is of its name, and the anchors are those of the case.
@@ -62,12 +67,18 @@ fn facts_of(
     requires anchors { anchors.now ≡ question.now.facts.now.anchors }
     ensures { IfOk result (AreQuestionFacts (asking question.now)) }
 {
+    let labels = question.name.labels();
+    let is_anchored = has_anchor(anchors, question.name);
+    let goals = goals(alloc, question, view)?;
+    let dnames = dnames(alloc, question)?;
+    let speakers = speaker_facts(alloc, question)?;
+    let parents = parents(alloc, question, anchors)?;
     Ok(QuestionFacts {
-        labels: question.name.labels(),
-        is_anchored: has_anchor(anchors, question.name),
-        goals: goals(alloc, question, view)?,
-        dnames: dnames(alloc, question)?,
-        speakers: speaker_facts(alloc, question)?,
-        parents: parents(alloc, question, anchors)?,
+        labels,
+        is_anchored,
+        goals,
+        dnames,
+        speakers,
+        parents,
     })
 }
