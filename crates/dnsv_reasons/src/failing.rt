@@ -3,12 +3,13 @@ ghost use Rattle.std.specs.Prelude.{◌≡◌, IfOk};
 ghost use Rattle.dnsv_gaps.specs.Asking.{IsAsked, asking, asking_of};
 ghost use Rattle.dnsv_reasons.specs.Failures.{AreFailures, AreToldOf};
 ghost use Rattle.dnsv_reasons.specs.Lines.{AreSaidLines};
+ghost use Rattle.dnsv_reasons.specs.SourceSearch.{AreAllDenials};
 
 use crate::lines::said_lines;
 use crate::sources::{all_denials, named_sources};
 use dnsv_denial::Hashes;
 use dnsv_faults::CaseFacts;
-use dnsv_gaps::{AskedQuestion, question_facts};
+use dnsv_gaps::{AskedQuestion, ZoneDenials, question_facts};
 use dnsv_lines::Line;
 use dnsv_mending::levels_of;
 use dnsv_names::{Name, RecordType};
@@ -59,7 +60,8 @@ fn told<'s, 'a>(
     let question = question_facts(alloc, case, facts, hashes, name, rtype)?;
     let levels = levels_of(alloc, question.is_anchored, &zones)?;
     let remedy = question_remedy(alloc, &levels, &question)?;
-    lines_told(alloc, &question, remedy.as_ref())
+    let lines = lines_told(alloc, &question, remedy.as_ref())?;
+    Ok(lines)
 }
 
 /// The lines that say what is told of the question.
@@ -72,6 +74,34 @@ fn lines_of(
     ensures { IfOk result (λ lines. AreSaidLines (asking question.now) told.now lines.items) }
 {
     let zones = all_denials(alloc, question)?;
-    let named = named_sources(alloc, question, &zones)?;
+    Ok(lines_by(alloc, question, &zones, told)?)
+}
+
+/// The same at lifetimes of their own, by the denials of each zone.
+fn lines_by(
+    alloc: Global,
+    question: &AskedQuestion<'_, '_>,
+    zones: &[ZoneDenials<'_>],
+    told: &[Said],
+) -> Result<Vec<Line>, AllocError>
+    requires asked { IsAsked question.now }
+    requires zones { AreAllDenials question.now zones.now }
+    ensures { IfOk result (λ lines. AreSaidLines (asking question.now) told.now lines.items) }
+{
+    Ok(lines_with(alloc, question, zones, told)?)
+}
+
+/// The same, of what is lent for as long.
+fn lines_with<'r>(
+    alloc: Global,
+    question: &'r AskedQuestion<'r, '_>,
+    zones: &'r [ZoneDenials<'r>],
+    told: &[Said],
+) -> Result<Vec<Line>, AllocError>
+    requires asked { IsAsked question.now }
+    requires zones { AreAllDenials question.now zones.now }
+    ensures { IfOk result (λ lines. AreSaidLines (asking question.now) told.now lines.items) }
+{
+    let named = named_sources(alloc, question, zones)?;
     said_lines(alloc, question, &named, told)
 }

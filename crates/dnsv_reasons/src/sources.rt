@@ -50,7 +50,7 @@ pub fn all_denials<'a>(
 /// The sources of each zone at or above the name, from the root down, as lines name them. `zones` are their denials.
 pub fn named_sources<'r>(
     alloc: Global,
-    question: &'r AskedQuestion<'r, 'r>,
+    question: &'r AskedQuestion<'r, '_>,
     zones: &'r [ZoneDenials<'r>],
 ) -> Result<Vec<NamedSources<'r>>, AllocError>
     requires asked { IsAsked question.now }
@@ -67,7 +67,7 @@ pub fn named_sources<'r>(
 /// The sources of the zone, as lines name them.
 fn names_at<'r>(
     alloc: Global,
-    question: &'r AskedQuestion<'r, 'r>,
+    question: &'r AskedQuestion<'r, '_>,
     zone: &'r ZoneDenials<'r>,
 ) -> Result<NamedSources<'r>, AllocError>
     requires asked { IsAsked question.now }
