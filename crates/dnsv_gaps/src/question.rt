@@ -47,12 +47,7 @@ pub fn question_facts<'s, 'a>(
         hashes,
     };
     let view = View::through(alloc, case.capture(), case.trust(), case.denials(), hashes)?;
-    Ok(facts_of(
-        alloc,
-        &question,
-        &view,
-        case.anchors().as_slice(),
-    )?)
+    Ok(facts_of(alloc, &question, &view, case.anchors().as_slice())?)
 }
 
 /// What is so of the question. The view is of its name, and the anchors are those of the case.

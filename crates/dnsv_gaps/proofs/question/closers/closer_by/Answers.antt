@@ -1,6 +1,7 @@
-use Rattle.std.proofs.Common.{sym, ◌∙◌}
+use Rattle.std.proofs.Common.{arith, subst, sym}
 use Rattle.std.proofs.lemmas.Bool.{false≢true}
 use Rattle.dnsv_names.specs.Tree.TreeLaws.{at_or_below_length}
+use Rattle.dnsv_gaps.specs.Asking.{asking}
 use Rattle.dnsv_gaps.proofs.QuestionLemmas.CloserLemmas.{fewer_counted}
 use Rattle.dnsv_gaps.proofs.question.closers.closer_by.Goals as goal
 
@@ -12,9 +13,3 @@ pub closer_facts-requires-clause-closer : goal.closer_facts-requires-clause-clos
 closer_facts-requires-clause-closer c =
     fewer_counted c.args.question.now.name.now c.args.rrset.now.owner c.args.rrsig.now c.requires.goal.owner
     (c.is_open.ensures.0 c.if-not-is_open.false).expanded
-
-pub returns-then-not-is_open : goal.returns-then-not-is_open
-returns-then-not-is_open c = λ is. false≢true (sym c.if-not-is_open.true ∙ c.is_open.ensures.1 is)
-
-pub returns : goal.returns
-returns c = (c.is_open.ensures.0 c.if-not-is_open.false, c.in_ok-closer_facts.ensures)

@@ -17,8 +17,8 @@ returns-then-labels-zone c =
     no_facts (basis_by c.args.question.now.facts.now) (IsCover (asking c.args.question.now) c.args.zone.now.labels c.args.labels) c.new.result.items
     c.new.ensures.items (λ n is. let within = is.within in let more = c.if-labels-zone.true in absurd (omega (arith, within, more)))
 
-pub facts_of_numbers-requires-clause-there : goal.facts_of_numbers-requires-clause-there
-facts_of_numbers-requires-clause-there c =
+pub facts_of_numbers-requires : goal.facts_of_numbers-requires
+facts_of_numbers-requires c =
     let question = c.args.question.now in
     subst (λ (numbers : List RecordNumber). AllByRecursion (IsInEvidence question.facts.now.rrsets) numbers) (sym c.deref-2.ensures.value)
     (each_member (IsInEvidence question.facts.now.rrsets) c.in_ok-numbers.numbers.items (λ n there.

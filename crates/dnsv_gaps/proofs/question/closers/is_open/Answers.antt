@@ -1,6 +1,4 @@
 use Rattle.std.proofs.Common.{subst, sym, ◌∙◌}
-use Rattle.std.proofs.lemmas.Bool.{false≢true}
-use Rattle.std.specs.Prelude.{MatchOption}
 use Rattle.dnsv_names.specs.Name.{IsAtOrBelow, Labels}
 use Rattle.dnsv_canonical.specs.SignedData.{IsExpanded}
 use Rattle.dnsv_chain.specs.Trust.{SecuredIn}
@@ -12,21 +10,6 @@ use Rattle.dnsv_gaps.specs.questions.CloserSearch.{viewed}
 use Rattle.dnsv_gaps.proofs.QuestionLemmas.CloserLemmas.{denied_by_trust, denied_from_trust, none_proved}
 use Rattle.dnsv_gaps.proofs.question.closers.is_open.Goals as goal
 
-pub returns-then-not-is_expanded : goal.returns-then-not-is_expanded
-returns-then-not-is_expanded c =
-    let Expanded : Labels → Type 0 = λ owner. IsExpanded owner c.args.rrsig.now in (
-      λ yes. absurd (false≢true yes),
-      λ is. absurd (false≢true (sym c.if-not-is_expanded.true ∙ c.is_expanded.ensures.1 (subst Expanded (sym c.owner.ensures) is.expanded))),
-    )
-
-pub returns-then-not-is_at_or_below : goal.returns-then-not-is_at_or_below
-returns-then-not-is_at_or_below c =
-    let Above : Labels → Type 0 = λ signer. IsAtOrBelow c.args.question.now.name.now signer in (
-      λ yes. absurd (false≢true yes),
-      λ is. absurd (false≢true (sym c.if-not-is_at_or_below.true
-          ∙ c.is_at_or_below.ensures.at_or_below.1 (subst Above (sym c.to_name-signer.ensures) is.above))),
-    )
-
 pub returns : goal.returns
 returns c =
     let question = c.args.question.now in
@@ -36,14 +19,11 @@ returns c =
     let Expanded : Labels → Type 0 = λ owner. IsExpanded owner rrsig in
     let Above : Labels → Type 0 = λ signer. IsAtOrBelow name signer in
     let In : Viewed → Type 0 = λ v. CanProveNoCloser (SecuredIn v.trust) v.rrsets v.name rrsig.labels rrsig.signer in
-    let First : Labels → Type 0 = λ zone. MatchOption c.no_closer.result
-    (¬ CanProveNoCloser (SecuredIn view.trust) view.rrsets view.name rrsig.labels zone)
-    (IsFirstNoCloser (SecuredIn view.trust) view.rrsets view.name rrsig.labels zone) in
     let open_or_not = none_proved c.no_closer.result c.is_none.result (In view) (IsCloserDenied (asking question) rrsig.labels rrsig.signer)
     (IsFirstNoCloser (SecuredIn view.trust) view.rrsets view.name rrsig.labels rrsig.signer)
     (λ can. denied_from_trust question.facts.now c.requires.view.trust name rrsig.labels rrsig.signer (subst In c.requires.view.is can))
     (λ can. subst In (sym c.requires.view.is) (denied_by_trust question.facts.now c.requires.view.trust name rrsig.labels rrsig.signer can))
-    (λ proof found. (found.chain, found.stands)) (subst First c.to_name-signer.ensures c.no_closer.ensures.first) c.is_none.ensures in (
+    (λ proof found. (found.chain, found.stands)) (rw c.to_name-signer.ensures at c.no_closer.ensures.first) c.is_none.ensures in (
       λ yes. record {
         expanded = subst Expanded c.owner.ensures (c.is_expanded.ensures.0 c.if-not-is_expanded.false);
         above = subst Above c.to_name-signer.ensures (c.is_at_or_below.ensures.at_or_below.0 c.if-not-is_at_or_below.false);

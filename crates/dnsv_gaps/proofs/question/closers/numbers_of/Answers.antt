@@ -20,7 +20,7 @@ loop-held-preserved c =
     (some_more By c.args.sources.now c.loop-held.held-index held [] c.loop-held.numbers.items _ c.loop-held-test.true c.held-item.is
     c.loop-held.invariant
     (adds_saying question c.args.zone c.args.asked c.args.word c.source-source.result held c.loop-held.numbers.items c.in_ok-said.said.items
-    c.source-source.ensures.labels c.source-source.ensures.chain c.in_ok-said.ensures))
+    c.source-source.ensures.labels c.source-source.ensures.chain c.in_ok-said.ensures.all))
 
 pub returns-clause-order : goal.returns-clause-order
 returns-clause-order c =

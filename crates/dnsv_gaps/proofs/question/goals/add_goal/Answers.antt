@@ -1,6 +1,6 @@
 use Rattle.std.proofs.Common.{List, ◌≡◌, refl, subst, sym, ◌∙◌, ◌++◌, ◌∷◌, []}
 use Rattle.std.proofs.lemmas.Bool.{false≢true}
-use Rattle.std.proofs.lemmas.Option.{MatchOption-at_none, MatchOption-at_some}
+use Rattle.std.proofs.lemmas.Option.{MatchOption-at_some}
 use Rattle.dnsv_remedies.specs.declared.facts.answer.GoalFacts.{GoalFacts}
 use Rattle.dnsv_gaps.specs.Asking.{asking}
 use Rattle.dnsv_gaps.specs.questions.Goals.{AreGoalFacts, IsGoalNumber}
@@ -17,10 +17,6 @@ pub returns-then-not-is_goal : goal.returns-then-not-is_goal
 returns-then-not-is_goal c =
     no_goal (asking c.args.question.now) c.args.number c.args.rrset.now c.requires.numbered c.args.goals.now.items
     (λ is. false≢true (sym c.if-not-is_goal.true ∙ c.is_goal.ensures.1 is))
-
-pub returns-in_default : goal.returns-in_default
-returns-in_default c =
-    absurd (MatchOption-at_none _ _ c.in_default.is c.in_ok-known.ensures c.args.rrset.now c.requires.numbered)
 
 pub returns : goal.returns
 returns c =
