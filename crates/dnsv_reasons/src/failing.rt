@@ -1,5 +1,8 @@
 //! What fails, where nothing answers a question.
 ghost use Rattle.std.specs.Prelude.{◌≡◌, IfOk};
+ghost use Rattle.std.specs.Option.{option_map};
+ghost use Rattle.dnsv_remedies.specs.Question.{lines_told};
+ghost use Rattle.dnsv_remedies.specs.Remedy.{seen};
 ghost use Rattle.dnsv_gaps.specs.Asking.{IsAsked, asking, asking_of};
 ghost use Rattle.dnsv_reasons.specs.Failures.{AreFailures, AreToldOf};
 ghost use Rattle.dnsv_reasons.specs.Lines.{AreSaidLines};
@@ -13,7 +16,7 @@ use dnsv_gaps::{AskedQuestion, ZoneDenials, question_facts};
 use dnsv_lines::Line;
 use dnsv_mending::levels_of;
 use dnsv_names::{Name, RecordType};
-use dnsv_remedies::{Said, lines_told, question_remedy};
+use dnsv_remedies::{QuestionFacts, Remedy, Said, lines_told, question_remedy};
 use dnsv_verdict::Case;
 use std::alloc::{AllocError, Global};
 
@@ -40,7 +43,8 @@ pub fn failures<'s, 'a>(
         known: &known,
         hashes,
     };
-    lines_of(alloc, &question, &told)
+    let lines = lines_of(alloc, &question, &told)?;
+    Ok(lines)
 }
 
 /// What is told of the question, by numbers.
@@ -60,8 +64,19 @@ fn told<'s, 'a>(
     let question = question_facts(alloc, case, facts, hashes, name, rtype)?;
     let levels = levels_of(alloc, question.is_anchored, &zones)?;
     let remedy = question_remedy(alloc, &levels, &question)?;
-    let lines = lines_told(alloc, &question, remedy.as_ref())?;
+    let lines = told_by(alloc, &question, &remedy)?;
     Ok(lines)
+}
+
+/// What is told of the question, by the least that has to be mended.
+fn told_by(
+    alloc: Global,
+    question: &QuestionFacts,
+    remedy: &Option<Remedy>,
+) -> Result<Vec<Said>, AllocError>
+    ensures { IfOk result (λ told. told.items ≡ lines_told question.now (option_map seen remedy.now)) }
+{
+    lines_told(alloc, question, remedy.as_ref())
 }
 
 /// The lines that say what is told of the question.
