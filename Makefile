@@ -10,17 +10,19 @@ PREFIX = /usr/local
 # packages that pyproject.toml names.
 PYTHON ?= /usr/bin/python3
 
-# Proves and builds the program, and shows its help.
+# Proves and builds the program, and asks it the question of examples/bind-www-a.
+question = --moment 1795348800 --name www.bind.test. --type 1
 all:
-	cd crates/dnssec_check && rt run -- --help
+	cd crates/dnssec_check && rt run -- --version
+	$(program) check --capture examples/bind-www-a/capture --anchors examples/anchors \
+		--statements examples/bind-www-a/statements $(question)
 
-# The verdict of examples/bind-www-a before any proof, so it proves nothing; no program is kept.
+# The same before any proof, so it proves nothing; no program is kept.
 examples = ../../examples
 try:
 	cd crates/dnssec_check && rt try --data capture=$(examples)/bind-www-a/capture \
 		--data anchors=$(examples)/anchors --data statements=$(examples)/bind-www-a/statements -- \
-		check --capture capture --anchors anchors --statements statements \
-		--moment 1795348800 --name www.bind.test. --type 1
+		check --capture capture --anchors anchors --statements statements $(question)
 
 # The gate: every proof from nothing, the edits that must be refused, every test and the program. And then the guards.
 test:
@@ -72,7 +74,10 @@ pages: | $(program)
 	tools/pages --installed docs/AUDITING.md
 	tools/pages --installed docs/ODD.md
 	tools/pages --installed examples/README.md
-	tools/pages --installed README.md dnssec_check "To install it" "The program by itself"
+	tools/pages --installed README.md dnssec_check
+	tools/pages --installed docs/INSTALL.md "To install program and tools"
+	tools/pages --installed docs/VERDICTS.md
+	tools/pages --installed docs/EXPLANATION.md
 
 # The program, the tools as dnssec_check-capture, -verify and -judge, their manual pages, the completions of bash, zsh and
 # fish, and the schema of what the program writes in JSON. A tool starts the package that lies beside it; `pip install .` installs the

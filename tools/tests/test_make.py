@@ -55,16 +55,18 @@ class Targets(unittest.TestCase):
     def test_the_program_is_built_where_there_is_none(self):
         for target in NEED_NO_RT:
             with self.subTest(target):
-                self.assertIn("cd crates/dnssec_check && rt run -- --help", self.make("--dry-run", target))
+                self.assertIn("cd crates/dnssec_check && rt run -- --version", self.make("--dry-run", target))
 
-    def test_of_the_page_what_needs_no_rt_is_run(self):
+    def test_of_the_pages_what_needs_no_rt_is_run(self):
         self.command(PROGRAM)
-        line, = [line for line in self.make("--dry-run", "pages") if "README.md" in line and "examples" not in line]
-        _, titles = line.split(" README.md ")
-        steps = load("pages").steps_of((TOP / "README.md").read_text(), shlex.split(titles))
-        commands = [command.split("#")[0].strip() for step in steps for command in step.commands]
-        needing = [command for command in commands if command.split(" ")[0] in ("make", "rt")]
-        self.assertEqual(needing, ["make install PREFIX=$HOME/.local"])
+        for page, wanted in (("README.md", []), ("docs/INSTALL.md", ["make install PREFIX=$HOME/.local"])):
+            line, = [line for line in self.make("--dry-run", "pages") if f" {page} " in line]
+            _, titles = line.split(f" {page} ")
+            steps = load("pages").steps_of((TOP / page).read_text(), shlex.split(titles))
+            commands = [command.split("#")[0].strip() for step in steps for command in step.commands]
+            needing = [command for command in commands if command.split(" ")[0] in ("make", "rt")]
+            with self.subTest(page):
+                self.assertEqual(needing, wanted)
 
     def test_the_guards_build_nothing(self):
         for target, line in (
@@ -78,17 +80,29 @@ class Targets(unittest.TestCase):
     def test_the_gate_comes_with_the_guards(self):
         self.assertEqual(self.make("--dry-run", "test"), ["tools/check --gate"])
 
+    def test_what_was_built_gives_the_verdict_of_the_example(self):
+        self.command(PROGRAM)
+        words = self.make()
+        self.assertEqual(words[:5], ["rt", "run", "--", "--version", "dnssec_check"])
+        given = [(TOP / word).resolve() if before in ("--capture", "--anchors", "--statements") else word
+                 for before, word in zip(words[4:], words[5:])]
+        self.assertEqual(pairs_of(given), self.asked())
+
+    def asked(self):
+        """What the first example asks."""
+        example, = named("bind-www-a/check")
+        there = example.folder
+        return pairs_of([(there / word).resolve() if (there / word).is_file() else word for word in example.words])
+
     def test_a_first_verdict_is_that_of_the_example(self):
         words = self.make("try")
         self.assertEqual(words[:2], ["rt", "try"])
         end = words.index("--")
         files = dict(word.split("=") for word in words[2:end] if word != "--data")
-        example, = named("bind-www-a/check")
-        here, there = TOP / "crates/dnssec_check", example.folder
+        here = TOP / "crates/dnssec_check"
         given = [(here / files[word]).resolve() if word in files and before.startswith("--") else word
                  for before, word in zip(words[end:], words[end + 1:])]
-        asked = [(there / word).resolve() if (there / word).is_file() else word for word in example.words]
-        self.assertEqual(pairs_of(given), pairs_of(asked))
+        self.assertEqual(pairs_of(given), self.asked())
 
 
 def pairs_of(words):

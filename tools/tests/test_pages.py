@@ -7,7 +7,8 @@ import unittest
 
 from tool import PROGRAM, TOOLS, load, run, run_program
 
-PAGES = ("README.md", "docs/CAPTURING.md", "docs/BREAKS.md", "docs/AUDITING.md", "examples/README.md")
+PAGES = ("README.md", "docs/VERDICTS.md", "docs/EXPLANATION.md", "docs/CAPTURING.md", "docs/BREAKS.md", "docs/AUDITING.md",
+         "examples/README.md")
 
 
 class Pages(unittest.TestCase):

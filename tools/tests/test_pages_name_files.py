@@ -15,7 +15,7 @@ WORD = re.compile(r"[A-Za-z_]\w*")
 
 
 def pages():
-    return [ROOT / "README.md", *sorted((ROOT / "docs").glob("*.md")), *sorted((ROOT / "crates").glob("*/*.md"))]
+    return [ROOT / "README.md", *sorted((ROOT / "docs").rglob("*.md")), *sorted((ROOT / "crates").glob("*/*.md"))]
 
 
 def definitions(crates="*"):

@@ -18,7 +18,7 @@ def of_the_program():
 
 
 def texts_with_numbers():
-    files = [*ROOT.glob("*.md"), *ROOT.glob("docs/*.md"), *ROOT.glob("docs/*.1"), *ROOT.glob("crates/*/GUARANTEES.md"),
+    files = [*ROOT.glob("*.md"), *ROOT.glob("docs/**/*.md"), *ROOT.glob("docs/*.1"), *ROOT.glob("crates/*/GUARANTEES.md"),
              *ROOT.glob("examples/*.md"), ROOT / "crates" / "dnsv_rows" / "stdin"]
     return {str(file.relative_to(ROOT)): file.read_text() for file in files}
 
