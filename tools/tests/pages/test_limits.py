@@ -60,7 +60,7 @@ TOLD = {
         f"or no worker of it, for {cluster.WAIT_SECONDS} seconds (`--wait`)",
         "With `--keys` the octets include the keys of TSIG: they go to the scheduler's machine and from there to those of the workers",
     ],
-    "DECISIONS.md": [
+    "decisions/TOOLS.md": [
         f"An exponent of more than {rsa.EXPONENT_BITS_MOST} bits isn't raised to",
         f"verifies for {SECONDS} seconds of processor time a capture and in {BUDGET.octets // 1_000_000} MB of what is listed",
         f"where the capture has at most {listed.LISTS_LITTLE:,} octets",
