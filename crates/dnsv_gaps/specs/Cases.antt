@@ -32,10 +32,6 @@ use Rattle.dnsv_gaps.specs.Parts.{AreFactsOf}
 abbrev pub IsAt : RecordWords RecordNumber → Labels → RecordNumber → Type 0
 IsAt said name = said.TypesAt name (λ has. ⊤)
 
--- it covers the name, with the Opt-Out flag or without
-abbrev pub IsCover : RecordWords RecordNumber → Labels → RecordNumber → Type 0
-IsCover said name number = said.Absent name number ⊎ said.OptedOut name number
-
 -- it says that nothing is at the name: that it isn't there, or that it is an empty non-terminal
 abbrev pub IsRuledOut : RecordWords RecordNumber → Labels → RecordNumber → Type 0
 IsRuledOut said name number = said.Absent name number ⊎ said.OptedOut name number ⊎ said.EmptyNonTerminal name number
@@ -134,20 +130,28 @@ pub data AreShowing (basis : Basis) (said : RecordWords RecordNumber) (name : La
   by_records : {facts : List RrsetFacts} → ¬ said.NeedsNone name → AreFactsOf basis (said.Encloser name) facts
       → AreShowing basis said name facts
 
--- what is said of the wildcard: nothing is asked where a record with the Opt-Out flag covers the next closer name
+-- the record covers the name without the Opt-Out flag, or where none does, with it
+abbrev pub IsBestCover : RecordWords RecordNumber → Labels → RecordNumber → Type 0
+IsBestCover said name number = said.Absent name number ⊎ (HasNone (said.Absent name) × said.OptedOut name number)
+
+-- records with the Opt-Out flag alone cover the name
+abbrev pub IsOptedOut : RecordWords RecordNumber → Labels → Type 0
+IsOptedOut said name = HasOne (said.OptedOut name) × HasNone (said.Absent name)
+
+-- what is said of the wildcard: nothing is asked where records with the Opt-Out flag alone cover the next closer name
 abbrev pub AreWildcardFacts : Basis → RecordWords RecordNumber → Labels → Labels → ℕ → WildcardFacts → Type 0
-AreWildcardFacts basis said next below t wildcard.OptedOut = HasOne (said.OptedOut next)
+AreWildcardFacts basis said next below t wildcard.OptedOut = IsOptedOut said next
 AreWildcardFacts basis said next below t (wildcard.At found) =
-    HasNone (said.OptedOut next) × HasOne (IsAt said below) × AreRecordsAt basis said below t found
+    (¬ IsOptedOut said next) × HasOne (IsAt said below) × AreRecordsAt basis said below t found
 AreWildcardFacts basis said next below t (wildcard.Covered rrsets) =
-    HasNone (said.OptedOut next) × HasNone (IsAt said below) × AreFactsOf basis (IsRuledOut said below) rrsets.items
+    (¬ IsOptedOut said next) × HasNone (IsAt said below) × AreFactsOf basis (IsRuledOut said below) rrsets.items
 
 pub record AreEncloserFacts (basis : Basis) (said : RecordWords RecordNumber) (zone name : Labels) (t : ℕ)
     (facts : EncloserFacts) : Type 0 where
   pub longest : IsLongestShown said zone name facts.name
   pub next : facts.next ≡ facts.name + 1
   pub shown : AreShowing basis said (rightmost name facts.name) facts.shown.items
-  pub covers : AreFactsOf basis (IsCover said (rightmost name facts.next)) facts.covers.items
+  pub covers : AreFactsOf basis (IsBestCover said (rightmost name facts.next)) facts.covers.items
   pub wildcard : AreWildcardFacts basis said (rightmost name facts.next) (wildcard_of (rightmost name facts.name)) t facts.wildcard
 
 -- none of the first cases is so, up to an empty non-terminal

@@ -30,9 +30,10 @@ pub record IsStrayOf (a : Asking) (zone : Labels) (rrset : ReceivedRrset) : Type
   pub below : IsAtOrBelow rrset.owner zone
   pub nearest : (other : Labels) → IsKnownZone a.basis a.name a.rtype other → IsBelow other zone → ¬ IsBelow rrset.owner other
 
--- it is a denial of the zone: one that the zone signed, or a stray one
+-- it is a denial of the zone, which is at or above its owner: one that the zone signed, or a stray one
 pub record IsDenialOf (a : Asking) (zone : Labels) (rrset : ReceivedRrset) : Type 0 where
   pub denial : IsDenial a rrset
+  pub below : IsAtOrBelow rrset.owner zone
   pub its : HasSigner rrset zone ⊎ IsStrayOf a zone rrset
 
 -- so is RRset k

@@ -6,7 +6,7 @@ use dnsv_names::{Name, RecordType};
 /// A question of a case: the name and the type that are asked for.
 #[derive(Clone, Copy)]
 pub struct AskedQuestion<'s, 'a> {
-    pub facts: &'s CaseFacts<'a>,
+    pub facts: &'s CaseFacts<'s>,
     pub name: &'s Name,
     pub rtype: RecordType,
     /// For each number of the name's labels, from none on, whether these are the name of a known zone.

@@ -42,7 +42,8 @@ pub fn denials_of(
     Ok(numbers)
 }
 
-/// Whether the RRset is a denial of the zone, which has so many of the name's labels: the zone signed it, or it is stray.
+/// Whether the RRset, whose owner is at or below the zone, is a denial of it: the zone signed it, or it is stray. The zone has so
+/// many of the name's labels.
 fn is_denial_of(
     question: &AskedQuestion<'_, '_>,
     labels: usize,
@@ -55,6 +56,9 @@ fn is_denial_of(
     ensures { IsTrue result ↔ IsDenialOf (asking question.now) zone.now rrset.now }
 {
     if !is_denial(question, rrset) {
+        return false;
+    }
+    if !rrset.owner().is_at_or_below(zone) {
         return false;
     }
     if has_signer(rrset, zone) {

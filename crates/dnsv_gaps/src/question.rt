@@ -29,7 +29,7 @@ use std::alloc::{AllocError, Global};
 pub fn question_facts<'s, 'a>(
     alloc: Global,
     case: &'s Case<'a>,
-    facts: &'s CaseFacts<'a>,
+    facts: &'s CaseFacts<'s>,
     hashes: &'s Hashes<'a>,
     name: &'s Name,
     rtype: RecordType,

@@ -88,7 +88,7 @@ impl HeldSource<'_> {
 /// The denials of the zone with so many of the name's labels.
 pub fn zone_denials<'a>(
     alloc: Global,
-    question: &AskedQuestion<'_, 'a>,
+    question: &AskedQuestion<'a, '_>,
     labels: usize,
 ) -> Result<ZoneDenials<'a>, AllocError>
     requires asked { IsAsked question.now }
@@ -103,7 +103,7 @@ pub fn zone_denials<'a>(
 /// The same, which are the RRsets with these numbers.
 fn denials_with<'a>(
     alloc: Global,
-    question: &AskedQuestion<'_, 'a>,
+    question: &AskedQuestion<'a, '_>,
     labels: usize,
     numbers: &[usize],
 ) -> Result<ZoneDenials<'a>, AllocError>

@@ -25,7 +25,7 @@ use std::alloc::{AllocError, Global};
 pub fn failures<'s, 'a>(
     alloc: Global,
     case: &'s Case<'a>,
-    facts: &'s CaseFacts<'a>,
+    facts: &'s CaseFacts<'s>,
     hashes: &'s Hashes<'a>,
     name: &'s Name,
     rtype: RecordType,
@@ -51,7 +51,7 @@ pub fn failures<'s, 'a>(
 fn told<'s, 'a>(
     alloc: Global,
     case: &'s Case<'a>,
-    facts: &'s CaseFacts<'a>,
+    facts: &'s CaseFacts<'s>,
     hashes: &'s Hashes<'a>,
     name: &'s Name,
     rtype: RecordType,

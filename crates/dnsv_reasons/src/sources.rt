@@ -34,7 +34,7 @@ pub struct NamedSources<'a> {
 /// The denials of each zone at or above the name, from the root down.
 pub fn all_denials<'a>(
     alloc: Global,
-    question: &AskedQuestion<'_, 'a>,
+    question: &AskedQuestion<'a, '_>,
 ) -> Result<Vec<ZoneDenials<'a>>, AllocError>
     requires { IsAsked question.now }
     ensures { IfOk result (λ zones. AreAllDenials question.now zones.items) }

@@ -10,6 +10,7 @@ use Rattle.dnsv_denial.specs.proving.FirstProof.{CanProveNoCloser}
 use Rattle.dnsv_denial.specs.words.EvidenceWords.{Chain}
 use Rattle.dnsv_faults.specs.Signatures.{IsSignatureAt}
 use Rattle.dnsv_verdict.specs.Verdict.{Basis}
+use Rattle.dnsv_verifier.specs.Admissible.{MaySign}
 use Rattle.dnsv_remedies.specs.declared.facts.answer.CloserFacts.{CloserFacts}
 use Rattle.dnsv_gaps.specs.Asking.{Asking}
 use Rattle.dnsv_gaps.specs.Parts.{AreFactsOf}
@@ -25,6 +26,7 @@ IsCloserDenied a labels zone =
 pub record IsOpen (a : Asking) (rrset : ReceivedRrset) (rrsig : Rrsig) : Type 0 where
   pub expanded : IsExpanded rrset.owner rrsig
   pub above : IsAtOrBelow a.name rrsig.signer
+  pub may : MaySign rrsig.signer rrset.rtype rrset.owner
   pub unproved : ¬ IsCloserDenied a rrsig.labels rrsig.signer
 
 -- A record of a source of the zone with n labels covers the next closer name to the name's so many labels, trusted or not; where

@@ -22,6 +22,7 @@ use dnsv_denial::{AskedName, AskedWord, View};
 use dnsv_mending::RrsetFacts;
 use dnsv_records::Rrsig;
 use dnsv_remedies::CloserFacts;
+use dnsv_verifier::may_sign;
 use std::alloc::{AllocError, Global};
 
 /// What the signature of the RRset with the number, from 1 on, asks for beside it; `None` where that is nothing, or is proved.
@@ -67,8 +68,8 @@ fn closer_by(
     Ok(Some(closer_facts(alloc, question, rrsig)?))
 }
 
-/// Whether the RRset is one of a wildcard by the signature, whose signer is at or above the name, and no records that are
-/// trusted show that no closer name is there.
+/// Whether the RRset is one of a wildcard by the signature, whose signer may be its zone and is at or above the name, and no
+/// records that are trusted show that no closer name is there.
 fn is_open(
     question: &AskedQuestion<'_, '_>,
     view: &View<'_, '_>,
@@ -83,6 +84,9 @@ fn is_open(
     }
     let signer = rrsig.signer.to_name();
     if !question.name.is_at_or_below(&signer) {
+        return false;
+    }
+    if !may_sign(&signer, rrset.rtype(), rrset.owner()) {
         return false;
     }
     view.no_closer(&signer, rrsig.labels as usize).is_none()

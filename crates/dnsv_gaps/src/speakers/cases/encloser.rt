@@ -3,7 +3,8 @@ ghost use Rattle.std.specs.Prelude.{◌↔◌, ◌+◌, ◌<◌, ◌≤◌, IfOk
 ghost use Rattle.dnsv_names.specs.Name.{rightmost};
 ghost use Rattle.dnsv_names.specs.Tree.{wildcard_of};
 ghost use Rattle.dnsv_verdict.specs.Case.{basis_by};
-ghost use Rattle.dnsv_gaps.specs.Cases.{AreShowing, AreWildcardFacts, HasNoneShown, IsLongestShown, IsNotThere, IsShown, IsSourceCase};
+ghost use Rattle.dnsv_gaps.specs.Cases.{AreShowing, AreWildcardFacts, HasNoneShown, IsBestCover, IsOptedOut, IsLongestShown, IsNotThere, IsShown, IsSourceCase};
+ghost use Rattle.dnsv_gaps.specs.Parts.{AreFactsOf};
 ghost use Rattle.dnsv_gaps.specs.SourceSearch.{IsSourceIn, said_in, zone_in};
 
 use crate::asked::AskedQuestion;
@@ -31,9 +32,8 @@ pub fn encloser_case(
     let Some(labels) = longest_shown(question, source) else {
         return Ok(SourceCase::NoEncloser);
     };
-    let next = AskedName::Above(labels + 1);
     let shown = showing(alloc, question, source, labels)?;
-    let covers = facts_saying(alloc, question, source, next, AskedWord::Covered)?;
+    let covers = cover_facts(alloc, question, source, labels)?;
     let wildcard = wildcard_facts(alloc, question, source, labels)?;
     Ok(SourceCase::Encloser(EncloserFacts {
         name: labels,
@@ -92,6 +92,53 @@ fn showing(
     Ok(facts_saying(alloc, question, source, name, word)?)
 }
 
+/// What is so of the RRsets whose records cover the next closer name without the Opt-Out flag, or where there are none, with it.
+fn cover_facts(
+    alloc: Global,
+    question: &AskedQuestion<'_, '_>,
+    source: &ZoneSource<'_>,
+    labels: usize,
+) -> Result<Vec<RrsetFacts>, AllocError>
+    requires source { IsSourceIn question.now source.now }
+    requires within { labels < length question.now.name.now }
+    ensures { IfOk result (λ facts. AreFactsOf (basis_by question.now.facts.now)
+        (IsBestCover (said_in question.now source.now) (rightmost question.now.name.now (labels + 1))) facts.items) }
+{
+    // A name has at most 127 labels.
+    let _ = question.name.labels();
+    let next = AskedName::Above(labels + 1);
+    let is_absent = has_saying(alloc, question, source, next, AskedWord::Absent)?;
+    if is_absent {
+        let firm = facts_saying(alloc, question, source, next, AskedWord::Absent)?;
+        return Ok(firm);
+    }
+    let opted = facts_saying(alloc, question, source, next, AskedWord::OptedOut)?;
+    Ok(opted)
+}
+
+/// Whether records with the Opt-Out flag alone cover the next closer name.
+fn is_opted_out(
+    alloc: Global,
+    question: &AskedQuestion<'_, '_>,
+    source: &ZoneSource<'_>,
+    labels: usize,
+) -> Result<bool, AllocError>
+    requires source { IsSourceIn question.now source.now }
+    requires within { labels < length question.now.name.now }
+    ensures { IfOk result (λ is. IsTrue is
+        ↔ IsOptedOut (said_in question.now source.now) (rightmost question.now.name.now (labels + 1))) }
+{
+    // A name has at most 127 labels.
+    let _ = question.name.labels();
+    let next = AskedName::Above(labels + 1);
+    let is_absent = has_saying(alloc, question, source, next, AskedWord::Absent)?;
+    if is_absent {
+        return Ok(false);
+    }
+    let opts_out = has_saying(alloc, question, source, next, AskedWord::OptedOut)?;
+    Ok(opts_out)
+}
+
 /// What is said of the wildcard right below them.
 fn wildcard_facts(
     alloc: Global,
@@ -107,9 +154,7 @@ fn wildcard_facts(
 {
     // A name has at most 127 labels.
     let _ = question.name.labels();
-    let next = AskedName::Above(labels + 1);
-    let word = AskedWord::OptedOut;
-    let opts_out = has_saying(alloc, question, source, next, word)?;
+    let opts_out = is_opted_out(alloc, question, source, labels)?;
     if opts_out {
         return Ok(WildcardFacts::OptedOut);
     }

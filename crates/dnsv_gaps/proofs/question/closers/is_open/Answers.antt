@@ -27,6 +27,7 @@ returns c =
       λ yes. record {
         expanded = subst Expanded c.owner.ensures (c.is_expanded.ensures.0 c.if-not-is_expanded.false);
         above = subst Above c.to_name-signer.ensures (c.is_at_or_below.ensures.at_or_below.0 c.if-not-is_at_or_below.false);
+        may = rw (← c.to_name-signer.ensures, ← c.rtype.ensures, ← c.owner-2.ensures) (c.may_sign.ensures.0 c.if-not-may_sign.false);
         unproved = open_or_not.0 yes;
       },
       λ is. open_or_not.1 is.unproved,

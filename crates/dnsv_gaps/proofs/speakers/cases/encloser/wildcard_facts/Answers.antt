@@ -7,14 +7,14 @@ returns-then-opts_out c = c.in_ok-opts_out.ensures.0 c.if-opts_out.true
 
 pub returns-then-is_there : goal.returns-then-is_there
 returns-then-is_there c = (
-  λ n said. false≢true (sym c.if-opts_out.false ∙ c.in_ok-opts_out.ensures.1 (n, said)),
+  λ opted. false≢true (sym c.if-opts_out.false ∙ c.in_ok-opts_out.ensures.1 opted),
   c.in_ok-is_there.ensures.0 c.if-is_there.true,
   c.in_ok-records.ensures,
 )
 
 pub returns : goal.returns
 returns c = (
-  λ n said. false≢true (sym c.if-opts_out.false ∙ c.in_ok-opts_out.ensures.1 (n, said)),
+  λ opted. false≢true (sym c.if-opts_out.false ∙ c.in_ok-opts_out.ensures.1 opted),
   λ n said. false≢true (sym c.if-is_there.false ∙ c.in_ok-is_there.ensures.1 (n, said)),
   c.in_ok-covers.ensures,
 )
