@@ -1,0 +1,10 @@
+pub mod Answers
+pub mod Cuts
+pub mod Denials
+pub mod Keys
+pub mod Lists
+pub mod Parts
+pub mod Questions
+pub mod Rrsets
+pub mod Sources
+pub mod Zones

@@ -1,0 +1,2 @@
+pub mod AlikeQuestions
+pub mod AlikeZones

@@ -1,0 +1,6 @@
+//! Laws of what is told of a question: facts that are alike tell the same.
+#![tactic(auto)]
+
+pub use laws::facts_that_are_alike_tell_the_same;
+
+mod laws;
