@@ -1,0 +1,12 @@
+pub mod Members
+pub mod Parts
+pub mod QuestionNames
+pub mod Reasons
+pub mod Settled
+pub mod Told
+pub mod Whole
+pub mod Words
+pub mod ZoneNames
+pub mod telling
+pub mod truths
+pub mod untrusted

@@ -1,0 +1,8 @@
+pub mod CutTruth
+pub mod FactsThere
+pub mod KnownMoves
+pub mod OneSources
+pub mod PartTruth
+pub mod QuestionTruth
+pub mod SourceTruth
+pub mod TypedTruth

@@ -1,0 +1,11 @@
+pub mod KeyWays
+pub mod MendLines
+pub mod PartTold
+pub mod PartWays
+pub mod QuestionWays
+pub mod RemedyLines
+pub mod SaidOf
+pub mod SignatureWays
+pub mod SourceWays
+pub mod Told
+pub mod ZoneWays

@@ -1,0 +1,7 @@
+pub mod Answered
+pub mod KeyTruth
+pub mod RrsetTruth
+pub mod SignatureTruth
+pub mod TrueTold
+pub mod VoucherTruth
+pub mod ZoneTruth

@@ -1,0 +1,9 @@
+pub mod Ending
+pub mod EndsFacts
+pub mod EndsNames
+pub mod EndsParts
+pub mod EndsQuestion
+pub mod EndsRrsets
+pub mod EndsSets
+pub mod EndsTold
+pub mod EndsZones
