@@ -16,19 +16,20 @@ use Rattle.dnsv_verifier.specs.Table.{IsTableOf, TableContents}
 use Rattle.dnsv_verifier.specs.declared.entry.Entry.{Entry}
 use Rattle.dnsv_verdict.specs.Insecure.{IsOptOutWildcardSet}
 use Rattle.dnsv_verdict.specs.Secure.{IsFirstSuch}
-use Rattle.dnsv_verdict.specs.Verdict.{Basis, IsSettledAsBy}
+use Rattle.dnsv_verdict.specs.Verdict.{Basis, IsSettledAsBy, basis_of}
 use Rattle.dnsv_verdict.specs.declared.link.Link.{Link}
 use Rattle.dnsv_verdict.specs.declared.report.Report.{Report}
 use Rattle.dnsv_verdict.specs.declared.verdict.Verdict.{Verdict}
 use Rattle.dnsv_verdict.specs.declared.verdict.Verdict.TheVariants.{SecureAnswer, SecureAlias, SecureNoName, SecureNoData, Insecure, Pending, Bogus, Indeterminate}
+use Rattle.dnsv_gaps.specs.Asking.{Asking}
+use Rattle.dnsv_reasons.specs.Failures.{AreFailures}
 use Rattle.dnsv_explain.specs.Denials.{IsDenialTold, IsExpandedTold}
 use Rattle.dnsv_explain.specs.Explained.{Explained, Setting, basis_in, hoped, setting_in}
 use Rattle.dnsv_explain.specs.Places.{ArePlacesOf, ArePlacesTold}
 use Rattle.dnsv_explain.specs.Saying.{AreBoth, AreEach}
 use Rattle.dnsv_explain.specs.derivations.HeldTo.{IsHeldTo}
 use Rattle.dnsv_explain.specs.derivations.OwnDerivations.{IsSignatureTold, IsTrustIn}
-use Rattle.dnsv_explain.specs.faults.KeyLines.{AreLinesOfKeysAsked}
-use Rattle.dnsv_explain.specs.faults.Order.{AreFaultLines}
+use Rattle.dnsv_explain.specs.KeyLines.{AreLinesOfKeysAsked}
 use Rattle.dnsv_explain.specs.intervals.Holding.{IsHoldingOf}
 use Rattle.dnsv_explain.specs.unsigned_cuts.ShownCuts.{IsCutShownBy, IsCutTold, IsUnsignedTold}
 use Rattle.dnsv_lines.specs.declared.line.interval.Interval.{Interval}
@@ -151,10 +152,18 @@ IsUnproved Bogus = Unit {0}
 IsUnproved Indeterminate = Unit {0}
 IsUnproved _ = ⊥
 
+-- the question of which it is told what fails
+abbrev pub asking_in : Setting → Labels → ℕ → Asking
+asking_in setting name t = record {
+  basis = basis_of setting.rrsets setting.anchors setting.moment setting.meaning;
+  name = name;
+  rtype = t;
+}
+
 -- what fails of the question, and the keys that this is a matter of
 pub record IsFailureTold (setting : Setting) (name : Labels) (t : ℕ) (before lines : List Line) : Type 0 where
   pub faults : List Line
-  pub of_faults : AreFaultLines setting name t faults
+  pub of_faults : AreFailures (asking_in setting name t) faults
   pub keys : List Line
   pub of_keys : AreLinesOfKeysAsked setting faults keys
   pub are : lines ≡ faults ++ keys

@@ -4,12 +4,12 @@ pub mod Digests
 pub mod Explained
 pub mod Explanation
 pub mod Following
+pub mod KeyLines
+pub mod Listing
 pub mod Marked
-pub mod Once
 pub mod Places
 pub mod Rising
 pub mod Saying
 pub mod derivations
-pub mod faults
 pub mod intervals
 pub mod unsigned_cuts

@@ -6,7 +6,6 @@ ghost use Rattle.dnsv_verifier.specs.Table.{table_answer};
 ghost use Rattle.dnsv_chain.specs.Trust.{AreSecured, IsTrustOf};
 ghost use Rattle.dnsv_explain.specs.Explained.{IsTodo, setting_in};
 ghost use Rattle.dnsv_explain.specs.derivations.WaySearch.{AreFirstWays, HasNewKeys, IsWayOf};
-ghost use Rattle.dnsv_explain.specs.faults.Keys.{IsTrustedZone};
 
 use crate::derivations::ways::FoundWay;
 use crate::derivations::ways::kept::{KeptWay, NewKey};
@@ -14,7 +13,6 @@ use crate::todo::{do_rise, number_among};
 use dnsv_canonical::{Capture, Rrset, numbered};
 use dnsv_chain::{Anchor, Anchors, Trust, is_good};
 use dnsv_lines::Todo;
-use dnsv_names::Name;
 use dnsv_records::Rrsig;
 use dnsv_verifier::{Entries, KeyRecord, Table};
 use std::alloc::{AllocError, Global};
@@ -142,13 +140,6 @@ impl<'a> Evidence<'a> {
         ensures { result.now ≡ self.now.table }
     {
         self.table
-    }
-
-    /// Whether a DNSKEY RRset of the zone is trusted.
-    pub(crate) fn is_trusted_zone(&self, zone: &Name) -> bool
-        ensures { IsTrue result ↔ IsTrustedZone (setting_in self.now) zone.now }
-    {
-        !self.trust.keys(zone).is_empty()
     }
 
     /// The RRsets, which are numbered from 1.

@@ -22,15 +22,10 @@ ghost use Rattle.dnsv_verifier.specs.Table.{table_answer};
 ghost use Rattle.dnsv_verifier.specs.declared.entry.Entry.{Entry};
 ghost use Rattle.dnsv_explain.specs.Explanation.{IsExplanation, IsExplanationOf, IsUnproved, its_setting, told_kind};
 ghost use Rattle.dnsv_explain.specs.Marked.{AnswersMarked};
-ghost use Rattle.dnsv_explain.specs.Once.{AreOnce};
+ghost use Rattle.dnsv_reason_laws.specs.Once.{AreOnce};
 ghost use Rattle.dnsv_explain.specs.Following.{EachFollows, at_moment};
 ghost use Rattle.dnsv_explain.specs.Following.Cases.{IsCaseBy};
 ghost use Rattle.dnsv_explain.specs.Following.Parts.{IsPartOf, IsUnusableRecord};
-ghost use Rattle.dnsv_explain.specs.faults.Ends.{HasReasonAbove, IsExplained};
-ghost use Rattle.dnsv_explain.specs.faults.Order.{AreFaultLines};
-ghost use Rattle.dnsv_explain.specs.faults.RrsetLines.{AreLinesOfNumber};
-ghost use Rattle.dnsv_explain.specs.faults.Truth.{IsReasonTrue};
-ghost use Rattle.dnsv_explain.specs.faults.ZoneLines.{AreZoneLines, zone_line};
 ghost use Rattle.dnsv_explain.specs.intervals.Holding.{AreShownValidAt, IsHolding, IsHoldingOf};
 ghost use Rattle.dnsv_lines.specs.Rows.{line_text};
 ghost use Rattle.dnsv_explain.specs.unsigned_cuts.ShownCuts.{IsCutShownBy, IsCutTold};
@@ -166,42 +161,6 @@ pub fn marked_entries_settle_what_is_hoped()
     trust_depends_on_what_is_asked();
 }
 
-/// All that is said to fail of a question is so: each word is true of what it is said of, by its definition.
-pub fn reasons_are_true()
-    ensures { (setting : Setting) (name : Labels) (t : ℕ) (lines : List Line) → AreFaultLines setting name t lines
-        → (reason : Reason) → Contains lines (Line.Reason reason) → IsReasonTrue setting name t reason }
-{}
-
-/// What is said to fail of an RRset is so: each word is true of what it is said of, by its definition.
-pub fn reasons_of_rrsets_are_true()
-    ensures { (setting : Setting) (name : Labels) (t k : ℕ) (lines : List Line) → AreLinesOfNumber setting k lines
-        → (reason : Reason) → Contains lines (Line.Reason reason) → IsReasonTrue setting name t reason }
-{}
-
-/// What is said to fail of an untrusted zone is so: each word is true of what it is said of, by its definition.
-pub fn reasons_of_zones_are_true()
-    ensures { (setting : Setting) (name zone : Labels) (t : ℕ) (lines : List Line) → AreZoneLines setting zone lines
-        → (reason : Reason) → Contains lines (Line.Reason reason) → IsReasonTrue setting name t reason }
-{}
-
-/// Where no trust anchor is at or above a question's name, what fails begins with that.
-pub fn questions_without_an_anchor_fail_for_that()
-    ensures { (setting : Setting) (name : Labels) (t : ℕ) (lines : List Line) → ¬ HasAnchor setting.anchors name
-        → AreFaultLines setting name t lines
-        → (rest : List Line) × (lines ≡ zone_line WhyZone.NoAnchor name ∷ rest) }
-{}
-
-/// Where a trust anchor is at or above a question's name, nothing says that there is none; and of a question that is
-/// Bogus something fails, not only signers that aren't trusted.
-pub fn bogus_questions_fail_for_a_reason()
-    ensures some { (setting : Setting) (name : Labels) (t : ℕ) (lines : List Line)
-        → ((rrset : ReceivedRrset) → Contains setting.rrsets rrset → IsWellFormed rrset)
-        → IsVerdictAt (basis_of setting.rrsets setting.anchors setting.moment setting.meaning) name t Verdict.Bogus
-        → AreFaultLines setting name t lines → (reason : Reason) × Contains lines (Line.Reason reason) }
-    ensures other { (setting : Setting) (name : Labels) (t : ℕ) (lines : List Line) → HasAnchor setting.anchors name
-        → AreFaultLines setting name t lines → ¬ Contains lines (zone_line WhyZone.NoAnchor name) }
-{}
-
 /// Only of a question of which nothing is proved something is said to fail: the explanation of any other verdict has no
 /// reason, no signer that isn't trusted, and no key.
 pub fn only_unproved_questions_fail()
@@ -216,27 +175,8 @@ pub fn only_unproved_questions_fail()
         → (key : ShownKey) → ¬ Contains lines (Line.Key key) }
 {}
 
-/// Each signer that is told as untrusted has a line that says why, in what fails and in a whole explanation: what fails of
-/// it; or that it has a DS RRset whose signer, which is above it, isn't trusted, and for that one the same. So what fails
-/// is said of a zone at or above each.
-pub fn untrusted_signers_have_a_reason()
-    ensures explained { (setting : Setting) (name : Labels) (t : ℕ) (lines : List Line)
-        → ((rrset : ReceivedRrset) → Contains setting.rrsets rrset → IsWellFormed rrset) → AreFaultLines setting name t lines
-        → (untrusted : UntrustedSigner) → Contains lines (Line.Follows untrusted)
-        → IsExplained setting lines untrusted.signature.signer }
-    ensures whole { (explained : Explained) (t : ℕ) (links : List Link) (last : Labels) (verdict : Verdict) (lines : List Line)
-        → ((rrset : ReceivedRrset) → Contains explained.rrsets rrset → IsWellFormed rrset)
-        → IsExplanation explained t links last verdict lines
-        → (untrusted : UntrustedSigner) → Contains lines (Line.Follows untrusted)
-        → IsExplained (setting_in explained) lines untrusted.signature.signer }
-    ensures ends { (setting : Setting) (lines : List Line) (zone : Labels) → IsExplained setting lines zone
-        → HasReasonAbove setting lines zone }
-{}
-
-/// No line stands twice in an explanation; and of what fails no two lines have one text.
+/// No line stands twice in an explanation.
 pub fn no_line_stands_twice()
-    ensures whole { (explained : Explained) (t : ℕ) (links : List Link) (last : Labels) (verdict : Verdict)
+    ensures { (explained : Explained) (t : ℕ) (links : List Link) (last : Labels) (verdict : Verdict)
         (lines : List Line) → IsExplanation explained t links last verdict lines → AreOnce lines }
-    ensures texts { (setting : Setting) (name : Labels) (t : ℕ) (lines : List Line) → AreFaultLines setting name t lines
-        → AreOnce (map line_text lines) }
 {}

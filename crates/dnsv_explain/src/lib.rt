@@ -11,13 +11,11 @@ pub use explanation::explainer::Explainer;
 pub use explanation::{Explanation, explain};
 pub use interval::{Times, holding};
 pub use laws::{
-    a_report_has_one_explanation, bogus_questions_fail_for_a_reason, denials_follow,
-    derivations_follow, expanded_signatures_follow, explanations_follow,
-    lines_follow_as_long_as_they_hold, lines_that_follow_are_true,
+    a_report_has_one_explanation, denials_follow, derivations_follow, expanded_signatures_follow,
+    explanations_follow, lines_follow_as_long_as_they_hold, lines_that_follow_are_true,
     marked_entries_settle_what_is_hoped, no_line_stands_twice, only_unproved_questions_fail,
-    questions_without_an_anchor_fail_for_that, reasons_are_true, reasons_of_rrsets_are_true,
-    reasons_of_zones_are_true, signatures_hold_in_one_interval, unsigned_cuts_follow,
-    untrusted_signers_have_a_reason, verdicts_are_no_worse_as_long_as_explanations_hold,
+    signatures_hold_in_one_interval, unsigned_cuts_follow,
+    verdicts_are_no_worse_as_long_as_explanations_hold,
 };
 pub use places::places_named;
 pub use shown::holding_of;
@@ -27,8 +25,8 @@ mod derivations;
 mod digested;
 mod evidence;
 mod explanation;
-mod faults;
 mod interval;
+mod keys_in_question;
 mod laws;
 mod places;
 mod shown;

@@ -2,6 +2,7 @@
 pub mod CutLemmas
 pub mod DenialLemmas
 pub mod DerivationLemmas
+pub mod FailureLemmas
 pub mod FormLemmas
 pub mod PlaceLemmas
 pub mod ShownLemmas

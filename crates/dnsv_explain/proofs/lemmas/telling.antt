@@ -1,6 +1,8 @@
 -- What is told of a verdict: its lines, that each follows, and what is refused in their place.
 pub mod ExplanationLemmas
+pub mod FaultLemmas
 pub mod FollowingLemmas
+pub mod QuietLemmas
 pub mod RefusalLemmas
 pub mod SayingLemmas
 pub mod SecureLemmas

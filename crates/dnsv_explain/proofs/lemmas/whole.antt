@@ -5,4 +5,3 @@ pub mod ListLemmas
 pub mod OnceLemmas
 pub mod ProvedLemmas
 pub mod SettledLemmas
-pub mod SignerLemmas

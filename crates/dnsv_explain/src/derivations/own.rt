@@ -1,5 +1,6 @@
 //! Derivations of the signatures by which a zone's records count.
 ghost use Rattle.std.specs.Prelude.{◌≡◌, ◌↔◌, ℕ, Contains, IsTrue, MatchOption, OnOk};
+ghost use Rattle.dnsv_names.specs.Name.{SameName};
 ghost use Rattle.dnsv_canonical.specs.declared.number.RecordNumber.{RecordNumber};
 ghost use Rattle.dnsv_denial.specs.gathering.Evidence.{HasZoneSignature, IsSecuredBy};
 ghost use Rattle.dnsv_explain.specs.derivations.OwnDerivations.{AreRecordsDerived, IsLowestOwn, IsOwnDerivation, IsOwnSignature, IsSignatureTold, SecuredIn};
@@ -8,10 +9,10 @@ ghost use Rattle.dnsv_explain.specs.Saying.{Adds};
 
 use crate::derivations::derivation;
 use crate::evidence::Evidence;
-use crate::faults::keys::is_signer;
 use dnsv_canonical::{RecordNumber, Rrset, SignatureNumber, is_expanded, numbered};
 use dnsv_lines::Line;
 use dnsv_names::Name;
+use dnsv_records::Rrsig;
 use std::alloc::{AllocError, Global};
 
 /// Adds the derivation of each record's RRset, but for what was said before.
@@ -100,4 +101,11 @@ fn is_own(rrset: &Rrset<'_>, number: usize, zone: &Name) -> bool
         return !is_expanded(rrset.owner(), rrsig);
     }
     false
+}
+
+/// Whether the name is the signer of the signature, without regard to case (RFC 4343).
+fn is_signer(name: &Name, rrsig: &Rrsig<'_>) -> bool
+    ensures { IsTrue result ↔ SameName rrsig.now.signer name.now }
+{
+    rrsig.signer.is_same(name)
 }

@@ -1,5 +1,8 @@
 //! What fails, where nothing is proved.
-ghost use Rattle.std.specs.Prelude.{◌↔◌, IsTrue, OnOk};
+ghost use Rattle.std.specs.Prelude.{◌≡◌, ◌↔◌, IfOk, IsTrue, OnOk};
+ghost use Rattle.dnsv_gaps.specs.Asking.{asking_of};
+ghost use Rattle.dnsv_reasons.specs.Failures.{AreFailures};
+ghost use Rattle.dnsv_verdict.specs.Report.{hashed_in};
 ghost use Rattle.dnsv_explain.specs.At.{IsAt};
 ghost use Rattle.dnsv_explain.specs.Explained.{setting_in};
 ghost use Rattle.dnsv_explain.specs.Explanation.{IsFailureTold, IsUnproved};
@@ -7,10 +10,11 @@ ghost use Rattle.dnsv_explain.specs.Saying.{Adds};
 
 use crate::evidence::Evidence;
 use crate::explanation::at::At;
-use crate::faults::question::add_question_faults;
-use crate::faults::shown_keys::add_keys_in_question;
+use crate::keys_in_question::add_keys_in_question;
+use dnsv_faults::CaseFacts;
 use dnsv_lines::Line;
 use dnsv_names::RecordType;
+use dnsv_reasons::failures;
 use dnsv_verdict::Verdict;
 use std::alloc::{AllocError, Global};
 
@@ -26,13 +30,21 @@ pub fn add_failure(
     ensures { OnOk result (Adds (IsFailureTold (setting_in evidence.now) at.now.name.now rtype.0) lines.old.items
         lines.new.items) }
 {
-    let mut faults = Vec::new(alloc);
-    add_question_faults(alloc, evidence, at, &mut faults, rtype)?;
+    let mut faults = failing(alloc, at, rtype)?;
     let mut keys = Vec::new(alloc);
     add_keys_in_question(alloc, evidence, &faults, &mut keys)?;
     lines.append(&mut faults)?;
     lines.append(&mut keys)?;
     Ok(())
+}
+
+/// What fails of the question.
+fn failing(alloc: Global, at: &At<'_, '_>, rtype: RecordType) -> Result<Vec<Line>, AllocError>
+    requires { at.now.hashes.now ≡ hashed_in at.now.case.now.rrsets at.now.name.now }
+    ensures { IfOk result (λ lines. AreFailures (asking_of at.now.case.now at.now.name.now rtype.0) lines.items) }
+{
+    let facts = CaseFacts::of(alloc, at.case)?;
+    failures(alloc, at.case, &facts, at.hashes, at.name, rtype)
 }
 
 /// Whether nothing is proved.

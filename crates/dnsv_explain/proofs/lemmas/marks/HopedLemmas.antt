@@ -26,7 +26,7 @@ use Rattle.dnsv_explain.proofs.lemmas.NumberedLemmas.{among}
 use Rattle.dnsv_explain.proofs.lemmas.derivations.DerivationLemmas.{same_as}
 use Rattle.dnsv_explain.proofs.lemmas.intervals.MomentLemmas.{good_as, is_behind, is_first, vouched_then}
 use Rattle.dnsv_explain.proofs.lemmas.marks.LineLemmas.{IsLineOf}
-use Rattle.dnsv_explain.proofs.lemmas.faults.zones.OwnKeyLemmas.{key_among}
+use Rattle.dnsv_explain.proofs.lemmas.MemberLemmas.{key_among}
 
 -- a setting by which lines of an explanation are told that has a hope: as it is, or under hope
 pub data IsIts (explained : Explained) (unknown : List Entry) : Setting → Type 0 where

@@ -45,7 +45,7 @@ use Rattle.dnsv_lines.specs.declared.line.Line.{Line}
 use Rattle.dnsv_lines.specs.declared.line.Line.TheVariants as line
 use Rattle.dnsv_lines.specs.declared.line.cut.InsecureCase.TheVariants as case
 use Rattle.dnsv_canonical.specs.declared.number.SignatureNumber.{SignatureNumber}
-use Rattle.dnsv_explain.proofs.lemmas.faults.one.FailureLemmas.{one_failure_told}
+use Rattle.dnsv_explain.proofs.lemmas.one.FailureLemmas.{one_failure_told}
 use Rattle.dnsv_explain.proofs.lemmas.one.CutLemmas.{one_cut_told, one_unsigned}
 use Rattle.dnsv_explain.proofs.lemmas.one.DenialLemmas.{one_denial, one_expanded}
 use Rattle.dnsv_explain.proofs.lemmas.one.DerivationLemmas.{one_held, one_signature}

@@ -24,7 +24,7 @@ use Rattle.dnsv_lines.specs.declared.line.Line.TheVariants as line
 use Rattle.dnsv_lines.specs.declared.line.cut.InsecureCase.TheVariants as case
 use Rattle.dnsv_canonical.specs.declared.number.SignatureNumber.{SignatureNumber}
 use Rattle.dnsv_lines.specs.declared.line.place.RrsetPlace.{RrsetPlace}
-use Rattle.dnsv_explain.proofs.lemmas.faults.QuietLemmas.{failure_follows}
+use Rattle.dnsv_explain.proofs.lemmas.telling.QuietLemmas.{failure_follows}
 use Rattle.dnsv_explain.proofs.lemmas.derivations.HeldLemmas.{held_follows}
 use Rattle.dnsv_explain.proofs.lemmas.marks.HopeLemmas.{still_follow}
 use Rattle.dnsv_explain.proofs.lemmas.denials.FollowLemmas.{behind, both_follow, denial_follows, each_follow, expanded_follows, first_of, unsigned_follows}

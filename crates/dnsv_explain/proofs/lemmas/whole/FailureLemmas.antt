@@ -1,70 +1,47 @@
 -- What fails is said without a line twice.
 use Rattle.std.proofs.Common.{◌≡◌, ◌≢◌, ℕ, true, false, List, map, inl, inr, refl, sym, ap, ◌∙◌, subst, ⊎_elim, arith}
-use Rattle.std.proofs.lemmas.Bool.{false≢true}
 use Rattle.std.proofs.lemmas.List.Elements.{Contains-append_cases}
-use Rattle.std.proofs.lemmas.Slice.Eq.{bytes_eq-Decides}
 use Rattle.std.specs.List.{Contains}
 use Rattle.dnsv_names.specs.Name.{Labels}
-use Rattle.dnsv_canonical.proofs.GroupLemmas.AppearanceLemmas.{first_appearances_apart}
-use Rattle.dnsv_canonical.specs.Rrsets.{ReceivedRrset, first_appearances}
+use Rattle.dnsv_canonical.proofs.OrderLemmas.{each_of}
+use Rattle.dnsv_canonical.specs.Rrsets.{ReceivedRrset}
 use Rattle.dnsv_verifier.specs.Admissible.{DnskeyRecord}
 use Rattle.dnsv_canonical.specs.declared.number.RecordNumber.{RecordNumber}
 use Rattle.dnsv_explain.specs.Explained.{Setting}
-use Rattle.dnsv_explain.specs.Explanation.{IsFailureTold}
-use Rattle.dnsv_explain.specs.Once.{AreOnce}
-use Rattle.dnsv_explain.specs.faults.KeyLines.{AreLinesOfKeysAsked, AreLinesOfSet, IsKeyLine}
-use Rattle.dnsv_explain.specs.faults.Listing.{AreOfNumbered}
-use Rattle.dnsv_explain.specs.faults.Order.{AreFaultLines, IsSaid, same_text}
-use Rattle.dnsv_lines.specs.Rows.{line_text}
+use Rattle.dnsv_explain.specs.Explanation.{IsFailureTold, asking_in}
+use Rattle.dnsv_reason_laws.specs.Once.{AreOnce}
+use Rattle.dnsv_explain.specs.KeyLines.{AreLinesOfKeysAsked, AreLinesOfSet, IsKeyLine}
+use Rattle.dnsv_explain.specs.Listing.{AreOfNumbered}
 use Rattle.dnsv_lines.specs.declared.line.Line.{Line}
 use Rattle.dnsv_lines.specs.declared.line.Line.TheVariants as line
 use Rattle.dnsv_lines.specs.declared.line.fault.signature.UntrustedSigner.{UntrustedSigner}
-use Rattle.dnsv_explain.proofs.lemmas.faults.TruthLemmas.{those_such}
-use Rattle.dnsv_explain.proofs.lemmas.faults.ends.EachLemmas.{Each, none_each, numbered_each, one_each}
-use Rattle.dnsv_explain.proofs.lemmas.faults.truth.QuestionLemmas.{first_among}
+use Rattle.dnsv_reason_laws.proofs.OnceLemmas.{failures_differ}
+use Rattle.dnsv_reasons.specs.Failures.{AreFailures}
+use Rattle.dnsv_explain.proofs.lemmas.keys.EachLemmas.{Each, none_each, numbered_each, one_each}
+use Rattle.dnsv_explain.proofs.lemmas.telling.FaultLemmas.{IsFault, failures_fault}
 use Rattle.dnsv_explain.proofs.lemmas.whole.FreshLemmas.{HaveKinds, kind}
 use Rattle.dnsv_explain.proofs.lemmas.whole.ListLemmas.{once_append, once_apart, once_map, once_numbered, once_one}
 
 -- ---- what fails
 
-text_itself : (each : Line) → same_text each each ≡ true
-text_itself each = (bytes_eq-Decides (line_text each) (line_text each)).1 refl
+fault_kind : (each : Line) → IsFault each → kind each ≡ 5
+fault_kind (line.Reason told) is = refl
+fault_kind (line.Follows told) is = refl
+fault_kind (line.Trusted told) is = absurd is
+fault_kind (line.Signed told) is = absurd is
+fault_kind (line.Proof told) is = absurd is
+fault_kind (line.Part told) is = absurd is
+fault_kind (line.Case told) is = absurd is
+fault_kind (line.Unusable told) is = absurd is
+fault_kind (line.Hope told) is = absurd is
+fault_kind (line.Holds told) is = absurd is
+fault_kind (line.Key told) is = absurd is
+fault_kind (line.Rrset told) is = absurd is
 
-said_kind : (setting : Setting) (name : Labels) (each : Line) → IsSaid setting name each → kind each ≡ 5
-said_kind setting name (line.Reason told) is = refl
-said_kind setting name (line.Follows told) is = refl
-said_kind setting name (line.Trusted told) is = absurd is
-said_kind setting name (line.Signed told) is = absurd is
-said_kind setting name (line.Proof told) is = absurd is
-said_kind setting name (line.Part told) is = absurd is
-said_kind setting name (line.Case told) is = absurd is
-said_kind setting name (line.Unusable told) is = absurd is
-said_kind setting name (line.Hope told) is = absurd is
-said_kind setting name (line.Holds told) is = absurd is
-said_kind setting name (line.Key told) is = absurd is
-said_kind setting name (line.Rrset told) is = absurd is
-
-module _ (setting : Setting) (name : Labels) (t : ℕ) (lines : List Line) (are : AreFaultLines setting name t lines) where
-  faults_once : AreOnce lines
-  faults_once =
-      let Once : List Line → Type 0 = λ all. AreOnce all in
-      subst Once (sym are.once) (once_apart same_text text_itself (first_appearances same_text are.said) (first_appearances_apart same_text are.said))
-
-  -- no two have one text
-  pub texts_once : AreOnce (map line_text lines)
-  texts_once =
-      let Once : List Line → Type 0 = λ all. AreOnce (map line_text all) in
-      let differ : (a b : Line) → same_text a b ≡ false → ¬ (line_text a ≡ line_text b) =
-      λ a b unlike same. false≢true (sym unlike ∙ (bytes_eq-Decides (line_text a) (line_text b)).1 same) in
-      let apart = first_appearances_apart same_text are.said in
-      subst Once (sym are.once)
-      (once_map line_text (first_appearances same_text are.said) (λ i j d before within. differ _ _ (apart i j d before within)))
-
-  faults_kind : HaveKinds (λ n. n ≡ 5) lines
-  faults_kind each there =
-      let In : List Line → Type 0 = λ all. Contains all each in
-      let among : Contains are.said each = first_among setting name t are.said each (subst In are.once there) in
-      said_kind setting name each (those_such (IsSaid setting name) are.parts are.said are.are_said each among)
+faults_kind : (setting : Setting) (name : Labels) (t : ℕ) (lines : List Line) → AreFailures (asking_in setting name t) lines
+    → HaveKinds (λ n. n ≡ 5) lines
+faults_kind setting name t lines are each there =
+    fault_kind each (each_of IsFault lines each (failures_fault (asking_in setting name t) lines are) there)
 
 -- ---- keys
 
@@ -127,7 +104,7 @@ module _ (setting : Setting) (name : Labels) (t : ℕ) (before lines : List Line
   failure_once =
       let Once : List Line → Type 0 = λ all. AreOnce all in
       subst Once (sym told.are)
-      (once_append told.faults told.keys (faults_once setting name t told.faults told.of_faults)
+      (once_append told.faults told.keys (failures_differ (asking_in setting name t) told.faults told.of_faults)
       (asked_once setting told.faults told.keys told.of_keys)
       (λ each left right.
       let five = faults_kind setting name t told.faults told.of_faults each left in

@@ -9,14 +9,14 @@ use Rattle.dnsv_verifier.proofs.NumberLemmas.{contains_from_map}
 use Rattle.dnsv_verifier.specs.declared.entry.Entry.{Entry}
 use Rattle.dnsv_explain.specs.Explained.{Explained, Setting, hoped, setting_in}
 use Rattle.dnsv_explain.specs.Explanation.{IsEnd, IsExplanation, IsFailureTold, IsHopeTold, IsLinkTold, IsSettledTold}
-use Rattle.dnsv_explain.specs.Once.{AreOnce}
+use Rattle.dnsv_reason_laws.specs.Once.{AreOnce}
 use Rattle.dnsv_explain.specs.Places.{ArePlacesOf, ArePlacesTold}
 use Rattle.dnsv_explain.specs.Saying.{AreBoth, AreEach}
 use Rattle.dnsv_explain.specs.derivations.HeldTo.{IsHeldTo}
 use Rattle.dnsv_lines.specs.declared.line.Line.{Line}
 use Rattle.dnsv_lines.specs.declared.line.Line.TheVariants as line
 use Rattle.dnsv_lines.specs.declared.line.place.RrsetPlace.{RrsetPlace}
-use Rattle.dnsv_explain.proofs.lemmas.faults.TruthLemmas.{none_in}
+use Rattle.dnsv_explain.proofs.lemmas.MemberLemmas.{none_in}
 use Rattle.dnsv_explain.proofs.lemmas.whole.DerivationLemmas.{IsBasic}
 use Rattle.dnsv_explain.proofs.lemmas.whole.FailureLemmas.{failure_kinds, failure_once}
 use Rattle.dnsv_explain.proofs.lemmas.whole.FreshLemmas.{HaveKinds, IsFresh, Lack, append_fresh, both_fresh, kind, kinds_append, kinds_one, lacks, one_fresh, weaker}

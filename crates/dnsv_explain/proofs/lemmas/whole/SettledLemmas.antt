@@ -18,7 +18,7 @@ use Rattle.dnsv_explain.specs.Explained.{Setting}
 use Rattle.dnsv_explain.specs.Explanation.{IsLinkTold, IsSetTold, IsSettledTold, IsUnsignedFromTold, signature_of}
 use Rattle.dnsv_explain.specs.Explanation.IsSetTold.{as_owned, by_wildcard}
 use Rattle.dnsv_explain.specs.Explanation.IsUnsignedFromTold.{by_cut, by_wildcard as loosely}
-use Rattle.dnsv_explain.specs.Once.{AreOnce}
+use Rattle.dnsv_reason_laws.specs.Once.{AreOnce}
 use Rattle.dnsv_explain.specs.Saying.{AreBoth, AreEach}
 use Rattle.dnsv_explain.specs.derivations.Derivations.Subject.{keys, signature}
 use Rattle.dnsv_explain.specs.derivations.HeldTo.{IsFirstDerived, IsHeldAt, IsHeldBelow, IsHeldTo, IsLowestDerived}
@@ -33,7 +33,7 @@ use Rattle.dnsv_lines.specs.declared.line.cut.InsecureCase.TheVariants as case
 use Rattle.dnsv_lines.specs.declared.line.cut.UnusableDs.{UnusableDs}
 use Rattle.dnsv_lines.specs.declared.line.denial.Form.{Form}
 use Rattle.dnsv_canonical.specs.declared.number.SignatureNumber.{SignatureNumber}
-use Rattle.dnsv_explain.proofs.lemmas.faults.TruthLemmas.{first_or_rest, none_in}
+use Rattle.dnsv_explain.proofs.lemmas.MemberLemmas.{first_or_rest, none_in}
 use Rattle.dnsv_explain.proofs.lemmas.whole.DerivationLemmas.{IsBasic, derivation_fresh}
 use Rattle.dnsv_explain.proofs.lemmas.whole.FreshLemmas.{HaveKinds, IsFresh, Lack, both_fresh, each_fresh, kind, kinds_append, kinds_one, lacks, none_fresh, once_fresh, one_fresh, weaker}
 

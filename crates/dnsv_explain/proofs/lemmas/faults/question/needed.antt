@@ -1,4 +1,0 @@
-pub mod FirstLemmas
-pub mod KnownLemmas
-pub mod NeededLemmas
-pub mod ParentLemmas

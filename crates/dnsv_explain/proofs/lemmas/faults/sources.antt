@@ -1,7 +1,0 @@
-pub mod ChainLemmas
-pub mod ClosedLemmas
-pub mod FoundLemmas
-pub mod LackLemmas
-pub mod SaidLemmas
-pub mod TruthLemmas
-pub mod ZoneLemmas

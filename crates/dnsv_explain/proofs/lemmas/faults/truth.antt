@@ -1,2 +1,0 @@
-pub mod QuestionLemmas
-pub mod SoLemmas

@@ -1,9 +1,0 @@
-pub mod EntryLemmas
-pub mod FirstReasonLemmas
-pub mod FollowLemmas
-pub mod GoalLemmas
-pub mod KeyLemmas
-pub mod ListLemmas
-pub mod ReasonLemmas
-pub mod RrsetLemmas
-pub mod ZoneLemmas
