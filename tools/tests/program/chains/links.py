@@ -73,7 +73,8 @@ class Rrset:
 
 
 class Chain:
-    """The links by their names, in the order from the anchor down; a link that is None isn't there."""
+    """The links by their names, in the order from the anchor down; a link that is None isn't there. What stands beside them
+    comes behind them, each RRset in a message of its own, and other anchors behind the first."""
 
     def __init__(self, question, answer=None, denials=()):
         self.question = question
@@ -87,9 +88,23 @@ class Chain:
             self.links["answer"] = Rrset(question[0], question[1], [bytes(4)], self.key, ZONE, answer)
         for number, (owner, rtype, rdata) in enumerate(denials):
             self.links[f"denial {number}"] = Rrset(owner, rtype, [rdata], self.key, ZONE)
+        self.beside, self.other_anchors = [], []
 
     def copied(self):
         return copy.deepcopy(self)
+
+    def parts(self):
+        """The RRsets of each message: its answers and its authority."""
+        def of(*names):
+            return [rrset for link, rrset in self.links.items() if rrset and link.startswith(names)]
+
+        yield from ((of(link), []) for link in ("parent", "ds", "zone"))
+        yield of("answer"), of("denial")
+        yield from (([rrset], []) for rrset in self.beside)
+
+    def rrsets(self):
+        """All in the order in which the program numbers them."""
+        return [rrset for answers, authority in self.parts() for rrset in answers + authority]
 
     def files(self):
         """The capture and the anchors, and the signatures of which a statement isn't `good`."""
@@ -103,12 +118,10 @@ class Chain:
                 words[octets.hex()] = signature.word
                 yield record(name(rrset.owner), "RRSIG", signature.rdata(rrset.rtype, octets))
 
-        def section(*names):
-            return [each for link, rrset in self.links.items() if rrset and link.startswith(names) for each in records(rrset)]
-
-        messages = [response(section(link), []) for link in ("parent", "ds", "zone")]
-        messages.append(response(section("answer"), section("denial")))
-        anchors = self.anchor.line() if self.anchor else "KEY other. 256 3 13 AQID\n"
+        messages = [response(*([each for rrset in section for each in records(rrset)] for section in part))
+                    for part in self.parts()]
+        entries = ([self.anchor] if self.anchor else []) + self.other_anchors
+        anchors = "".join(entry.line() for entry in entries) or "KEY other. 256 3 13 AQID\n"
         return b"".join(messages), anchors.encode(), words
 
 
@@ -128,7 +141,8 @@ def shop(types="A"):
 
 def by_name(zone, *owners):
     """The NSEC records of these owners."""
-    return [(owner, "NSEC", rdata) for owner, rdata in nsec_chain(zone) if owner in owners]
+    records = dict(nsec_chain(zone))
+    return [(owner, "NSEC", records[owner]) for owner in owners]
 
 
 def by_hash(zone, hashing, names):
@@ -154,13 +168,14 @@ def of_www(is_hashed, types="A"):
 
 
 def shapes():
-    """Each by its name: the chain, and what is said first where one of its denials isn't there."""
+    """Each by its name: the chain, its denials in the order in which a proof takes them, and what is said first where one of
+    these isn't there."""
     asked, records = denied_by_three(HASHING)
     return {
         "answer": (Chain((WWW, "A"), 3), []),
         "wildcard": (Chain((DEEP, "A"), 3, by_name(shop(), "*.wild." + ZONE)), [("no-closer", f"{DEEP} 1")]),
-        "no name": (Chain((NOSUCH, "A"), None, by_name(shop(), ZONE, "mail." + ZONE)),
-                    [("cover-missing", WILD), ("cover-missing", NOSUCH)]),
+        "no name": (Chain((NOSUCH, "A"), None, by_name(shop(), "mail." + ZONE, ZONE)),
+                    [("cover-missing", NOSUCH), ("cover-missing", WILD)]),
         "no data": (Chain((WWW, "AAAA"), None, of_www(False)), [("answer-missing", f"{WWW} 28")]),
         "no name by hashes": (Chain((asked, "A"), None, records),
                               [("encloser-missing", asked), ("cover-missing", asked), ("cover-missing", WILD)]),

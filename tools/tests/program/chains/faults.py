@@ -2,7 +2,7 @@
 from dataclasses import dataclass
 from typing import Callable
 
-from messages import counted
+from messages import TYPES, counted
 
 from .links import AHEAD, OVER, PARENT, WWW, ZONE, of_www, shapes
 
@@ -66,7 +66,7 @@ def of_any_rrset(link, rrset):
     yield Fault("bad", link, ("bad", about), of_signature(link, word="bad"))
     yield Fault("another's", link, ("signer", about), of_signature(link, signer=OTHER))
     yield Fault("too many labels", link, ("labels", about), of_signature(link, labels=labels + 1))
-    if rrset.rtype != "A":
+    if rrset.rtype not in ("A", "CNAME"):
         yield Fault("expanded", link, ("expanded", about), of_signature(link, labels=labels - 1))
 
 
@@ -114,12 +114,15 @@ def faults_of(chain, missing):
     """All faults of a shape, from the anchor down."""
     links = chain.links
     yield Fault("no anchor", "anchor", ("no-anchor", chain.question[0]), without_anchor)
-    yield Fault("unknown algorithm", "anchor", ("algorithm", PARENT), of_entry(lambda c: c.anchor, algorithm=250))
-    yield from of_names_of_keys("anchor", PARENT, lambda c: c.anchor)
-    yield from of_names_of_keys("ds", ZONE, lambda c: c.links["ds"].data[0])
-    yield Fault("no DS", "ds", ("ds-missing", ZONE), without("ds"))
+    anchored = chain.anchor.zone
+    yield Fault("unknown algorithm", "anchor", ("algorithm", anchored), of_entry(lambda c: c.anchor, algorithm=250))
+    yield from of_names_of_keys("anchor", anchored, lambda c: c.anchor)
+    if "ds" in links:
+        yield from of_names_of_keys("ds", ZONE, lambda c: c.links["ds"].data[0])
+        yield Fault("no DS", "ds", ("ds-missing", ZONE), without("ds"))
     for link, zone in (("parent", PARENT), ("zone", ZONE)):
-        yield from of_keys(link, zone, links[link])
+        if link in links:
+            yield from of_keys(link, zone, links[link])
     for link, rrset in links.items():
         yield from of_any_rrset(link, rrset)
         if rrset.rtype != "DNSKEY":
@@ -129,18 +132,24 @@ def faults_of(chain, missing):
 
 
 def of_zone_keys(links):
-    """The second key of each zone, which signs what isn't keys."""
-    below = next(rrset for link, rrset in links.items() if link in ("answer", "denial 0"))
-    yield Fault("second key no zone key", "parent", ("not-zone-key", links["ds"].about()), with_flags("parent", 1, 0))
-    yield Fault("second key no zone key", "zone", ("not-zone-key", below.about()), with_flags("zone", 1, 0))
+    """The second key of each zone, which signs what isn't keys: what it signs first."""
+    for link, zone in (("parent", PARENT), ("zone", ZONE)):
+        signed = [rrset for rrset in links.values() if rrset.rtype != "DNSKEY" and rrset.signatures[0].signer == zone]
+        if link in links and signed:
+            yield Fault("second key no zone key", link, ("not-zone-key", signed[0].about()), with_flags(link, 1, 0))
+
+
+def without_answer(chain):
+    """What is said where a denial is left: by a wildcard's that the wildcard has the type, by another's that it isn't whole."""
+    denial = chain.links["denial 0"].owner
+    return ("type-held", denial) if denial.startswith("*.") else ("cover-missing", chain.question[0])
 
 
 def of_evidence(chain, missing):
     """The answer and the denials themselves."""
+    asked = f"{chain.question[0]} {TYPES[chain.question[1]]}"
     if "answer" in chain.links:
-        # Where a wildcard's denial is left, it says that the wildcard has the type.
-        said = ("type-held", chain.links["denial 0"].owner) if missing else ("answer-missing", f"{chain.question[0]} 1")
-        yield Fault("no answer", "answer", said, without("answer"))
+        yield Fault("no answer", "answer", without_answer(chain) if missing else ("answer-missing", asked), without("answer"))
     for number, said in enumerate(missing):
         yield Fault("no denial", f"denial {number}", said, without(f"denial {number}"))
     for link, rrset in chain.links.items():
@@ -160,7 +169,11 @@ def broken(chain, *faults):
     return copy
 
 
-def all_shapes():
+def with_faults(found):
     """Each shape with its chain and its faults."""
-    for shape, (chain, missing) in shapes().items():
+    for shape, (chain, missing) in found.items():
         yield shape, chain, list(faults_of(chain, missing))
+
+
+def all_shapes():
+    return with_faults(shapes())
