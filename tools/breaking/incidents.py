@@ -5,11 +5,13 @@ from __future__ import annotations
 from datetime import datetime, timedelta, timezone
 from typing import Callable, NamedTuple
 
-from .zones import FORM, PARENT, RELAY, RSA, SERVER, Keys, Room, covering, kind_of, of_kinds, without, zone_text
+from .zones import FORM, PARENT, RELAY, RSA, SERVER, Keys, Room
+from .zones import covering, exchanged, kind_of, of_kinds, without, zone_text
 
 
 class Zone(NamedTuple):
-    """A zone as it is served, and the DS records that its parent has of it."""
+    """A zone as it is served, and the DS records that its parent has of it; where it has none, the signature of its
+    proof of that is over."""
 
     name: str
     lines: list[str]
@@ -35,6 +37,11 @@ def moment(**ahead: int) -> str:
     return (datetime.now(timezone.utc) + timedelta(**ahead)).strftime(FORM)
 
 
+def over() -> tuple[str, ...]:
+    """What the signer is told for signatures whose time is over."""
+    return "-i", moment(days=-60), "-e", moment(days=-30)
+
+
 def whole(
     room: Room, name: str, *options: str, server: str = SERVER, others: tuple[str, ...] = ()
 ) -> tuple[Keys, Zone]:
@@ -51,7 +58,7 @@ def stale_ds(room: Room, name: str) -> Zone:
 
 
 def expired(room: Room, name: str) -> Zone:
-    return whole(room, name, "-i", moment(days=-60), "-e", moment(days=-30))[1]
+    return whole(room, name, *over())[1]
 
 
 def gost_alone(room: Room, name: str) -> Zone:
@@ -66,8 +73,7 @@ def algorithm_half_rolled(room: Room, name: str) -> Zone:
     """The keys and the DS are of the new algorithm, and all else is signed by the old one."""
     old = room.signed(name, zone_text(name, SERVER), room.new_keys(name, RSA))
     _, new = whole(room, name)
-    keys = of_kinds("DNSKEY")
-    return new._replace(lines=without(old, keys) + [line for line in new.lines if keys(line)])
+    return new._replace(lines=exchanged(old, new.lines, of_kinds("DNSKEY")))
 
 
 def ds_too_early(room: Room, name: str) -> Zone:
@@ -121,6 +127,22 @@ def truncated(room: Room, name: str) -> Zone:
     return Zone(name, lines, room.ds(keys), RELAY)
 
 
+def standby_key(room: Room, name: str) -> Zone:
+    """The parent has a DS of a key on standby as well, which is published and signs nothing. The signature over the
+    keys, by the other one, is over; all else was signed again since. The key on standby has the greater key tag,
+    since it is the one with the greater that unbound tells of."""
+    keys, standby = sorted((room.new_keys(name), room.new_keys(name)))
+    text = zone_text(name, SERVER, room.dnskey(standby.keys).strip())
+    former = room.signed(name, text, keys, *over())
+    lines = exchanged(room.signed(name, text, keys), former, lambda line: kind_of(line) == "RRSIG DNSKEY")
+    return Zone(name, lines, room.ds(standby) + room.ds(keys))
+
+
+def island(room: Room, name: str) -> Zone:
+    """The zone signs, and its parent has no DS of it, which the parent doesn't prove any more."""
+    return whole(room, name)[1]._replace(ds="")
+
+
 EXPIRED, IN_HOLE = f"expired.{PARENT}", "mail"
 INCIDENTS = (
     Incident("stale DS", f"stale.{PARENT}", "www", stale_ds),
@@ -136,4 +158,6 @@ INCIDENTS = (
     Incident("alias into an expired zone", f"alias.{PARENT}", "web", alias),
     Incident("wildcard without its proof", f"wild.{PARENT}", "any.w", wildcard),
     Incident("DNSKEY truncated", f"big.{PARENT}", "www", truncated),
+    Incident("expired beside a standby key", f"standby.{PARENT}", "www", standby_key),
+    Incident("island whose proof expired", f"island.{PARENT}", "www", island),
 )

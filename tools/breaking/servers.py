@@ -9,9 +9,9 @@ import threading
 from pathlib import Path
 from typing import Iterator, Sequence
 
-from .incidents import INCIDENTS, Zone
+from .incidents import INCIDENTS, Zone, over
 from .processes import running, wait_for_server
-from .zones import PARENT, PARENT_SERVER, RELAY, SERVER, Room, zone_text
+from .zones import PARENT, PARENT_SERVER, RELAY, SERVER, Keys, Room, exchanged, kind_of, zone_text
 
 RESOLVER, DNS, BEHIND_RELAY = "127.0.77.1", 53, 5377
 SMALL = 512  # octets of the largest datagram of the server behind the relay
@@ -101,10 +101,17 @@ def laid(room: Room) -> list[Zone]:
         label = zone.name.removesuffix(f".{PARENT}")
         delegations += [f"{label} NS ns.{label}", f"ns.{label} A {zone.server}", zone.ds.strip()]
     keys = room.new_keys(PARENT)
-    lines = room.signed(PARENT, zone_text(PARENT, PARENT_SERVER, *delegations), keys)
+    lines = parent_of(zones, room, zone_text(PARENT, PARENT_SERVER, *delegations), keys)
     room.write(f"{PARENT}.served", "\n".join(lines) + "\n")
     lay_anchors(room, room.ds(keys), room.dnskey(keys.keys))
     return zones
+
+
+def parent_of(zones: Sequence[Zone], room: Room, text: str, keys: Keys) -> list[str]:
+    """The parent's lines; where it has no DS of a zone, the signature of the record that says so is over."""
+    islands = {f"{zone.name}." for zone in zones if not zone.ds}
+    lines, former = room.signed(PARENT, text, keys), room.signed(PARENT, text, keys, *over())
+    return exchanged(lines, former, lambda line: line.split()[0] in islands and kind_of(line) == "RRSIG NSEC")
 
 
 def lay_anchors(room: Room, ds: str, dnskey: str) -> None:

@@ -75,6 +75,11 @@ def without(lines: list[str], is_left_out: Callable[[str], bool]) -> list[str]:
     return [line for line in lines if not is_left_out(line)]
 
 
+def exchanged(lines: list[str], others: list[str], is_of_others: Callable[[str], bool]) -> list[str]:
+    """The lines, with those of the others in place of these for which that holds."""
+    return without(lines, is_of_others) + [line for line in others if is_of_others(line)]
+
+
 def of_kinds(*kinds: str) -> Callable[[str], bool]:
     """Whether a record is of one of these types, or signs such."""
     wanted = {*kinds, *(f"RRSIG {kind}" for kind in kinds)}

@@ -45,8 +45,8 @@ class Lines(unittest.TestCase):
         value = {"a": [{"description": "of loopback", "code": "GLUE_PRIVATE_IP"}, {"x": {"description": "this", "code": "NO_SEP"}}]}
         self.assertEqual(list(others.descriptions(value)), ["this"])
 
-    def test_there_are_thirteen(self):
-        self.assertEqual((len({each.what for each in INCIDENTS}), len({each.zone for each in INCIDENTS})), (13, 13))
+    def test_there_are_fifteen(self):
+        self.assertEqual((len({each.what for each in INCIDENTS}), len({each.zone for each in INCIDENTS})), (15, 15))
         page = BREAKS.read_text()
         for each in INCIDENTS:
             self.assertEqual(page.count(f"\n| {each.what} | "), 1, each.what)
