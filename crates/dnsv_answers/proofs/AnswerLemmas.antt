@@ -1,0 +1,80 @@
+-- Files of answers, a line at a time.
+use Rattle.std.proofs.Common.{◌≡◌, ℕ, List, [], ◌∷◌, ◌++◌, Some, refl, sym, subst, inl, inr, append_assoc, append-nil}
+use Rattle.dnsv_names.specs.Lines.{NumberedLine}
+use Rattle.dnsv_verifier.specs.declared.answer.Answer.{Answer}
+use Rattle.dnsv_answers.specs.AnswerFile.{IsAnswerLine, IsFirstNoAnswer, IsNoAnswer, SayAnswers, answer_text}
+use Rattle.dnsv_answers.specs.declared.error.AnswersError.{AnswersError}
+use Rattle.dnsv_answers.specs.declared.error.AnswersError.TheVariants.{Syntax}
+use Rattle.dnsv_answers.specs.declared.said.SaidAnswer.{SaidAnswer}
+
+-- where the lines that are left say answers, so do all; and what these are refused for, all are
+pub record GoesOn (all left : List NumberedLine) : Type 0 where
+  pub say : (more : List SaidAnswer) → SayAnswers left more → (said : List SaidAnswer) × SayAnswers all said
+  pub refused : (fault : AnswersError) → IsFirstNoAnswer left fault → IsFirstNoAnswer all fault
+
+pub goes_from : (all : List NumberedLine) → GoesOn all all
+goes_from all = record { say = λ more say. (more, say); refused = λ fault there. there }
+
+pub goes_past : (all left rest : List NumberedLine) (line : NumberedLine) (answer : Answer) → left ≡ line ∷ rest → line.octets ≡ answer_text answer
+    → GoesOn all left → GoesOn all rest
+goes_past all left rest line answer next is so_far =
+    let here = subst (λ (lines : List NumberedLine). GoesOn all lines) next so_far in
+    record {
+      say = λ more say. here.say (record { line = line.number; answer = answer } ∷ more) (record { number = refl; word = is }, say);
+      refused = λ fault there. here.refused fault (inr ((answer, is), there));
+    }
+
+pub goes_to_end : (all left : List NumberedLine) → left ≡ [] → GoesOn all left → (said : List SaidAnswer) × SayAnswers all said
+goes_to_end all left none so_far = let here = subst (λ (lines : List NumberedLine). GoesOn all lines) none so_far in here.say [] tt
+
+pub refused_here : (all left rest : List NumberedLine) (line : NumberedLine) → left ≡ line ∷ rest → IsNoAnswer line → GoesOn all left
+    → IsFirstNoAnswer all (Syntax (Some line.number))
+refused_here all left rest line next none so_far =
+    let here = subst (λ (lines : List NumberedLine). GoesOn all lines) next so_far in
+    here.refused (Syntax (Some line.number)) (inl (none, refl))
+
+-- what was read so far, with what the lines that are left say, is what all say; and these say something
+pub record Reads (all left : List NumberedLine) (said : List SaidAnswer) : Type 0 where
+  pub more : List SaidAnswer
+  pub say : SayAnswers left more
+  pub gives : (more : List SaidAnswer) → SayAnswers left more → SayAnswers all (said ++ more)
+
+pub reads_from : (all : List NumberedLine) → (said : List SaidAnswer) × SayAnswers all said → Reads all all []
+reads_from all (said, say) = record { more = said; say = say; gives = λ more each. each }
+
+said_by : (line : NumberedLine) (rest : List NumberedLine) (more : List SaidAnswer) → SayAnswers (line ∷ rest) more
+    → (answer : Answer) × (line.octets ≡ answer_text answer)
+said_by line rest [] say = absurd say
+said_by line rest (each ∷ more) say = (each.answer, say.0.word)
+
+rest_of : (line : NumberedLine) (rest : List NumberedLine) (more : List SaidAnswer) → SayAnswers (line ∷ rest) more
+    → (others : List SaidAnswer) × SayAnswers rest others
+rest_of line rest [] say = absurd say
+rest_of line rest (each ∷ more) say = (more, say.1)
+
+-- the next line says an answer
+pub reads_one : (all left rest : List NumberedLine) (said : List SaidAnswer) (line : NumberedLine) → left ≡ line ∷ rest → Reads all left said
+    → IsNoAnswer line → ⊥
+reads_one all left rest said line next so_far none =
+    let here = subst (λ (lines : List NumberedLine). Reads all lines said) next so_far in
+    let (answer, is) = said_by line rest here.more here.say in
+    none answer is
+
+pub reads_past : (all left rest : List NumberedLine) (old new : List SaidAnswer) (line : NumberedLine) (each : SaidAnswer) → left ≡ line ∷ rest
+    → IsAnswerLine line each → new ≡ old ++ each ∷ [] → Reads all left old → Reads all rest new
+reads_past all left rest old new line each next is grown so_far =
+    let here = subst (λ (lines : List NumberedLine). Reads all lines old) next so_far in
+    let (others, say) = rest_of line rest here.more here.say in
+    record {
+      more = others;
+      say = say;
+      gives = λ more behind.
+          let whole : SayAnswers all ((old ++ each ∷ []) ++ more) =
+          subst (λ (said : List SaidAnswer). SayAnswers all said) (sym (append_assoc old (each ∷ []) more)) (here.gives (each ∷ more) (is, behind)) in
+          subst (λ (said : List SaidAnswer). SayAnswers all (said ++ more)) (sym grown) whole;
+    }
+
+pub reads_to_end : (all left : List NumberedLine) (said : List SaidAnswer) → left ≡ [] → Reads all left said → SayAnswers all said
+reads_to_end all left said none so_far =
+    let here = subst (λ (lines : List NumberedLine). Reads all lines said) none so_far in
+    subst (λ (each : List SaidAnswer). SayAnswers all each) (append-nil said) (here.gives [] tt)

@@ -1,0 +1,6 @@
+pub mod AnswerLaws
+pub mod AnswerLemmas
+pub mod DecimalLemmas
+pub mod HalvesLemmas
+pub mod HeadingLemmas
+pub mod ListedLemmas

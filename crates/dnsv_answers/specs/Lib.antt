@@ -1,0 +1,5 @@
+pub mod AnswerFile
+pub mod Answered
+pub mod AnswersError
+pub mod Heading
+pub mod Listed

@@ -1,0 +1,4 @@
+pub mod CompactList
+pub mod Named
+pub mod ReadBack
+pub mod Signed
