@@ -1,4 +1,5 @@
 pub mod Checking
+pub mod Compact
 pub mod Hex
 pub mod Json
 pub mod Listing
