@@ -15,7 +15,7 @@ pub mod request;
 
 use crate::command_line::commands::program;
 use crate::command_line::moment::Moment;
-use crate::command_line::request::{Asking, Request};
+use crate::command_line::request::{Asking, Known, Listing, Request};
 use clap::ArgMatches;
 use clap::error::ErrorKind;
 use dnsv_names::RecordType;
@@ -43,6 +43,12 @@ pub enum CommandLineError {
     /// The words ask for no question, or for one and for many.
     #[error("error: a question is --name and --type, and many are --questions\n")]
     Unclear,
+    /// The words name both files by which it is known what was checked.
+    #[error("error: what was checked is --statements or --answers\n")]
+    BothKnown,
+    /// The words ask for two lists.
+    #[error("error: a list is --all or --compact\n")]
+    BothListed,
 }
 
 impl CommandLineError {
@@ -53,8 +59,11 @@ impl CommandLineError {
         match self {
             CommandLineError::OutOfMemory => 1,
             CommandLineError::Help(_) => 0,
-            CommandLineError::NotText | CommandLineError::Misused(_) | CommandLineError::Unclear =>
-                2,
+            CommandLineError::NotText
+            | CommandLineError::Misused(_)
+            | CommandLineError::Unclear
+            | CommandLineError::BothKnown
+            | CommandLineError::BothListed => 2,
         }
     }
 }
@@ -94,11 +103,11 @@ impl From<clap::Error> for CommandLineError {
 /// Reads the words of the command line, of which the first is the program's name.
 ///
 /// Whatever `clap` takes for the commands `show --capture FILE`,
-/// `list --capture FILE --moment N [--statements FILE] [--all] [--json]` and
-/// `check --capture FILE --anchors FILE --moment N` with `[--statements FILE]`, `[--keys FILE]`, `[--macs FILE]`,
-/// `[--json]` and either `--name NAME --type N` or `--questions FILE`, and for `explain` with the words of `check`, is a
-/// request. Each error is one that `clap` gives there, or that neither or more than one of the two was given, or the want
-/// of memory.
+/// `list --capture FILE --moment N [--statements FILE] [--all | --compact] [--json]` and
+/// `check --capture FILE --anchors FILE --moment N` with `[--statements FILE | --answers FILE]`, `[--keys FILE]`,
+/// `[--macs FILE]`, `[--json]` and either `--name NAME --type N` or `--questions FILE`, and for `explain` with the words
+/// of `check`, is a request. Each error is one that `clap` gives there, or that neither or more than one of such two was
+/// given, or the want of memory.
 pub fn read_command_line<S: AsStr>(alloc: Global, words: &[S]) -> Result<Request, CommandLineError>
     ensures accepted { IfOk result (λ request. IsAccepted (map S.text words.now) request) }
     ensures refused { IfErr result (λ error. IsRefused (map S.text words.now) error) }
@@ -108,7 +117,7 @@ pub fn read_command_line<S: AsStr>(alloc: Global, words: &[S]) -> Result<Request
     if name == "show" {
         Ok(show_request(alloc, values)?)
     } else if name == "list" {
-        Ok(list_request(alloc, values)?)
+        list_request(alloc, values)
     } else {
         check_request(alloc, values, name == "explain")
     }
@@ -124,22 +133,33 @@ fn show_request(alloc: Global, show: &ArgMatches<'_>) -> Result<Request, AllocEr
 }
 
 /// The request of the matches of `list`.
-fn list_request(alloc: Global, list: &ArgMatches<'_>) -> Result<Request, AllocError>
+fn list_request(alloc: Global, list: &ArgMatches<'_>) -> Result<Request, CommandLineError>
     requires { HasListValues (rows_of (found_of list.now)) }
     ensures { IfOk result (Asks (codes "list") (rows_of (found_of list.now))) }
 {
+    let listing = listing_asked(list)?;
     let capture = value(alloc, list, "capture")?;
     let moment = Moment::new(number(list, "moment", Moment::LAST)).unwrap();
     let statements = given_value(alloc, list, "statements")?;
-    let all = flag(list, "all");
     let format = format_asked(list);
     Ok(Request::List {
         capture,
         moment,
         statements,
-        all,
+        listing,
         format,
     })
+}
+
+/// What the matches of `list` want listed.
+fn listing_asked(list: &ArgMatches<'_>) -> Result<Listing, CommandLineError>
+{
+    match (flag(list, "all"), flag(list, "compact")) {
+        (false, false) => Ok(Listing::Open),
+        (false, true) => Ok(Listing::Compact),
+        (true, false) => Ok(Listing::All),
+        (true, true) => Err(CommandLineError::BothListed),
+    }
 }
 
 /// The request of the matches of `check`, or of `explain`.
@@ -157,7 +177,7 @@ fn check_request(
     let capture = value(alloc, check, "capture")?;
     let anchors = value(alloc, check, "anchors")?;
     let moment = Moment::new(number(check, "moment", Moment::LAST)).unwrap();
-    let statements = given_value(alloc, check, "statements")?;
+    let known = known_of(alloc, check)?;
     let keys = given_value(alloc, check, "keys")?;
     let macs = given_value(alloc, check, "macs")?;
     let format = format_asked(check);
@@ -166,12 +186,24 @@ fn check_request(
         anchors,
         moment,
         asking,
-        statements,
+        known,
         keys,
         macs,
         format,
         why,
     })
+}
+
+/// What the matches of `check`, or of `explain`, say is known of signatures.
+fn known_of(alloc: Global, check: &ArgMatches<'_>) -> Result<Known, CommandLineError>
+{
+    let statements = given_value(alloc, check, "statements")?;
+    let answers = given_value(alloc, check, "answers")?;
+    match (statements, answers) {
+        (Some(_), Some(_)) => Err(CommandLineError::BothKnown),
+        (statements, None) => Ok(Known::Statements { statements }),
+        (None, Some(answers)) => Ok(Known::Answers { answers }),
+    }
 }
 
 /// What the matches of `check`, or of `explain`, ask for: a question, or each of a file.

@@ -2,6 +2,7 @@
 ghost use Rattle.std.specs.Prelude.{◌≡◌, ◌⊎◌, ◌≤◌, length};
 ghost use Rattle.dnsv_program.specs.Status.{status_code, fault_code, fault_number, file_word, refusal_number};
 
+use dnsv_answers::AnswersError;
 use dnsv_canonical::CaptureError;
 use dnsv_chain::AnchorsError;
 use dnsv_message::DecodeError;
@@ -72,6 +73,8 @@ pub enum InputFile {
     Macs,
     /// The file of questions.
     Questions,
+    /// The file of answers.
+    Answers,
 }
 
 impl InputFile {
@@ -87,6 +90,7 @@ impl InputFile {
             InputFile::Keys => "keys",
             InputFile::Macs => "macs",
             InputFile::Questions => "questions",
+            InputFile::Answers => "answers",
         }
     }
 }
@@ -121,6 +125,8 @@ pub enum Refusal {
     StatementLine(StatementsError),
     /// A line of the file of questions is at fault.
     QuestionLine(QuestionsError),
+    /// The file of answers is at fault, or has not the answers of this list.
+    AnswerLine(AnswersError),
 }
 
 impl Refusal {
@@ -142,6 +148,7 @@ impl Refusal {
             Refusal::AnchorLine(error) => error.code(),
             Refusal::StatementLine(error) => error.code(),
             Refusal::QuestionLine(error) => error.code(),
+            Refusal::AnswerLine(error) => error.code(),
         }
     }
 }

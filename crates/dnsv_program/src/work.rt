@@ -42,6 +42,8 @@ pub struct Inputs<R> {
     pub macs: Option<Counted<R>>,
     /// The questions, where many are asked.
     pub questions: Option<Counted<R>>,
+    /// The answers, where they are given in place of statements.
+    pub answers: Option<Counted<R>>,
 }
 
 /// How a run ends that makes its whole text.
@@ -182,11 +184,11 @@ fn outcome_of<R: Read>(
     match request {
         Request::Show { .. } => Ok(done(show(alloc, inputs, bump)?)),
         Request::List {
-            all,
+            listing,
             moment,
             format,
             ..
-        } => Ok(done(list(alloc, *all, *format, *moment, inputs, bump)?)),
+        } => Ok(done(list(alloc, *listing, *format, *moment, inputs, bump)?)),
         Request::Check {
             asking,
             moment,

@@ -1,7 +1,7 @@
 //! What the program is asked to do.
 ghost use Rattle.std.specs.Prelude.{◌≡◌};
 ghost use Rattle.std.specs.Option.{option_map};
-ghost use Rattle.dnsv_program.specs.CommandLine.Paths.{anchors_of, capture_of, keys_of, macs_of, questions_of, statements_of};
+ghost use Rattle.dnsv_program.specs.CommandLine.Paths.{anchors_of, answers_of, capture_of, keys_of, macs_of, questions_of, statements_of};
 
 use crate::command_line::moment::Moment;
 use dnsv_names::RecordType;
@@ -24,6 +24,32 @@ pub enum Asking {
     },
 }
 
+/// What a list has.
+#[derive(Clone, Copy, Debug, PartialEq, Eq)]
+pub enum Listing {
+    /// The signatures that a verifier still has to check.
+    Open,
+    /// The same, each octet once.
+    Compact,
+    /// The signed octets of each signature of each RRset. No statements are read then.
+    All,
+}
+
+/// What is known of signatures.
+#[derive(Debug, Drop)]
+pub enum Known {
+    /// What statements say, where they are given.
+    Statements {
+        /// The path of the file of statements.
+        statements: Option<String>,
+    },
+    /// What answers by number say.
+    Answers {
+        /// The path of the file of answers.
+        answers: String,
+    },
+}
+
 /// What the program is asked to do.
 #[derive(Debug, Drop)]
 pub enum Request {
@@ -39,8 +65,7 @@ pub enum Request {
         moment: Moment,
         /// The path of the file of statements.
         statements: Option<String>,
-        /// List the signed octets of each signature of each RRset. No statements are read then.
-        all: bool,
+        listing: Listing,
         /// How the text is written.
         format: Format,
     },
@@ -52,8 +77,7 @@ pub enum Request {
         anchors: String,
         moment: Moment,
         asking: Asking,
-        /// The path of the file of statements.
-        statements: Option<String>,
+        known: Known,
         /// The path of the file of keys, by which the messages were signed.
         keys: Option<String>,
         /// The path of the file of the MACs of requests. It is read where keys are.
@@ -94,13 +118,29 @@ impl Request {
         match self {
             Request::List {
                 statements: Some(path),
-                all: false,
+                listing: Listing::Open | Listing::Compact,
                 ..
             }
             | Request::Check {
-                statements: Some(path),
+                known:
+                    Known::Statements {
+                        statements: Some(path),
+                    },
                 ..
             } => Some(path.as_str()),
+            _ => None,
+        }
+    }
+
+    /// The path of the file of answers, where one is read.
+    pub fn answers(&self) -> Option<&str>
+        ensures { option_map (λ path. path.now) result ≡ answers_of self.now }
+    {
+        match self {
+            Request::Check {
+                known: Known::Answers { answers },
+                ..
+            } => Some(answers.as_str()),
             _ => None,
         }
     }

@@ -18,8 +18,8 @@ ghost use Rattle.dnsv_program.specs.declared.status.Status.{Status};
 use crate::command_line::moment::Moment;
 use crate::files::text::text_in;
 use crate::status::{Fault, InputFile, Status};
-use crate::work::given::{Given, given_in};
-use crate::work::judging::{Asked, Judging, Telling, outcome_by, verdict_fault};
+use crate::work::given::{Given, Said, given_in};
+use crate::work::judging::{Asked, Judging, Telling, open_numbers, outcome_by, table_of, verdict_fault};
 use crate::work::{Inputs, Outcome};
 use bumpalo::Bump;
 use dnsv_canonical::Rrset;
@@ -102,24 +102,32 @@ fn answer_all<W: Write>(
         (listed_answer given.now.statements)) (take count questions.now) end text
         × Appends (W.contents (inner_of output.old)) (W.contents (inner_of output.new)) text) }
 {
-    let mut judge = Judging::new(
-        alloc,
-        bump,
-        telling.why,
-        moment,
-        &given.held,
-        &given.anchors,
-        &given.statements,
-    )?;
-    tell_each(
-        alloc,
-        &mut judge,
-        telling,
-        moment,
-        given.held.rrsets(),
-        questions,
-        output,
-    )
+    let held = &given.held;
+    let anchors = &given.anchors;
+    match &given.said {
+        Said::Statements(statements) => {
+            let mut judge =
+                Judging::new(alloc, bump, telling.why, moment, held, anchors, statements)?;
+            let rrsets = held.rrsets();
+            tell_each(alloc, &mut judge, telling, moment, rrsets, None, questions, output)
+        }
+        Said::Answers(answers) => {
+            let table = table_of(alloc, bump, held, moment, answers)?;
+            let numbers = open_numbers(alloc, answers)?;
+            let mut judge =
+                Judging::by_answers(alloc, bump, telling.why, moment, held, anchors, table)?;
+            tell_each(
+                alloc,
+                &mut judge,
+                telling,
+                moment,
+                held.rrsets(),
+                Some(&numbers),
+                questions,
+                output,
+            )
+        }
+    }
 }
 
 /// What is told of each question is written, one behind the other.
@@ -129,6 +137,7 @@ fn tell_each<W: Write>(
     telling: Telling,
     moment: Moment,
     rrsets: &[Rrset<'_>],
+    numbers: Option<&[usize]>,
     questions: &[StoredQuestion],
     output: &mut Counted<W>,
 ) -> Result<Status, Fault>
@@ -151,7 +160,9 @@ fn tell_each<W: Write>(
 {
     let mut end = Status::Done;
     for question in questions {
-        let told = tell_one(alloc, judge, telling, moment, rrsets, question, output)?;
+        let told = tell_one(
+            alloc, judge, telling, moment, rrsets, numbers, question, output,
+        )?;
         end = end.worse(told);
     }
     Ok(end)
@@ -164,6 +175,7 @@ fn tell_one<W: Write>(
     telling: Telling,
     moment: Moment,
     rrsets: &[Rrset<'_>],
+    numbers: Option<&[usize]>,
     question: &StoredQuestion,
     output: &mut Counted<W>,
 ) -> Result<Status, Fault>
@@ -183,7 +195,7 @@ fn tell_one<W: Write>(
     ensures untouched { result ≡ Err Fault.OutOfMemory → output.new ≡ output.old }
     ensures same { judge.new ≡ judge.old }
 {
-    let outcome = answer(alloc, judge, telling, moment, rrsets, question)?;
+    let outcome = answer(alloc, judge, telling, moment, rrsets, numbers, question)?;
     match output.write_all(outcome.text.as_bytes()) {
         Ok(()) => Ok(outcome.status),
         Err(_) => Err(Fault::WriteFailed),
@@ -197,6 +209,7 @@ fn answer(
     telling: Telling,
     moment: Moment,
     rrsets: &[Rrset<'_>],
+    numbers: Option<&[usize]>,
     question: &StoredQuestion,
 ) -> Result<Outcome, AllocError>
     requires why { tells_why judge.now ≡ telling.why }
@@ -212,7 +225,15 @@ fn answer(
         moment,
     };
     match judge.report(alloc, &name, asked.rtype) {
-        Ok((report, told)) => outcome_by(alloc, telling.format, &asked, rrsets, &report, &told),
+        Ok((report, told)) => outcome_by(
+            alloc,
+            telling.format,
+            &asked,
+            rrsets,
+            &report,
+            &told,
+            numbers,
+        ),
         Err(error) => refused(alloc, telling, &asked, error),
     }
 }

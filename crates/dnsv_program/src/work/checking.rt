@@ -69,13 +69,5 @@ fn check_question<R: Read>(
     ensures unrefused { IfOk result (λ outcome. outcome.status ≡ Refused → ⊥) }
 {
     let given = given_in(alloc, asked.moment, inputs, bump)?;
-    judge(
-        alloc,
-        bump,
-        telling,
-        asked,
-        &given.held,
-        &given.anchors,
-        &given.statements,
-    )
+    judge(alloc, bump, telling, asked, &given)
 }

@@ -8,12 +8,14 @@ ghost use Rattle.dnsv_program.specs.Work.Checking.{AreGivenBy};
 
 use crate::command_line::moment::Moment;
 use crate::files::anchors::anchors_in;
-use crate::files::capture::evidence_in;
+use crate::files::answers::answers_fault;
+use crate::files::capture::framed_evidence_in;
 use crate::files::text::text_in;
 use crate::opening::opening_in;
 use crate::status::{Fault, InputFile};
 use crate::work::Inputs;
 use bumpalo::Bump;
+use dnsv_answers::{Answers, capture_digest};
 use dnsv_canonical::Capture;
 use dnsv_chain::Anchors;
 use dnsv_verifier::Statements;
@@ -25,13 +27,20 @@ use std::io::Read;
 pub struct Given<'b> {
     pub held: Capture<'b>,
     pub anchors: Anchors<'b>,
-    pub statements: Statements,
+    pub said: Said,
+}
+
+/// What is known of signatures: by statements, or by answers to the entries of the capture's list at the moment.
+#[derive(Drop)]
+pub enum Said {
+    Statements(Statements),
+    Answers(Answers),
 }
 
 /// What the files say that questions are judged by at the moment.
 ///
 /// The fault is the first in the order of the work: of the keys, the MACs of requests, the file of captured messages, the
-/// trust anchors, and then the statements.
+/// trust anchors, and then the statements or the answers, but for their number.
 pub fn given_in<'b, R: Read>(
     alloc: Global,
     moment: Moment,
@@ -47,12 +56,33 @@ pub fn given_in<'b, R: Read>(
     ensures unwritten { IfErr result (λ fault. fault ≡ Fault.WriteFailed → ⊥) }
 {
     let opening = opening_in(alloc, moment, &mut inputs.keys, &mut inputs.macs)?;
-    let held = evidence_in(alloc, &opening, &mut inputs.capture, bump)?;
+    let framed = framed_evidence_in(alloc, &opening, &mut inputs.capture, bump)?;
     let anchors = anchors_in(alloc, bump, &mut inputs.anchors)?;
-    let statements: Statements = text_in(alloc, InputFile::Statements, &mut inputs.statements)?;
+    let said = said_in(alloc, moment, &framed.frames, inputs)?;
     Ok(Given {
-        held,
+        held: framed.held,
         anchors,
-        statements,
+        said,
     })
+}
+
+/// What the file of answers says, where it is given, or else that of statements. Answers have to be those to the list of
+/// the capture with these messages at the moment.
+fn said_in<R: Read>(
+    alloc: Global,
+    moment: Moment,
+    frames: &[&[u8]],
+    inputs: &mut Inputs<R>,
+) -> Result<Said, Fault>
+{
+    if inputs.answers.is_none() {
+        let statements: Statements =
+            text_in(alloc, InputFile::Statements, &mut inputs.statements)?;
+        return Ok(Said::Statements(statements));
+    }
+    let answers: Answers = text_in(alloc, InputFile::Answers, &mut inputs.answers)?;
+    match answers.test_list(&capture_digest(frames), moment.seconds()) {
+        Ok(()) => Ok(Said::Answers(answers)),
+        Err(error) => Err(answers_fault(error)),
+    }
 }

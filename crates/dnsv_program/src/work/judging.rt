@@ -17,9 +17,12 @@ ghost use Rattle.dnsv_program.specs.Work.Judging.{case_of, tells_why};
 ghost use Rattle.dnsv_verdict.specs.Case.{IsCaseOf};
 
 use crate::command_line::moment::Moment;
+use crate::files::answers::answers_fault;
 use crate::status::{Fault, Place, Refusal, Status};
 use crate::work::Outcome;
+use crate::work::given::{Given, Said};
 use bumpalo::Bump;
+use dnsv_answers::{Answers, answered_table};
 use dnsv_canonical::{Capture, Rrset};
 use dnsv_chain::Anchors;
 use dnsv_explain::{Explainer, Explanation};
@@ -27,7 +30,7 @@ use dnsv_lines::Line;
 use dnsv_names::{Name, RecordType};
 use dnsv_texts::{Format, Heading, check_text};
 use dnsv_verdict::{Case, OpenCase, Report, Verdict, VerdictError};
-use dnsv_verifier::Verifier;
+use dnsv_verifier::{Answer, Table, Verifier};
 use std::alloc::{AllocError, Global};
 
 /// How a verdict is told.
@@ -57,6 +60,24 @@ pub enum Judging<'a> {
 }
 
 impl<'a> Judging<'a> {
+    /// The case at the moment, under what the answers of the table say.
+    pub fn by_answers(
+        alloc: Global,
+        bump: &'a Bump,
+        why: bool,
+        moment: Moment,
+        held: &'a Capture<'a>,
+        anchors: &'a Anchors<'a>,
+        table: Table<'a>,
+    ) -> Result<Judging<'a>, AllocError>
+    {
+        if why {
+            return Judging::new(alloc, bump, why, moment, held, anchors, &table);
+        }
+        let case = Case::of(alloc, held, anchors, table)?;
+        Ok(Judging::Plain(OpenCase::of(alloc, case)))
+    }
+
     /// The case at the moment, under what the verifier says, which is asked here and never again.
     pub fn new<V: Verifier>(
         alloc: Global,
@@ -114,14 +135,81 @@ impl<'a> Judging<'a> {
 /// asked for, why it stands: in lines, or in JSON.
 ///
 /// An alias that can't be followed is refused, without a place.
-pub fn judge<V: Verifier>(
+pub fn judge(
     alloc: Global,
     bump: &Bump,
     telling: Telling,
     asked: &Asked<'_>,
+    given: &Given<'_>,
+) -> Result<Outcome, Fault>
+{
+    let held = &given.held;
+    let anchors = &given.anchors;
+    match &given.said {
+        Said::Statements(statements) => {
+            let judge = Judging::new(
+                alloc,
+                bump,
+                telling.why,
+                asked.moment,
+                held,
+                anchors,
+                statements,
+            )?;
+            judge_by(alloc, telling, asked, held, judge, None)
+        }
+        Said::Answers(answers) => {
+            let table = table_of(alloc, bump, held, asked.moment, answers)?;
+            let numbers = open_numbers(alloc, answers)?;
+            let judge = Judging::by_answers(
+                alloc,
+                bump,
+                telling.why,
+                asked.moment,
+                held,
+                anchors,
+                table,
+            )?;
+            judge_by(alloc, telling, asked, held, judge, Some(&numbers))
+        }
+    }
+}
+
+/// The table of the entries with their answers; the fault is that these are not as many.
+pub fn table_of<'a>(
+    alloc: Global,
+    bump: &'a Bump,
+    held: &'a Capture<'a>,
+    moment: Moment,
+    answers: &Answers,
+) -> Result<Table<'a>, Fault>
+{
+    match answered_table(alloc, bump, held, moment.seconds(), answers) {
+        Ok(table) => Ok(table),
+        Err(error) => Err(answers_fault(error)),
+    }
+}
+
+/// The numbers of the entries that the answers leave open.
+pub fn open_numbers(alloc: Global, answers: &Answers) -> Result<Vec<usize>, AllocError>
+{
+    let mut numbers = Vec::new(alloc);
+    for (index, said) in answers.as_slice().iter().enumerate() {
+        if said.answer == Answer::Unknown {
+            numbers.push(index + 1)?;
+        }
+    }
+    Ok(numbers)
+}
+
+/// The verdict on the question by the case.
+fn judge_by(
+    alloc: Global,
+    telling: Telling,
+    asked: &Asked<'_>,
     held: &Capture<'_>,
-    anchors: &Anchors<'_>,
-    verifier: &V,
+    judge: Judging<'_>,
+    numbers: Option<&[usize]>,
 ) -> Result<Outcome, Fault>
     requires { IsQuestion asked.now.name.now asked.now.rtype.0 }
     ensures verdict { IfOk result (λ outcome. IsJudged telling.format telling.why
@@ -131,19 +219,19 @@ pub fn judge<V: Verifier>(
         × IsRefusedFor (basis_of held.now.rrsets anchors.now asked.now.moment (V.meaning verifier.now))
         asked.now.name.now asked.now.rtype.0 error × (told ≡ specs.verdict_fault error))) }
 {
-    let mut judge = Judging::new(
-        alloc,
-        bump,
-        telling.why,
-        asked.moment,
-        held,
-        anchors,
-        verifier,
-    )?;
+    let mut judge = judge;
     match judge.report(alloc, asked.name, asked.rtype) {
         Ok((report, told)) => {
             let format = telling.format;
-            Ok(outcome_by(alloc, format, asked, held.rrsets(), &report, &told)?)
+            Ok(outcome_by(
+                alloc,
+                format,
+                asked,
+                held.rrsets(),
+                &report,
+                &told,
+                numbers,
+            )?)
         }
         Err(error) => Err(verdict_fault(error)),
     }
@@ -157,6 +245,7 @@ pub fn outcome_by(
     rrsets: &[Rrset<'_>],
     report: &Report<'_>,
     why: &Option<Explanation>,
+    numbers: Option<&[usize]>,
 ) -> Result<Outcome, AllocError>
     ensures status { IfOk result (λ outcome. outcome.status ≡ specs.verdict_status report.now.verdict) }
     ensures text { IfOk result (λ outcome. string_bytes outcome.text ≡ texts.check_text format asked.now.name.now
@@ -170,7 +259,15 @@ pub fn outcome_by(
         moment: asked.moment.seconds(),
         status: status.code(),
     };
-    let text = check_text(alloc, format, &heading, rrsets, report, lines_of(why))?;
+    let text = check_text(
+        alloc,
+        format,
+        &heading,
+        rrsets,
+        report,
+        lines_of(why),
+        numbers,
+    )?;
     Ok(Outcome { status, text })
 }
 

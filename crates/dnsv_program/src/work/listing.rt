@@ -7,6 +7,7 @@ ghost use Rattle.dnsv_program.specs.Run.{IsFirstFaultOfList, IsListed, IsReached
 ghost use Rattle.dnsv_texts.specs.Todo as specs;
 
 use crate::command_line::moment::Moment;
+use crate::command_line::request::Listing;
 use crate::files::capture::evidence_in;
 use crate::files::text::text_in;
 use crate::opening::Opening;
@@ -14,8 +15,9 @@ use crate::status::{Fault, InputFile};
 use crate::work::Inputs;
 use bumpalo::Bump;
 use dnsv_canonical::Capture;
+use dnsv_compact::CompactList;
 use dnsv_names::Count;
-use dnsv_texts::{Format, listing_text, todo_text};
+use dnsv_texts::{Format, compact_text, listing_text, todo_text};
 use dnsv_verifier::{Statements, Verifier, ask_all};
 use std::alloc::{AllocError, Global};
 use std::io::Read;
@@ -23,7 +25,7 @@ use std::io::Read;
 /// What each signature signs, or what a verifier still has to check.
 pub fn list<R: Read>(
     alloc: Global,
-    all: bool,
+    listing: Listing,
     format: Format,
     moment: Moment,
     inputs: &mut Inputs<R>,
@@ -37,17 +39,18 @@ pub fn list<R: Read>(
     ensures unwritten { IfErr result (λ fault. fault ≡ Fault.WriteFailed → ⊥) }
 {
     let held = evidence_in(alloc, &Opening::Plain, &mut inputs.capture, bump)?;
-    if all {
+    if listing == Listing::All {
         return Ok(listing_text(alloc, format, moment.seconds(), &held)?);
     }
     let statements: Statements = text_in(alloc, InputFile::Statements, &mut inputs.statements)?;
-    Ok(still_to_check(alloc, bump, format, &held, moment, &statements)?)
+    Ok(still_to_check(alloc, bump, listing, format, &held, moment, &statements)?)
 }
 
 /// Each entry that the verifier knows nothing of, of those that it is asked about the evidence: in lines, or in JSON.
 fn still_to_check<V: Verifier>(
     alloc: Global,
     bump: &Bump,
+    listing: Listing,
     format: Format,
     held: &Capture<'_>,
     moment: Moment,
@@ -60,5 +63,11 @@ fn still_to_check<V: Verifier>(
     let mut asked = Count::new();
     let table = ask_all(alloc, bump, held, moment.seconds(), verifier, &mut asked)?;
     let unknown = table.unknown(alloc)?;
-    Ok(todo_text(alloc, format, moment.seconds(), &unknown)?)
+    if listing != Listing::Compact {
+        return todo_text(alloc, format, moment.seconds(), &unknown);
+    }
+    let moment = moment.seconds();
+    let rrsets = held.rrsets();
+    let list = CompactList::of(alloc, bump, moment, rrsets, &unknown)?;
+    compact_text(alloc, format, moment, rrsets, &list)
 }
