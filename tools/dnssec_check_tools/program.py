@@ -90,8 +90,9 @@ class Program:
             return Run(status, *texts, process.seconds)
 
     def listed(self, capture: int, moment: int, most: int) -> Listed:
-        """The lines that a verifier has to answer at the moment, of which so many octets are read."""
-        return Listed([self.path, LIST, *named({"capture": capture}), f"--moment={moment}"], capture, most)
+        """The compact list that a verifier has to answer at the moment, of which so many octets are read."""
+        words = [self.path, LIST, *named({"capture": capture}), f"--moment={moment}", "--compact"]
+        return Listed(words, capture, most)
 
     def told(
         self,

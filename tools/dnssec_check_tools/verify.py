@@ -5,6 +5,10 @@ standard output: `good ALG KEY DATA SIG` where SIG is a signature of DATA by KEY
 The lines come in the order of the files and of each file, and are a file of statements for `--statements`. A FILE `-`
 is the standard input.
 
+With --compact the lines are those of `dnssec_check list --compact` over the CAPTURE, for the --moment. Then the output
+is a file of answers for `--answers`: `of`, the SHA-256 of the capture and the moment, and for each entry a line `good`
+or `bad`, or `-` where it can't be answered here.
+
 ALG is a DNSSEC algorithm in decimal. KEY is the key field of a DNSKEY record, without flags, protocol and
 algorithm; DATA the signed octets; SIG the signature field of an RRSIG record: each in hex, `-` for no octets.
 
@@ -26,16 +30,26 @@ What is verified within --budget SECONDS of processor time is answered, the rest
 Curves need the package cryptography (Debian: python3-cryptography). Where that lacks an algorithm, the lines of this
 algorithm are left out, each with a note on the standard error.
 
-exit status: 0, every line was answered, also where some are bad; 1, lines were left out, and all others were written;
+exit status: 0, every line was answered, also where some are bad; 1, lines were left out, or answered by `-`, and all
+others were written;
 or a line was refused, which the standard error names, and nothing was written; or reading or writing failed; 2, the
 command line is wrong, or the standard output is a file that is read; 130, 143, 129, it was interrupted or ended by
 SIGTERM or SIGHUP, and nothing was written.
 """
-from typing import Iterator, List
+import argparse
+from typing import Iterator, List, Tuple
 from .command import parser_of, read, run, shown, tell, write
 from .outputs import overwritten
+from .verifying.compact import Compact, heading
 from .verifying.entries import Entry, Lacking, Refusal, entry_of
 from .verifying.verifier import Kept, Spent, Verifier, add_budget, digest_of
+
+
+def moment_of(text: str) -> int:
+    """Seconds since 1970, as the program takes them."""
+    if text.isascii() and text.isdigit() and int(text) < 1 << 48:
+        return int(text)
+    raise argparse.ArgumentTypeError(f"{text!r} is no moment in seconds since 1970, from 0 to 281474976710655")
 
 
 def entries_of(path: str, passes_over: bool) -> List[Entry]:
@@ -66,18 +80,51 @@ def statements_of(entries: List[Entry], verifier: Verifier) -> Iterator[str]:
         tell(f"left out {behind}{late[0]}")
 
 
+def answers_of(options: argparse.Namespace) -> Tuple[str, bool]:
+    """The file of answers to a compact list, and whether each entry has one."""
+    verifier, answers, late = Verifier(options.budget, Kept()), [], []
+    capture = read(options.compact)
+    lines = read(options.files[0]).decode("ascii", "replace").split("\n")
+    if lines[-1] == "":
+        lines.pop()
+    for parts in Compact().entries(lines):
+        place = f"{parts.place} of {shown(options.files[0])}"
+        try:
+            answers.append(verifier.answer_of(parts))
+        except Lacking as why:
+            answers.append("-")
+            tell(f"left open {place}: {why}")
+        except Spent as why:
+            answers.append("-")
+            late.append(f"{place}: {why}")
+    if late:
+        behind = f"{len(late) - 1} more and " if len(late) > 1 else ""
+        tell(f"left open {behind}{late[0]}")
+    return heading(capture, options.moment) + "".join(f"{each}\n" for each in answers), "-" not in answers
+
+
 def main(words: List[str]) -> int:
     parser = parser_of(__doc__)
     parser.add_argument(
         "files", nargs="*", default=["-"], metavar="FILE", help="the lines; the standard input by default"
     )
     parser.add_argument("--from-check", action="store_true", help="pass over lines whose first word isn't `todo`")
+    parser.add_argument("--compact", metavar="CAPTURE", help="answer the compact list of this capture")
+    parser.add_argument("--moment", type=moment_of, metavar="N", help="the moment that the compact list was made for")
     add_budget(parser, "of all lines")
     options = parser.parse_args(words)
-    clash = overwritten(["-"], options.files)
+    clash = overwritten(["-"], options.files + ([options.compact] if options.compact else []))
     if clash:
         parser.error(shown(clash))
+    if (options.compact is None) != (options.moment is None):
+        parser.error("--compact and --moment go together")
+    if options.compact is not None and (options.from_check or len(options.files) > 1):
+        parser.error("a compact list is one FILE, and no output of check")
     try:
+        if options.compact is not None:
+            answers, is_whole = answers_of(options)
+            write("-", answers.encode())
+            return 0 if is_whole else 1
         entries = [entry for path in options.files for entry in entries_of(path, options.from_check)]
         statements = list(statements_of(entries, Verifier(options.budget, Kept())))
         write("-", "".join(statements).encode())

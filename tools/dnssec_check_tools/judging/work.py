@@ -13,14 +13,14 @@ from ..explaining.replies import Reply
 from ..explaining.sentences import FAILING
 from ..odd.found import Oddities, Wish
 from ..odd.kinds import Odd
-from ..program import EXPLAIN, FAILED, ODD, SECURE, Json, Program, Told, Unlisted
-from ..started import content_of, nameless
+from ..program import EXPLAIN, FAILED, ODD, PENDING, SECURE, Json, Program, Told, Unlisted
+from ..started import nameless
 from ..verifying.verifier import Budget
 
+from .answers import ANSWERS, Answered, answers_on
 from .every import NOTHING, every_question, has_too_many
 from .evidence import Evidence, keys_of
 from .replies import replies_of
-from .statements import STATEMENTS, statements_on
 
 DENYING = {47: "NSEC", 50: "NSEC3"}
 Signers = Dict[Tuple[int, int], Tuple[str, int]]  # the signer and the key tag, by RRset and signature
@@ -78,7 +78,7 @@ class Prepared(NamedTuple):
 
     octets: bytes
     asked: List[Question]
-    statements: bytes
+    answers: Dict[int, Answered]
     notes: List[str]
 
 
@@ -92,12 +92,11 @@ def judged(
     with contextlib.ExitStack() as stack:
         files = opened(stack, octets, common)
         try:
-            statements, notes = statements_on(files["capture"], common.moments, common.budget, program, place)
+            verified = answers_on(octets, files["capture"], common.moments, common.budget, program)
         except Unlisted as fault:
             return without_verdicts(questions, common, of_fault(fault.said))
-        files[STATEMENTS] = stack.enter_context(statements).fileno()
-        rows = rows_of(view, asked or [NOTHING], files, common, program)
-    return Judged(joined(rows, questions is None, bool(asked)), notes)
+        rows = rows_of(view, asked or [NOTHING], files, verified.by_moment, common, program)
+    return Judged(joined(rows, questions is None, bool(asked)), verified.notes)
 
 
 def prepared(octets: bytes, asked: List[Question], common: Common, program: Program) -> Union[Prepared, Judged]:
@@ -105,19 +104,18 @@ def prepared(octets: bytes, asked: List[Question], common: Common, program: Prog
     with contextlib.ExitStack() as stack:
         files = opened(stack, octets, common)
         try:
-            statements, notes = statements_on(files["capture"], common.moments, common.budget, program)
+            verified = answers_on(octets, files["capture"], common.moments, common.budget, program)
         except Unlisted as fault:
             return without_verdicts(asked, common, of_fault(fault.said))
-        content = content_of(stack.enter_context(statements))
-    return Prepared(octets, asked, content, notes)
+    return Prepared(octets, asked, verified.by_moment, verified.notes)
 
 
 def share_rows(capture: Prepared, common: Common, program: Program) -> List[List[Row]]:
     """The rows of a capture that is prepared, of each moment."""
     with contextlib.ExitStack() as stack:
         files = opened(stack, capture.octets, common)
-        files[STATEMENTS] = stack.enter_context(nameless(capture.statements)).fileno()
-        rows = rows_of(View(capture.octets, common.is_page, common.wish), capture.asked, files, common, program)
+        view = View(capture.octets, common.is_page, common.wish)
+        rows = rows_of(view, capture.asked, files, capture.answers, common, program)
     return rows
 
 
@@ -129,16 +127,32 @@ def opened(stack: contextlib.ExitStack, octets: bytes, common: Common) -> Dict[s
 
 
 def rows_of(
-    view: "View", asked: List[Question], files: Dict[str, int], common: Common, program: Program
+    view: "View",
+    asked: List[Question],
+    files: Dict[str, int],
+    answers: Dict[int, Answered],
+    common: Common,
+    program: Program,
 ) -> List[List[Row]]:
     """The rows of each moment."""
     rows, left = [], Time(common.budget.questions)
     for moment in common.moments:
-        with nameless(common.anchors[moment]) as anchors:
-            given = {**files, "anchors": anchors.fileno()}
+        with contextlib.ExitStack() as stack:
+            given = {**files, "anchors": stack.enter_context(nameless(common.anchors[moment])).fileno()}
+            answered = answers.get(moment)
+            if answered:
+                given[ANSWERS] = stack.enter_context(nameless(answered.octets)).fileno()
             told = program.told(EXPLAIN, given, moment, asked, left, common.budget.octets)
-            rows.append([view.row(moment, question, each) for each, question in zip(told, asked)])
+            rows.append([view.row(moment, question, with_left(each, answered)) for each, question in zip(told, asked)])
     return rows
+
+
+def with_left(told: Told, answered: Optional[Answered]) -> Told:
+    """What is told of a question, with how many entries answers leave open where its verdict depends on them: it has
+    their numbers alone."""
+    if answered and told.value and told.status == PENDING:
+        told.value["todo"] = [None] * answered.left
+    return told
 
 
 def joined(by_moment: List[List[Row]], is_of_all: bool, is_asked: bool) -> List[Row]:

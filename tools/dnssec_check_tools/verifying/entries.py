@@ -65,9 +65,14 @@ def entry_of(line: str, place: str) -> Entry:
 
 def is_verified_good(entry: Entry) -> bool:
     """Whether the entry's signature is good; Lacking where it can't be told here."""
+    return is_good_here(entry.algorithm, *map(octets_of, entry.fields))
+
+
+def is_good_here(algorithm: int, key: bytes, data: bytes, signature: bytes) -> bool:
+    """Whether the signature is one of the data by the key; Lacking where it can't be told here."""
     try:
-        return is_good(entry.algorithm, *map(octets_of, entry.fields))
+        return is_good(algorithm, key, data, signature)
     except (ImportError, NotImplementedError) as fault:
-        raise Lacking(f"the package cryptography lacks algorithm {entry.algorithm}: {fault}") from fault
+        raise Lacking(f"the package cryptography lacks algorithm {algorithm}: {fault}") from fault
     except LongExponent as fault:
         raise Lacking(str(fault)) from fault

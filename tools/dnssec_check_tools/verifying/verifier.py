@@ -5,7 +5,8 @@ import threading
 import time
 from typing import Callable, Dict, NamedTuple, Optional
 
-from .entries import entry_of, is_verified_good
+from .compact import Parts
+from .entries import entry_of, is_good_here, is_verified_good
 
 SECONDS, OCTETS = 10, 64_000_000
 SECONDS_TO_ASK = 60
@@ -56,13 +57,21 @@ class Verifier:
     def statement_of(self, line: str, place: str, digest: bytes) -> str:
         """The statement that answers a line with this digest; Lacking where that can't be had here, and Spent behind
         the end."""
+        return self.word(digest, lambda: is_verified_good(entry_of(line, place))) + line[len("todo") :] + "\n"
+
+    def answer_of(self, parts: Parts) -> str:
+        """The answer to an entry of a compact list; Lacking and Spent likewise."""
+        return self.word(parts.digest, lambda: is_good_here(*parts[1:5]))
+
+    def word(self, digest: bytes, verifies: Callable[[], bool]) -> str:
+        """Whether a signature is good, by what is kept of its digest, or else verified."""
         is_good = self.kept.get(digest)
         if is_good is None:
             if self.clock() >= self.end:
                 raise Spent(f"the {self.seconds} seconds of the budget are over; --budget SECONDS gives more")
-            is_good = is_verified_good(entry_of(line, place))
+            is_good = verifies()
             self.kept.put(digest, is_good)
-        return ("good" if is_good else "bad") + line[len("todo") :] + "\n"
+        return "good" if is_good else "bad"
 
 
 def whole(text: str) -> int:
