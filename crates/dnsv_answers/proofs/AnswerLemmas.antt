@@ -1,11 +1,42 @@
 -- Files of answers, a line at a time.
-use Rattle.std.proofs.Common.{◌≡◌, ℕ, List, [], ◌∷◌, ◌++◌, Some, refl, sym, subst, inl, inr, append_assoc, append-nil}
-use Rattle.dnsv_names.specs.Lines.{NumberedLine}
+use Rattle.std.proofs.Common.{◌≡◌, ℕ, List, [], ◌∷◌, ◌++◌, Some, length, refl, sym, ap, ◌∙◌, arith, subst, inl, inr, append_assoc, append-nil}
+use Rattle.dnsv_names.specs.Lines.LineLaws.{HasLines-only}
+use Rattle.dnsv_names.specs.Lines.{HasLines, NumberedLine}
 use Rattle.dnsv_verifier.specs.declared.answer.Answer.{Answer}
-use Rattle.dnsv_answers.specs.AnswerFile.{IsAnswerLine, IsFirstNoAnswer, IsNoAnswer, SayAnswers, answer_text}
+use Rattle.dnsv_answers.specs.AnswerFile.{AreAnswersOf, IsAnswerLine, IsFirstNoAnswer, IsNoAnswer, SayAnswers, answer_text}
+use Rattle.dnsv_answers.specs.Heading.{IsHeading}
 use Rattle.dnsv_answers.specs.declared.error.AnswersError.{AnswersError}
 use Rattle.dnsv_answers.specs.declared.error.AnswersError.TheVariants.{Syntax}
+use Rattle.dnsv_answers.specs.declared.heading.Heading.{Heading}
 use Rattle.dnsv_answers.specs.declared.said.SaidAnswer.{SaidAnswer}
+
+-- ---- the first line
+
+pub has_first : (text : List ℕ) (all rest : List NumberedLine) (line : NumberedLine) → all ≡ line ∷ rest → HasLines text all → HasLines text (line ∷ rest)
+has_first text all rest line next has = subst (λ (lines : List NumberedLine). HasLines text lines) next has
+
+pub no_line : (text : List ℕ) (all others : List NumberedLine) (first : NumberedLine) → all ≡ [] → HasLines text all → HasLines text (first ∷ others) → ⊥
+no_line text all others first none has also =
+    let same : all ≡ first ∷ others = HasLines-only text all (first ∷ others) has also in
+    let clash : length (first ∷ others) ≡ 0 = ap (λ (lines : List NumberedLine). length lines) (sym same ∙ none) in
+    omega (arith, clash)
+
+-- what stands behind the first line, whichever reading finds it
+pub say_behind : (text : List ℕ) (first line : NumberedLine) (others rest : List NumberedLine) (said : List SaidAnswer) → HasLines text (first ∷ others)
+    → HasLines text (line ∷ rest) → SayAnswers others said → SayAnswers rest said
+say_behind text first line others rest said has also say =
+    let lines = HasLines-only text (first ∷ others) (line ∷ rest) has also in
+    let same : others ≡ rest = cc in
+    subst (λ (lines : List NumberedLine). SayAnswers lines said) same say
+
+pub read_so : (text : List ℕ) (line : NumberedLine) (rest : List NumberedLine) (heading : Heading) (number : ℕ) (said : List SaidAnswer)
+    → HasLines text (line ∷ rest) → IsHeading line.octets heading → number ≡ line.number
+    → (first : NumberedLine) × (others : List NumberedLine) × HasLines text (first ∷ others) × SayAnswers others said
+    → AreAnswersOf text (record { heading = heading; line = number; said = said })
+read_so text line rest heading number said has is same (first, others, also, say) =
+    record { first = line; others = rest; has = has; is_heading = is; number = same; each = say_behind text first line others rest said also has say }
+
+-- ---- the others
 
 -- where the lines that are left say answers, so do all; and what these are refused for, all are
 pub record GoesOn (all left : List NumberedLine) : Type 0 where

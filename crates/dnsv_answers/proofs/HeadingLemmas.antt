@@ -1,7 +1,8 @@
 -- The heading of a file of answers, as its fields are read.
-use Rattle.std.proofs.Common.{◌≡◌, ◌⊎◌, ◌<◌, ◌^◌, ℕ, List, [], ◌∷◌, Ok, codes, length, refl, sym, ap, subst, inl, inr, ◌∙◌, arith}
+use Rattle.std.proofs.Common.{◌≡◌, ◌⊎◌, ◌<◌, ◌≤◌, ◌^◌, ℕ, List, [], ◌∷◌, Ok, Option, Some, None, codes, length, refl, sym, ap, subst, inl, inr, ◌∙◌, arith}
 use Rattle.std.proofs.lemmas.Fmt.{decimal_injective}
 use Rattle.std.specs.Fmt.{decimal}
+use Rattle.std.specs.Option.{MatchOption}
 use Rattle.hex.specs.Hex.{decode_of}
 use Rattle.dnsv_names.specs.Lines.LineLaws.{AreFields-only}
 use Rattle.dnsv_names.specs.Lines.{AreFields}
@@ -129,3 +130,18 @@ same_said fields a b p q =
 pub one_heading : (line : List ℕ) (a b : Heading) → IsHeading line a → IsHeading line b → a ≡ b
 one_heading line a b (fields, are, p) (others, also, q) =
     same_said fields a b p (subst (λ (each : List (List ℕ)). SaysHeading each b) (AreFields-only line others fields also are) q)
+
+-- ---- what was found
+
+-- what the fields of a line say, the line says
+pub heading_told : (line : List ℕ) (fields : List (List ℕ)) (found : Option Heading) → AreFields line fields
+    → MatchOption found ((heading : Heading) → SaysHeading fields heading → ⊥) (SaysHeading fields)
+    → MatchOption found ((heading : Heading) → IsHeading line heading → ⊥) (IsHeading line)
+heading_told line fields None are says = no_heading line fields are says
+heading_told line fields (Some heading) are says = (fields, are, says)
+
+-- a number past the last moment is none
+pub past_last : (text : List ℕ) (number : ℕ) → text ≡ decimal number → number < 2 ^ 64 → 281474976710656 ≤ number → (moment : ℕ) → SaysMoment text moment → ⊥
+past_last text number is small past moment says =
+    let same : number ≡ moment = decimal_injective number moment small (omega (arith, says.fits)) (sym is ∙ says.is) in
+    omega (arith, past, same, says.fits)

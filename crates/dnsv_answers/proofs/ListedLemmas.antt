@@ -1,5 +1,6 @@
 -- Answers that are listed beside entries, and the tables that say the same.
 use Rattle.std.proofs.Common.{◌≡◌, ◌<◌, ℕ, List, [], ◌∷◌, length, get_or, map, refl, sym, ap, ◌∙◌, subst, arith, Option, Some, None, suc, zero, inl, inr}
+use Rattle.std.proofs.lemmas.List.Elements.{Contains-get_or}
 use Rattle.std.proofs.lemmas.List.{length-map}
 use Rattle.std.proofs.lemmas.Map.Keys.{IsDistinct-from_sorted}
 use Rattle.std.proofs.lemmas.Map.Views.{lookup-from_Contains, Contains-keys_from_lookup}
@@ -69,14 +70,13 @@ module _ (listed : ListedEntries) (are : AreListed listed) where
       ap (λ (found : Option Answer). unwrap_or found Unknown) (lookup-from_Contains same_entry_equiv entry answer Beside distinct there)
 
   -- the answer at an entry's place
-  pub says_at : (entry : Entry) (place : ℕ) (each : SaidAnswer) → place < length listed.entries → get_or listed.entries place entry ≡ entry
-      → get_or listed.said place each ≡ each → listed_answer listed entry ≡ each.answer
-  says_at entry place each within here said =
-      says_what_it_lists entry each.answer (
-        place,
-        omega (arith, within, zip_size listed.entries listed.said are.each),
-        zip_at listed.entries listed.said place entry each within are.each ∙ (λ i. (here i, (said i).answer)),
-      )
+  pub says_at : (entry : Entry) (place : ℕ) (d : SaidAnswer) → place < length listed.entries → get_or listed.entries place entry ≡ entry
+      → (get_or listed.said place d).answer ≡ listed_answer listed entry
+  says_at entry place d within here =
+      let there = zip_at listed.entries listed.said place entry d within are.each ∙ (λ i. (here i, (get_or listed.said place d).answer)) in
+      sym (says_what_it_lists entry (get_or listed.said place d).answer
+      (subst (λ (each : Entry × Answer). Contains Beside each) there
+      (Contains-get_or Beside place (entry, d.answer) (omega (arith, within, zip_size listed.entries listed.said are.each)))))
 
   none_of : (found : Option Answer) → (IsSome found → ⊥) → found ≡ None
   none_of None none = refl

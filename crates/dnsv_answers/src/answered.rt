@@ -57,7 +57,8 @@ fn table_by<'b>(
     ensures { IfOk result (IsAnsweredTable moment capture.now.rrsets (answers_of said.now)) }
 {
     if are_all(said, Answer::Valid) {
-        return asked.hopeful(alloc);
+        let table = asked.hopeful(alloc)?;
+        return Ok(table);
     }
     if are_all(said, Answer::Unknown) {
         return Ok(asked);
@@ -67,7 +68,8 @@ fn table_by<'b>(
         entries: &entries,
         said,
     };
-    ask(alloc, bump, capture, moment, &listed)
+    let table = ask(alloc, bump, capture, moment, &listed)?;
+    Ok(table)
 }
 
 /// What the verifier says of the capture's entries at the moment.

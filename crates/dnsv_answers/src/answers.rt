@@ -136,8 +136,11 @@ fn answers_behind(alloc: Global, text: &[u8]) -> Result<Vec<SaidAnswer>, AllocEr
         × HasLines text.now (first ∷ others) × SayAnswers others said.items) }
 {
     let mut lines = Lines::new(text);
-    let _heading = lines.next();
-    answers_in(alloc, lines)
+    let Some(_heading) = lines.next() else {
+        unreachable!();
+    };
+    let said = answers_in(alloc, lines)?;
+    Ok(said)
 }
 
 /// The answers that these lines say.

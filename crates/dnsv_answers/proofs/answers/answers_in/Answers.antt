@@ -1,14 +1,18 @@
+use Rattle.std.proofs.Common.{refl, subst}
+use Rattle.dnsv_names.specs.Lines.{NumberedLine}
+use Rattle.std.proofs.Common.{List}
+use Rattle.dnsv_answers.specs.AnswerFile.{SayAnswers}
 use Rattle.dnsv_answers.proofs.AnswerLemmas.{reads_from, reads_one, reads_past, reads_to_end}
 use Rattle.dnsv_answers.proofs.answers.answers_in.Goals as goal
 
 pub loop-line-init : goal.loop-line-init
-loop-line-init c = ?
+loop-line-init c =
+    rw (c.new-said.ensures.items, c.into_iter-line-iterator.ensures.into_iter_gives) (reads_from c.args.lines c.requires)
 
 pub loop-line-preserved : goal.loop-line-preserved
-loop-line-preserved c = ?
-
-pub loop-line-preserved-in_ok-push : goal.loop-line-preserved-in_ok-push
-loop-line-preserved-in_ok-push c = ?
+loop-line-preserved c = absurd (reads_one _ _ _ c.loop-line.said.items c.in-Some.line c.in-Some.ensures.steps c.loop-line.invariant c.in_default.ensures)
 
 pub returns : goal.returns
-returns c = reads_to_end _ _ c.loop-line.said.items c.in-None.ensures.steps.0 c.loop-line.invariant
+returns c =
+    subst (λ (lines : List NumberedLine). SayAnswers lines c.loop-line.said.items) c.into_iter-line-iterator.ensures.into_iter_gives
+    (reads_to_end _ _ c.loop-line.said.items c.in-None.ensures.steps.0 c.loop-line.invariant)

@@ -1,3 +1,8 @@
+use Rattle.std.proofs.Common.{List, Some, subst}
+use Rattle.dnsv_names.specs.Lines.{NumberedLine}
+use Rattle.dnsv_answers.specs.AnswerFile.{IsFirstNoAnswer, SayAnswers}
+use Rattle.dnsv_answers.specs.declared.error.AnswersError.TheVariants.{Syntax}
+use Rattle.dnsv_answers.specs.declared.said.SaidAnswer.{SaidAnswer}
 use Rattle.dnsv_answers.proofs.AnswerLemmas.{goes_from, goes_past, goes_to_end, refused_here}
 use Rattle.dnsv_answers.proofs.answers.test_answers.Goals as goal
 
@@ -10,7 +15,10 @@ loop-line-preserved c =
 
 pub returns-in_default-clause-fault : goal.returns-in_default-clause-fault
 returns-in_default-clause-fault c =
-    refused_here _ _ _ c.in-Some.line c.in-Some.ensures.steps c.in_default.ensures c.loop-line.invariant
+    rw (c.number.ensures, ← c.into_iter-line-iterator.ensures.into_iter_gives)
+    (refused_here _ _ _ c.in-Some.line c.in-Some.ensures.steps c.in_default.ensures c.loop-line.invariant)
 
 pub returns-clause-said : goal.returns-clause-said
-returns-clause-said c = goes_to_end _ _ c.in-None.ensures.steps.0 c.loop-line.invariant
+returns-clause-said c =
+    subst (λ (lines : List NumberedLine). (said : List SaidAnswer) × SayAnswers lines said) c.into_iter-line-iterator.ensures.into_iter_gives
+    (goes_to_end _ _ c.in-None.ensures.steps.0 c.loop-line.invariant)
