@@ -49,7 +49,7 @@ def at_worker(octets: bytes, questions: Questions, common: Common) -> Answer:
     if path is None:
         return Failure(f"{NAME} isn't on the path of a worker")
     task = Task(0, "-", octets, None, questions)
-    return answer(common, Program(path), task, library().get_worker().local_directory)
+    return answer(common, Program(path), task)
 
 
 def send_modules(client: Any) -> None:

@@ -82,11 +82,8 @@ class Prepared(NamedTuple):
     notes: List[str]
 
 
-def judged(
-    octets: bytes, questions: Questions, common: Common, program: Program, place: Optional[str] = None
-) -> Judged:
-    """The verdicts on the questions, by moment. What is too long to be kept in memory is at the place for a time, where
-    one is told. Keys of TSIG never are."""
+def judged(octets: bytes, questions: Questions, common: Common, program: Program) -> Judged:
+    """The verdicts on the questions, by moment."""
     view = View(octets, common.is_page, common.wish)
     asked = view.every_question() if questions is None else questions
     with contextlib.ExitStack() as stack:
@@ -151,7 +148,7 @@ def with_left(told: Told, answered: Optional[Answered]) -> Told:
     """What is told of a question, with how many entries answers leave open where its verdict depends on them: it has
     their numbers alone."""
     if answered and told.value and told.status == PENDING:
-        told.value["todo"] = [None] * answered.left
+        told.value.setdefault("todo", [None] * answered.left)
     return told
 
 
