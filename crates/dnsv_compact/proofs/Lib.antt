@@ -1,0 +1,5 @@
+pub mod KeyLemmas
+pub mod NamedLemmas
+pub mod NumberedLemmas
+pub mod PlaceLemmas
+pub mod SignedLemmas

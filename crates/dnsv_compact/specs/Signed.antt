@@ -1,7 +1,9 @@
 -- The signatures of a capture that can be verified, as they are looked up. No public clause cites this module.
-use Rattle.std.specs.Prelude.{◌≡◌, ◌<◌, ℕ, suc, List, [], Contains, Some, slice_get}
-use Rattle.std.specs.Ordering.{nat_cmp, ordering_then}
+use Rattle.std.specs.Prelude.{◌≡◌, ◌↔◌, ◌<◌, ◌+◌, ℕ, false, List, Contains, Some, slice_get}
+use Rattle.std.specs.List.Sorted.{IsSorted}
+use Rattle.std.specs.Ordering.{is_gt, nat_cmp, ordering_then}
 use Rattle.std.specs.declared.cmp.Ordering.{Ordering}
+use Rattle.std.specs.declared.cmp.Ordering.TheVariants.{Equal}
 use Rattle.dnsv_names.specs.Octets.{octets_cmp}
 use Rattle.dnsv_records.specs.Rrsig.{IsRrsig}
 use Rattle.dnsv_records.specs.declared.rrsig.Rrsig.{Rrsig}
@@ -18,17 +20,16 @@ part_cmp signed entry = ordering_then (octets_cmp signed.octets entry.signed_dat
 -- by what is signed, the signature, and then the numbers
 abbrev pub signed_cmp : Signed → Signed → Ordering
 signed_cmp a b =
-    ordering_then
-    (ordering_then (ordering_then (octets_cmp a.octets b.octets) (octets_cmp a.made b.made)) (nat_cmp a.rrset b.rrset))
-    (nat_cmp a.signature b.signature)
+    ordering_then (octets_cmp a.octets b.octets)
+    (ordering_then (octets_cmp a.made b.made) (ordering_then (nat_cmp a.rrset b.rrset) (nat_cmp a.signature b.signature)))
 
 -- what is kept of a signature that can be verified
 pub record IsSignedBy (moment number : ℕ) (received : ReceivedRrset) (signature : ℕ) (rrsig : Rrsig) (signed : Signed) : Type 0 where
   pub verifiable : IsVerifiable moment received rrsig
   pub signs : IsSignedData received.owner received.rtype received.rdata rrsig (Some signed.octets)
   pub made : signed.made ≡ rrsig.signature
-  pub rrset : signed.rrset ≡ number
-  pub number : signed.signature ≡ signature
+  pub of_rrset : signed.rrset ≡ number
+  pub of_signature : signed.signature ≡ signature
 
 -- it is that of one of the signatures of the RRset with the number
 pub record IsSignedAmong (moment number : ℕ) (received : ReceivedRrset) (signed : Signed) : Type 0 where
@@ -46,6 +47,16 @@ pub record IsSignedIn (moment : ℕ) (rrsets : List ReceivedRrset) (signed : Sig
   pub numbered : IsNumbered rrsets number received
   pub is : IsSignedAmong moment number received signed
 
+-- the entry asks about one of them
+abbrev pub IsGiven : List Signed → Entry → Type 0
+IsGiven all entry = (each : Signed) × Contains all each × (part_cmp each entry ≡ Equal)
+
+-- it is one that the entry asks about, and the other, which the entry asks about too, doesn't come before it
+pub record IsFirstSigned (all : List Signed) (entry : Entry) (found other : Signed) : Type 0 where
+  pub among : Contains all found
+  pub asked : part_cmp found entry ≡ Equal
+  pub order : is_gt (signed_cmp found other) ≡ false
+
 -- ---- how they are gathered
 
 -- it comes of one of the first n elements, by its number
@@ -54,13 +65,9 @@ pub record ComesOfFirst {Y X : Type 0} (P : ℕ → Y → X → Type 0) (ys : Li
   pub source : Y
   pub before : place < n
   pub at : slice_get ys place ≡ Some source
-  pub is : P (suc place) source x
+  pub is : P (place + 1) source x
 
--- it is that of the signature with the number, which says this
-abbrev pub IsSignedOf : ℕ → ℕ → ReceivedRrset → ℕ → Rrsig → Signed → Type 0
-IsSignedOf moment number received signature rrsig signed = IsSignedBy moment number received signature rrsig signed
-
--- these are all
+-- these are all, by what is signed, the signature and the numbers
 pub record AreSignedIn (moment : ℕ) (rrsets : List ReceivedRrset) (signed : List Signed) : Type 0 where
   pub members : (each : Signed) → Contains signed each ↔ IsSignedIn moment rrsets each
-  pub sorted : IsSortedBy (λ a b. is_gt (signed_cmp a b)) signed
+  pub sorted : IsSorted signed_cmp signed

@@ -1,5 +1,6 @@
 //! The keys of entries.
 ghost use Rattle.std.specs.Prelude.{◌≡◌, ◌↔◌, ◌<◌, Contains, IfOk, MatchOption, length, map};
+ghost use Rattle.std.specs.List.Sorted.{IsStrictlySortedBy};
 ghost use Rattle.dnsv_compact.specs.CompactList.{AreKeysOf, key_cmp, key_of_entry};
 ghost use Rattle.dnsv_compact.specs.declared.key.ListedKey.{ListedKey};
 ghost use Rattle.dnsv_canonical.specs.Rrsets.{IsNumbered};
@@ -23,11 +24,11 @@ impl ListedKey<'_> {
     fn compared(&self, entry: &Entry<'_>) -> Ordering
         ensures { result ≡ key_cmp self.now (key_of_entry entry.now) }
     {
-        let own = self.key.as_slice();
+        let (own, other) = (self.key.as_slice(), entry.key.as_slice());
         self.algorithm
             .0
             .cmp(&entry.algorithm.0)
-            .then_with(|| compare_octets(own, entry.key.as_slice()))
+            .then_with(|| compare_octets(own, other))
     }
 }
 
@@ -53,14 +54,14 @@ fn all_keys<'e>(
 {
     let mut keys = Vec::with_capacity(alloc, entries.len())?;
     for place in 0..entries.len() {
-        keys.push(key_of(entries.at(place)))?;
+        keys.push(key_of(&entries.at(place)))?;
     }
     Ok(keys)
 }
 
 /// The key of an entry.
-fn key_of<'e>(entry: Entry<'e>) -> ListedKey<'e>
-    ensures { result ≡ key_of_entry entry }
+fn key_of<'e>(entry: &Entry<'e>) -> ListedKey<'e>
+    ensures { result ≡ key_of_entry entry.now }
 {
     ListedKey {
         algorithm: entry.algorithm,
@@ -70,7 +71,8 @@ fn key_of<'e>(entry: Entry<'e>) -> ListedKey<'e>
 
 /// The number of the entry's key, which is one of them.
 pub(crate) fn number_of(keys: &[ListedKey<'_>], entry: &Entry<'_>) -> usize
-    requires { Contains keys.now (key_of_entry entry.now) }
+    requires rising { IsStrictlySortedBy key_cmp keys.now }
+    requires among { Contains keys.now (key_of_entry entry.now) }
     ensures { IsNumbered keys.now result (key_of_entry entry.now) }
 {
     let Ok(place) = keys.binary_search_by(|key| key.compared(entry)) else {

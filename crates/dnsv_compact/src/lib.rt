@@ -4,7 +4,7 @@
 //! are put together again.
 #![tactic(auto)]
 
-pub use front::push_front;
+pub use front::front_of;
 pub use key::ListedKey;
 pub use list::CompactList;
 pub use place::Place;

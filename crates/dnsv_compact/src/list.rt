@@ -1,16 +1,19 @@
 //! The compact list of a capture.
-ghost use Rattle.std.specs.Prelude.{◌≡◌, Contains, IfOk};
-ghost use Rattle.dnsv_compact.specs.CompactList.{AreInPlaces, ArePlacesOf, AreKeysOf, names_rrset, names_signature};
+ghost use Rattle.std.specs.Prelude.{◌≡◌, ℕ, Contains, IfOk, List};
+ghost use Rattle.std.specs.List.Sorted.{IsSorted, IsStrictlySortedBy};
+ghost use Rattle.dnsv_canonical.specs.Rrsets.{ReceivedRrset};
+ghost use Rattle.dnsv_compact.specs.CompactList.{AreInPlaces, AreKeysOf, ArePlacesOf, IsPlaceOf, key_cmp, key_of_entry, names_rrset, names_signature};
+ghost use Rattle.dnsv_compact.specs.Signed.{AreSignedIn, IsGiven, signed_cmp};
 ghost use Rattle.dnsv_verifier.specs.Admissible.{IsAsked};
 ghost use Rattle.dnsv_verifier.specs.declared.entry.Entry.{Entry};
 
 use crate::key::{ListedKey, keys_of, number_of};
-use crate::named::{Named, has_rrset, has_signature, named_by};
+use crate::named::{Named, has_rrset, has_signature, named_by, rrsets_of};
 use crate::place::Place;
 use crate::signed::{Signed, all_signed, first_of};
 use bumpalo::Bump;
 use dnsv_canonical::Rrset;
-use dnsv_verifier::Entries;
+use dnsv_verifier::{Entries, Entry};
 use std::alloc::{AllocError, Global};
 use std::marker::Model;
 
@@ -22,11 +25,13 @@ pub struct CompactList<'e> {
     places: Vec<Place>,
     /// The signatures that they name.
     named: Vec<Named>,
+    /// The RRsets of these.
+    rrsets: Vec<usize>,
 }
 
 impl<'e> Model for CompactList<'e> {
     ghost use Rattle.dnsv_compact.specs.CompactList.{EntryPlaces};
-    ghost use Rattle.dnsv_compact.specs.Named.{AreNamedBy};
+    ghost use Rattle.dnsv_compact.specs.Named.{AreNamedBy, AreRrsetsOf};
 
     ghost Value = { EntryPlaces };
 
@@ -35,7 +40,8 @@ impl<'e> Model for CompactList<'e> {
       todo = list.places.items;
     } };
 
-    ghost invariant = { λ list. AreNamedBy list.places.items list.named.items };
+    ghost invariant = { λ list. AreNamedBy list.places.items list.named.items
+        × AreRrsetsOf list.places.items list.rrsets.items };
 }
 
 impl<'e> CompactList<'e> {
@@ -54,10 +60,12 @@ impl<'e> CompactList<'e> {
         let signed = all_signed(alloc, bump, moment, rrsets)?;
         let places = places_of(alloc, &keys, &signed, entries)?;
         let named = named_by(alloc, &places)?;
+        let rrsets_named = rrsets_of(alloc, &places)?;
         Ok(CompactList {
             keys,
             places,
             named,
+            rrsets: rrsets_named,
         })
     }
 
@@ -79,7 +87,7 @@ impl<'e> CompactList<'e> {
     pub fn names_rrset(&self, rrset: usize) -> bool
         ensures { result ≡ names_rrset self.now.todo rrset }
     {
-        has_rrset(&self.named, rrset)
+        has_rrset(&self.rrsets, rrset)
     }
 
     /// Whether a place is the signature with the number, of the RRset with the number.
@@ -97,18 +105,34 @@ fn places_of(
     signed: &[Signed<'_>],
     entries: &Entries<'_>,
 ) -> Result<Vec<Place>, AllocError>
+    requires keys { AreKeysOf entries.now keys.now }
+    requires sorted { IsSorted signed_cmp signed.now }
+    requires given { (entry : Entry) → Contains entries.now entry → IsGiven signed.now entry }
+    ensures { (moment : ℕ) (rrsets : List ReceivedRrset) → AreSignedIn moment rrsets signed.now
+        → IfOk result (λ places. AreInPlaces moment rrsets keys.now entries.now places.items) }
 {
     let mut places = Vec::with_capacity(alloc, entries.len())?;
     for place in 0..entries.len() {
-        let entry = entries.at(place);
-        let Some(found) = first_of(signed, &entry) else {
-            unreachable!();
-        };
-        places.push(Place {
-            key: number_of(keys, &entry),
-            rrset: found.rrset,
-            signature: found.signature,
-        })?;
+        places.push(place_of(keys, signed, &entries.at(place)))?;
     }
     Ok(places)
+}
+
+/// The place of the entry.
+fn place_of(keys: &[ListedKey<'_>], signed: &[Signed<'_>], entry: &Entry<'_>) -> Place
+    requires rising { IsStrictlySortedBy key_cmp keys.now }
+    requires among { Contains keys.now (key_of_entry entry.now) }
+    requires sorted { IsSorted signed_cmp signed.now }
+    requires given { IsGiven signed.now entry.now }
+    ensures { (moment : ℕ) (rrsets : List ReceivedRrset) → AreSignedIn moment rrsets signed.now
+        → IsPlaceOf moment rrsets keys.now entry.now result }
+{
+    let Some(found) = first_of(signed, entry) else {
+        unreachable!();
+    };
+    Place {
+        key: number_of(keys, entry),
+        rrset: found.rrset,
+        signature: found.signature,
+    }
 }

@@ -1,8 +1,7 @@
 //! Which signatures places name.
 ghost use Rattle.std.specs.Prelude.{◌≡◌, IfOk, List, map};
 ghost use Rattle.dnsv_compact.specs.CompactList.{names_rrset, names_signature};
-ghost use Rattle.dnsv_compact.specs.Named.{AreNamedBy};
-ghost use Rattle.dnsv_compact.specs.declared.named.Named.{Named};
+ghost use Rattle.dnsv_compact.specs.Named.{AreNamedBy, AreRrsetsOf, named_at};
 ghost use Rattle.dnsv_compact.specs.declared.place.Place.{Place};
 
 use crate::place::Place;
@@ -27,8 +26,7 @@ pub(crate) fn named_by(alloc: Global, places: &[Place]) -> Result<Vec<Named>, Al
 
 /// What each place names.
 fn all_named(alloc: Global, places: &[Place]) -> Result<Vec<Named>, AllocError>
-    ensures { IfOk result (λ named. named.items
-        ≡ map (λ place. record { rrset = place.rrset; signature = place.signature }) places.now) }
+    ensures { IfOk result (λ named. named.items ≡ map named_at places.now) }
 {
     let mut named = Vec::with_capacity(alloc, places.len())?;
     for place in places {
@@ -40,20 +38,43 @@ fn all_named(alloc: Global, places: &[Place]) -> Result<Vec<Named>, AllocError>
     Ok(named)
 }
 
+/// The RRsets that the places are in, each once, rising.
+pub(crate) fn rrsets_of(alloc: Global, places: &[Place]) -> Result<Vec<usize>, AllocError>
+    ensures { IfOk result (λ rrsets. AreRrsetsOf places.now rrsets.items) }
+{
+    let mut rrsets = all_rrsets(alloc, places)?;
+    rrsets.sort_unstable();
+    rrsets.dedup();
+    Ok(rrsets)
+}
+
+/// The RRset of each place.
+fn all_rrsets(alloc: Global, places: &[Place]) -> Result<Vec<usize>, AllocError>
+    ensures { IfOk result (λ rrsets. rrsets.items ≡ map (λ place. place.rrset) places.now) }
+{
+    let mut rrsets = Vec::with_capacity(alloc, places.len())?;
+    for place in places {
+        rrsets.push(place.rrset)?;
+    }
+    Ok(rrsets)
+}
+
 /// Whether the signature is one of them.
 pub(crate) fn has_signature(named: &[Named], rrset: usize, signature: usize) -> bool
     ensures { (places : List Place) → AreNamedBy places named.now → result ≡ names_signature places rrset signature }
 {
-    named.binary_search(&Named { rrset, signature }).is_ok()
+    match named.binary_search(&Named { rrset, signature }) {
+        Ok(_place) => true,
+        Err(_place) => false,
+    }
 }
 
-/// Whether one of them is of the RRset.
-pub(crate) fn has_rrset(named: &[Named], rrset: usize) -> bool
-    ensures { (places : List Place) → AreNamedBy places named.now → result ≡ names_rrset places rrset }
+/// Whether the RRset is one of them.
+pub(crate) fn has_rrset(rrsets: &[usize], rrset: usize) -> bool
+    ensures { (places : List Place) → AreRrsetsOf places rrsets.now → result ≡ names_rrset places rrset }
 {
-    let start = named.partition_point(|each| each.rrset < rrset);
-    match named.get(start) {
-        Some(each) => each.rrset == rrset,
-        None => false,
+    match rrsets.binary_search(&rrset) {
+        Ok(_place) => true,
+        Err(_place) => false,
     }
 }

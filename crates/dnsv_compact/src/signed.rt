@@ -1,5 +1,11 @@
 //! The signatures of a capture that can be verified, by what they sign.
-ghost use Rattle.std.specs.Prelude.{◌≡◌, ◌↔◌, ◌<◌, [], Contains, IfOk, OnOk, length};
+ghost use Rattle.std.specs.Prelude.{◌≡◌, ◌↔◌, ℕ, Contains, IfOk, List, OnOk, MatchOption};
+ghost use Rattle.std.specs.List.Sorted.{IsSorted};
+ghost use Rattle.std.specs.declared.cmp.Ordering.TheVariants.{Equal};
+ghost use Rattle.dnsv_canonical.specs.SignedData.{IsSignedData};
+ghost use Rattle.dnsv_verifier.specs.Asking.{AddsJust};
+ghost use Rattle.dnsv_compact.specs.Signed.{AreSignedIn, IsSignedAmong, IsSignedBy, IsSignedIn, IsFirstSigned, part_cmp, signed_cmp};
+ghost use Rattle.dnsv_compact.specs.declared.signed.Signed.{Signed};
 
 use bumpalo::Bump;
 use dnsv_canonical::{Rrset, SigningRoom, make_signed_data};
@@ -9,8 +15,9 @@ use dnsv_verifier::{Entry, is_verifiable};
 use std::alloc::{AllocError, Global};
 use std::cmp::Ordering;
 
-/// A signature of an RRset, by the numbers of both, with what it signs.
-#[derive(Debug, Drop)]
+/// A signature of an RRset, by the numbers of both, with what it signs. Such are ordered by what is signed, the signature,
+/// and then by their numbers.
+#[derive(Debug, PartialEq, Eq, PartialOrd, Ord, Drop)]
 pub(crate) struct Signed<'b> {
     pub(crate) octets: Octets<'b>,
     pub(crate) made: Octets<'b>,
@@ -20,39 +27,51 @@ pub(crate) struct Signed<'b> {
 
 impl Signed<'_> {
     /// How what is signed and the signature stand to those of the entry.
-    pub(crate) fn compared(&self, entry: &Entry<'_>) -> Ordering
+    fn compared(&self, entry: &Entry<'_>) -> Ordering
+        ensures { result ≡ part_cmp self.now entry.now }
     {
         let (octets, made) = (self.octets.as_slice(), self.made.as_slice());
-        compare_octets(octets, entry.signed_data.as_slice())
-            .then_with(|| compare_octets(made, entry.signature.as_slice()))
-    }
-
-    /// How the signature stands to the other: by what is signed, its octets, and then its numbers.
-    fn stands_to(&self, other: &Signed<'_>) -> Ordering
-    {
-        let (octets, made) = (self.octets.as_slice(), self.made.as_slice());
-        compare_octets(octets, other.octets.as_slice())
-            .then_with(|| compare_octets(made, other.made.as_slice()))
-            .then_with(|| self.rrset.cmp(&other.rrset))
-            .then_with(|| self.signature.cmp(&other.signature))
+        let (signed_data, signature) = (entry.signed_data.as_slice(), entry.signature.as_slice());
+        compare_octets(octets, signed_data).then_with(|| compare_octets(made, signature))
     }
 }
 
-/// The signatures of the RRsets that can be verified at the moment, by what they sign, their octets, and then their
-/// numbers. What they sign lies in the arena.
+/// The signatures of the RRsets that can be verified at the moment, in their order. What they sign lies in the arena.
 pub(crate) fn all_signed<'b>(
     alloc: Global,
     bump: &'b Bump,
     moment: u64,
     rrsets: &'b [Rrset<'b>],
 ) -> Result<Vec<Signed<'b>>, AllocError>
+    ensures { IfOk result (λ signed. AreSignedIn moment rrsets.now signed.items) }
+{
+    let mut signed = gathered(alloc, bump, moment, rrsets)?;
+    signed.sort_unstable();
+    Ok(signed)
+}
+
+/// Those of all RRsets.
+fn gathered<'b>(
+    alloc: Global,
+    bump: &'b Bump,
+    moment: u64,
+    rrsets: &'b [Rrset<'b>],
+) -> Result<Vec<Signed<'b>>, AllocError>
+    ensures { IfOk result (λ signed. (each : Signed) → Contains signed.items each ↔ IsSignedIn moment rrsets.now each) }
 {
     let mut signed = Vec::new(alloc);
     let mut room = SigningRoom::new(alloc);
-    for (index, rrset) in rrsets.iter().enumerate() {
-        add_rrset(alloc, bump, &mut room, moment, index + 1, rrset, &mut signed)?;
+    for place in 0..rrsets.len() {
+        add_rrset(
+            alloc,
+            bump,
+            &mut room,
+            moment,
+            place + 1,
+            &rrsets[place],
+            &mut signed,
+        )?;
     }
-    signed.sort_unstable_by(|a, b| a.stands_to(b));
     Ok(signed)
 }
 
@@ -66,9 +85,21 @@ fn add_rrset<'b>(
     rrset: &'b Rrset<'b>,
     signed: &mut Vec<Signed<'b>>,
 ) -> Result<(), AllocError>
+    ensures { OnOk result (AddsJust (IsSignedAmong moment number rrset.now) signed.old.items signed.new.items) }
 {
-    for (index, rrsig) in rrset.signatures().iter().enumerate() {
-        add_signature(alloc, bump, room, moment, number, index + 1, rrset, rrsig, signed)?;
+    let signatures = rrset.signatures();
+    for place in 0..signatures.len() {
+        add_signature(
+            alloc,
+            bump,
+            room,
+            moment,
+            number,
+            place + 1,
+            rrset,
+            &signatures[place],
+            signed,
+        )?;
     }
     Ok(())
 }
@@ -85,14 +116,15 @@ fn add_signature<'b>(
     rrsig: &'b Rrsig<'b>,
     signed: &mut Vec<Signed<'b>>,
 ) -> Result<(), AllocError>
+    ensures { OnOk result (AddsJust (IsSignedBy moment number rrset.now signature rrsig.now) signed.old.items
+        signed.new.items) }
 {
     if !is_verifiable(moment, rrset, rrsig) {
         return Ok(());
     }
-    if !make_signed_data(alloc, room, rrset, rrsig)? {
+    let Some(octets) = octets_of(alloc, bump, room, rrset, rrsig)? else {
         return Ok(());
-    }
-    let octets = Octets::of(bump.try_alloc_slice_copy(&room.octets)?);
+    };
     signed.push(Signed {
         octets,
         made: rrsig.signature.copied(),
@@ -102,9 +134,37 @@ fn add_signature<'b>(
     Ok(())
 }
 
-/// The first of the signatures that the entry asks about.
-pub(crate) fn first_of<'s, 'b>(signed: &'s [Signed<'b>], entry: &Entry<'_>) -> Option<&'s Signed<'b>>
+/// What the signature signs, made in the room and kept in the arena. `None` where Labels is above the owner's count of
+/// labels.
+fn octets_of<'b>(
+    alloc: Global,
+    bump: &'b Bump,
+    room: &mut SigningRoom,
+    rrset: &Rrset<'_>,
+    rrsig: &Rrsig<'_>,
+) -> Result<Option<Octets<'b>>, AllocError>
+    ensures { IfOk result (IsSignedData rrset.now.owner rrset.now.rtype rrset.now.rdata rrsig.now) }
+{
+    if !make_signed_data(alloc, room, rrset, rrsig)? {
+        return Ok(None);
+    }
+    let octets = bump.try_alloc_slice_copy(&room.octets)?;
+    Ok(Some(Octets::of(octets)))
+}
+
+/// The first of the signatures that sign the entry's octets and are its signature.
+pub(crate) fn first_of<'s, 'b>(
+    signed: &'s [Signed<'b>],
+    entry: &Entry<'_>,
+) -> Option<&'s Signed<'b>>
+    requires { IsSorted signed_cmp signed.now }
+    ensures { MatchOption result ((each : Signed) → Contains signed.now each → part_cmp each entry.now ≡ Equal → ⊥)
+        (λ found. (each : Signed) → Contains signed.now each → part_cmp each entry.now ≡ Equal
+        → IsFirstSigned signed.now entry.now found.now each) }
 {
     let start = signed.partition_point(|each| each.compared(entry).is_lt());
-    signed.get(start)
+    if start >= signed.len() {
+        return None;
+    }
+    Some(&signed[start])
 }

@@ -1,0 +1,10 @@
+use Rattle.std.proofs.Common.{ℕ, List, take}
+use Rattle.dnsv_canonical.specs.Rrsets.{ReceivedRrset}
+use Rattle.dnsv_compact.specs.CompactList.{AreInPlaces}
+use Rattle.dnsv_compact.specs.Signed.{AreSignedIn}
+use Rattle.dnsv_compact.proofs.list.places_of.Given as goal
+
+-- the places of the entries so far
+abbrev pub invariant-loop-place : goal.invariant-loop-place
+invariant-loop-place l =
+    (moment : ℕ) (rrsets : List ReceivedRrset) → AreSignedIn moment rrsets l.signed → AreInPlaces moment rrsets l.keys (take l.place l.entries) l.places.items

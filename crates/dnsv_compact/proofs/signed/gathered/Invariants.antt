@@ -1,0 +1,8 @@
+use Rattle.std.proofs.Common.{[]}
+use Rattle.dnsv_verifier.specs.Asking.{AddsJust}
+use Rattle.dnsv_compact.specs.Signed.{ComesOfFirst, IsSignedAmong}
+use Rattle.dnsv_compact.proofs.signed.gathered.Given as goal
+
+-- those of the RRsets so far
+abbrev pub invariant-loop-place : goal.invariant-loop-place
+invariant-loop-place l = AddsJust (ComesOfFirst (IsSignedAmong l.moment) l.rrsets l.place) [] l.signed.items
