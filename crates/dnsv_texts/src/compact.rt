@@ -12,7 +12,7 @@ use crate::format::Format;
 use crate::hex_text::push_hex_text;
 use crate::json::compact::compact_json;
 use dnsv_canonical::{Rrset, canonical_rrset};
-use dnsv_compact::{CompactList, ListedKey, Place, push_front};
+use dnsv_compact::{CompactList, ListedKey, Place, front_of};
 use dnsv_records::Rrsig;
 use std::alloc::{AllocError, Global};
 
@@ -161,8 +161,7 @@ fn push_signature(
     ensures { OnOk result (string_bytes text.new
         ≡ string_bytes text.old ++ specs.signature_line rrset (listed_signature signature rrsig.now)) }
 {
-    let mut front = Vec::new(alloc);
-    push_front(&mut front, rrsig)?;
+    let front = front_of(alloc, rrsig)?;
     write!(text, "signature {rrset} {signature} ")?;
     push_hex_text(text, &front)?;
     text.push_str(" ")?;

@@ -12,7 +12,7 @@ ghost use Rattle.dnsv_texts.specs.declared.format.Format.TheVariants.{Json};
 
 use crate::json::push_octets;
 use dnsv_canonical::{Rrset, canonical_rrset};
-use dnsv_compact::{CompactList, ListedKey, Place, push_front};
+use dnsv_compact::{CompactList, ListedKey, Place, front_of};
 use dnsv_lines::push_comma;
 use dnsv_records::Rrsig;
 use std::alloc::{AllocError, Global};
@@ -64,6 +64,14 @@ fn push_key(text: &mut String, first: &mut bool, key: &ListedKey<'_>) -> Result<
     ensures first { OnOk result (first.new ≡ false) }
 {
     push_comma(text, first)?;
+    push_key_members(text, key)?;
+    Ok(())
+}
+
+/// Adds the object of a key.
+fn push_key_members(text: &mut String, key: &ListedKey<'_>) -> Result<(), AllocError>
+    ensures { OnOk result (string_bytes text.new ≡ string_bytes text.old ++ specs.key_json key.now) }
+{
     let algorithm = key.algorithm.0;
     write!(text, "{{\"algorithm\":{algorithm},\"key\":")?;
     push_octets(text, key.key.as_slice())?;
@@ -164,8 +172,21 @@ fn push_signature(
     ensures first { OnOk result (first.new ≡ false) }
 {
     push_comma(text, first)?;
-    let mut front = Vec::new(alloc);
-    push_front(&mut front, rrsig)?;
+    push_signature_members(alloc, text, number, rrsig)?;
+    Ok(())
+}
+
+/// Adds the object of a signature.
+fn push_signature_members(
+    alloc: Global,
+    text: &mut String,
+    number: usize,
+    rrsig: &Rrsig<'_>,
+) -> Result<(), AllocError>
+    ensures { OnOk result (string_bytes text.new
+        ≡ string_bytes text.old ++ specs.signature_json (listed_signature number rrsig.now)) }
+{
+    let front = front_of(alloc, rrsig)?;
     write!(text, "{{\"signature\":{number},\"front\":")?;
     push_octets(text, &front)?;
     text.push_str(",\"octets\":")?;
