@@ -10,6 +10,7 @@ CRATES = TOOLS.parent / "crates"
 BEGINS = re.compile(r"\bCount(?:>|\s+as\s+Default>)?::(?:new|default)\b|\bDefault::default\b|\bmem::take\b")
 # Where counts are begun, how many, and why.
 NAMED = {
+    "dnsv_answers/src/answered.rt": 1,  # answers of a file are put beside entries, and no verifier is asked
     "dnsv_names/src/count.rt": 1,  # the default of a count
     "dnsv_verdict/src/case.rt": 1,  # how much the verifier was asked for a case
     "dnsv_verdict/src/case/hashed_name.rt": 1,  # the digests that a name takes, which each report of a question tells
