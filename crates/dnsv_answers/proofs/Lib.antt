@@ -1,7 +1,6 @@
 pub mod AnswerLaws
 pub mod AnswerLemmas
+pub mod AnsweredLemmas
 pub mod DecimalLemmas
 pub mod DigestLemmas
-pub mod HalvesLemmas
 pub mod HeadingLemmas
-pub mod ListedLemmas

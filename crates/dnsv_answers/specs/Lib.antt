@@ -2,4 +2,3 @@ pub mod AnswerFile
 pub mod Answered
 pub mod AnswersError
 pub mod Heading
-pub mod Listed

@@ -12,7 +12,7 @@ use Rattle.std.specs.declared.cmp.Ordering.TheVariants.{Less, Equal, Greater}
 use Rattle.dnsv_verifier.specs.Entry.{entry_cmp}
 use Rattle.dnsv_verifier.specs.EntryLaws.{entry_cmp_total, entry_Equal}
 use Rattle.dnsv_verifier.specs.Numbers.{AllOfParts, AreNumbersOf, AreOfParts, AreRising, PartLists, answers_of, entry_of, key_cmp, listed_answer, numbers_cmp, signature_cmp}
-use Rattle.dnsv_verifier.specs.Table.{hoped_answer, hopeful, is_unknown}
+use Rattle.dnsv_verifier.specs.Table.{hoped_answer, hopeful, is_unknown, with_answers}
 use Rattle.dnsv_verifier.specs.declared.answer.Answer.{Answer}
 use Rattle.dnsv_verifier.specs.declared.answer.Answer.TheVariants.{Unknown}
 use Rattle.dnsv_verifier.specs.declared.entry.Entry.{Entry}
@@ -46,6 +46,28 @@ pub hoped_table : (moment : ℕ) (parts : PartLists) (numbers : List EntryNumber
 hoped_table moment parts numbers answers =
     let listed = ap (answers_of parts) (zip_hoped numbers answers) ∙ hoped_answers parts (zip numbers answers) in
     λ i. record { moment = moment; answers = listed i }
+
+-- other answers for the same entries
+other_answers : (parts : PartLists) (numbers : List EntryNumbers) (old new : List Answer) → length old ≡ length numbers
+    → answers_of parts (zip numbers new) ≡ zip (map (λ (each : Entry × Answer). each.0) (answers_of parts (zip numbers old))) new
+other_answers parts [] old new each = refl
+other_answers parts (n ∷ numbers) [] new each = absurd (omega (arith, each))
+other_answers parts (n ∷ numbers) (a ∷ old) [] each = refl
+other_answers parts (n ∷ numbers) (a ∷ old) (b ∷ new) each =
+    ap (λ rest. (entry_of parts n, b) ∷ rest) (other_answers parts numbers old new (omega (arith, each)))
+
+pub table_with : (moment : ℕ) (parts : PartLists) (numbers : List EntryNumbers) (old new : List Answer) → length old ≡ length numbers
+    → record { moment = moment; answers = answers_of parts (zip numbers new) } ≡ with_answers (record { moment = moment; answers = answers_of parts (zip numbers old) }) new
+table_with moment parts numbers old new each =
+    let listed = other_answers parts numbers old new each in
+    λ i. record { moment = moment; answers = listed i }
+
+-- as many answers as the table has entries
+pub length_with : (parts : PartLists) (numbers : List EntryNumbers) (old new : List Answer) → length old ≡ length numbers
+    → length new ≡ length (answers_of parts (zip numbers old)) → length new ≡ length numbers
+length_with parts numbers old new each same =
+    let mapped = length-map {B = Entry × Answer} (zip numbers old) (λ (pair : EntryNumbers × Answer). (entry_of parts pair.0, pair.1)) in
+    let zipped = length-zip numbers old in omega (arith, mapped, zipped, each, same)
 
 -- a table has an entry for each answer
 pub length_listed : (parts : PartLists) (numbers : List EntryNumbers) (answers : List Answer) → length answers ≡ length numbers → length answers ≡ length (answers_of parts (zip numbers answers))

@@ -1,8 +1,7 @@
 -- Reading a file of statements, line by line.
-use Rattle.std.proofs.Common.{◌≡◌, ℕ, Result, Err, List, [], ◌∷◌, ◌++◌, refl, sym, ap, ◌∙◌, subst, arith, length, length-append, Bool, true, false, cond, Option, Some, None, ◌⊎◌, inl, inr, ⊎_elim}
+use Rattle.std.proofs.Common.{◌≡◌, ℕ, ◌<◌, Result, Err, List, [], ◌∷◌, ◌++◌, refl, sym, ap, ◌∙◌, subst, arith, length, length-append, Bool, true, false, cond, Option, Some, None, ◌⊎◌, inl, inr, ⊎_elim}
 use Rattle.std.proofs.lemmas.Cmp.{tied_itself}
 use Rattle.std.proofs.lemmas.List.Elements.{Contains-push, Contains-push_cases, Contains-append_left}
-use Rattle.std.specs.BTreeMap.{BTreeMap}
 use Rattle.std.specs.List.{Contains}
 use Rattle.std.specs.Map.{lookup}
 use Rattle.std.specs.Ordering.{is_eq}
@@ -24,23 +23,23 @@ use Rattle.dnsv_verifier.specs.declared.statements.StatementsError.{StatementsEr
 use Rattle.dnsv_verifier.specs.declared.statements.StatementsError.TheVariants.{OutOfMemory, Syntax, Contradiction}
 
 -- lines were read as statements, and a tree says just what they do
-pub record SaysSoFar (lines : List NumberedLine) (said : BTreeMap Entry Word) : Type 0 where
+pub record SaysSoFar (lines : List NumberedLine) (said : List (Entry × Word)) : Type 0 where
   pub statements : List (Entry × Word)
   pub each : SayEach IsStatementOf lines statements
   pub found : (entry : Entry) (word : Word) → said_in said entry ≡ Some word → Contains statements (entry, word)
   pub kept : (entry : Entry) (word : Word) → Contains statements (entry, word) → said_in said entry ≡ Some word
-  pub empty : lines ≡ [] → said.entries ≡ []
+  pub empty : lines ≡ [] → said ≡ []
 
 words_differ : Good ≡ Bad → ⊥
 words_differ e = cc
 
-pub says_agree : {lines : List NumberedLine} {said : BTreeMap Entry Word} (so_far : SaysSoFar lines said) → Agree so_far.statements
+pub says_agree : {lines : List NumberedLine} {said : List (Entry × Word)} (so_far : SaysSoFar lines said) → Agree so_far.statements
 says_agree {lines} {said} so_far entry good bad =
     let first = so_far.kept entry Good good in
     let second = so_far.kept entry Bad bad in
     words_differ (cc)
 
-pub says_none : (said : BTreeMap Entry Word) → said.entries ≡ [] → SaysSoFar [] said
+pub says_none : (said : List (Entry × Word)) → said ≡ [] → SaysSoFar [] said
 says_none said empty =
     let none : (entry : Entry) → said_in said entry ≡ None =
     λ entry. ap (λ (entries : List (Entry × Word)). lookup (λ each. is_eq (entry_cmp entry each)) entries) empty in
@@ -63,7 +62,7 @@ same_word Good Bad apart = absurd (apart refl)
 same_word Bad Good apart = absurd (apart refl)
 same_word Bad Bad apart = refl
 
-module _ {lines : List NumberedLine} {old new : BTreeMap Entry Word} (line : NumberedLine) (so_far : SaysSoFar lines old) (adds : AddsStatement line.octets old new) where
+module _ {lines : List NumberedLine} {old new : List (Entry × Word)} (line : NumberedLine) (so_far : SaysSoFar lines old) (adds : AddsStatement line.octets old new) where
   found_by : (entry : Entry) (word : Word) (b : Bool) → is_eq (entry_cmp adds.entry entry) ≡ b → cond b (Some adds.word) (said_in old entry) ≡ Some word → Contains (so_far.statements ++ (adds.entry, adds.word) ∷ []) (entry, word)
   found_by entry word true tied e =
       let first : adds.entry ≡ entry = entry_Equal adds.entry entry (is_eq_is (entry_cmp adds.entry entry) tied) in
@@ -137,7 +136,7 @@ pub statements_or_fault : (text : List ℕ) → ((statements : List (Entry × Wo
 statements_or_fault text no_statements no_fault = values_or_fault statement_or_fault text no_statements no_fault
 
 -- the first fault
-pub fault_of : (text : List ℕ) (before : List NumberedLine) (line : NumberedLine) (after : List NumberedLine) (said : BTreeMap Entry Word) (error : StatementsError) → HasLines text (before ++ line ∷ after) → SaysSoFar before said → RefusesLine error line said → (error ≡ OutOfMemory) ⊎ IsFaultOf text error
+pub fault_of : (text : List ℕ) (before : List NumberedLine) (line : NumberedLine) (after : List NumberedLine) (said : List (Entry × Word)) (error : StatementsError) → HasLines text (before ++ line ∷ after) → SaysSoFar before said → RefusesLine error line said → (error ≡ OutOfMemory) ⊎ IsFaultOf text error
 fault_of text before line after said OutOfMemory has so_far refuses = inl refl
 fault_of text before line after said (Syntax number) has so_far refuses =
     inr record { before = before; line = line; after = after; has = has; values = so_far.statements; each = so_far.each; may_stand = says_agree so_far; there = refuses }
@@ -145,7 +144,7 @@ fault_of text before line after said (Contradiction number) has so_far refuses =
     inr record { before = before; line = line; after = after; has = has; values = so_far.statements; each = so_far.each; may_stand = says_agree so_far; there = (refuses.0, (refuses.1.0, refuses.1.1, refuses.1.2, so_far.found refuses.1.0 (other_word refuses.1.1) refuses.1.3)) }
 
 -- the fault of a text is told where a line is refused, unless memory was
-pub fault_told : {T : Type 0} (text : List ℕ) (before : List NumberedLine) (line : NumberedLine) (after : List NumberedLine) (said : BTreeMap Entry Word) (error : StatementsError)
+pub fault_told : {T : Type 0} (text : List ℕ) (before : List NumberedLine) (line : NumberedLine) (after : List NumberedLine) (said : List (Entry × Word)) (error : StatementsError)
     → HasLines text (before ++ line ∷ after) → SaysSoFar before said → RefusesLine error line said
     → (fault : StatementsError) → IsFaultOf text fault
     → (◌≡◌ {A = Result T StatementsError} (Err error) (Err fault)) ⊎ ((◌≡◌ {A = Result T StatementsError} (Err error) (Err OutOfMemory)) × BeginsWithStatement text)
@@ -159,7 +158,7 @@ fault_told text before line after said (Contradiction number) has so_far refuses
     (fault_of text before line after said (Contradiction number) has so_far refuses)
 
 -- memory is refused to a statement alone
-pub memory_wanted : (text : List ℕ) (before : List NumberedLine) (line : NumberedLine) (after : List NumberedLine) (said : BTreeMap Entry Word) (error : StatementsError)
+pub memory_wanted : (text : List ℕ) (before : List NumberedLine) (line : NumberedLine) (after : List NumberedLine) (said : List (Entry × Word)) (error : StatementsError)
     → HasLines text (before ++ line ∷ after) → SaysSoFar before said → RefusesLine error line said → error ≡ OutOfMemory → BeginsWithStatement text
 memory_wanted text before line after said OutOfMemory has so_far refuses out =
     begins IsStatementOf text before line after so_far.statements has so_far.each ((refuses.entry, refuses.word), refuses.states)
@@ -173,35 +172,30 @@ first_says text (line ∷ lines) [] has each some = absurd each
 first_says text (line ∷ lines) (statement ∷ statements) has each some = begins IsStatementOf text [] line lines [] has tt (statement, each.0)
 
 -- and where something was said
-pub memory_to_list : (text : List ℕ) (lines : List NumberedLine) (said : BTreeMap Entry Word) → HasLines text lines
-    → SaysSoFar lines said → (length said.entries ≡ 0 → ⊥) → BeginsWithStatement text
+pub memory_to_list : (text : List ℕ) (lines : List NumberedLine) (said : List (Entry × Word)) → HasLines text lines
+    → SaysSoFar lines said → 0 < length said → BeginsWithStatement text
 memory_to_list text lines said has so_far some =
-    first_says text lines so_far.statements has so_far.each (λ none. some (ap length (so_far.empty none)))
+    first_says text lines so_far.statements has so_far.each (λ none. let empty = ap length (so_far.empty none) in omega (arith, empty, some))
 
 -- a text whose lines were all read has no fault
-pub none_at_fault : (text : List ℕ) (lines : List NumberedLine) (said : BTreeMap Entry Word) → HasLines text lines
+pub none_at_fault : (text : List ℕ) (lines : List NumberedLine) (said : List (Entry × Word)) → HasLines text lines
     → SaysSoFar lines said → (fault : StatementsError) → IsFaultOf text fault → ⊥
 none_at_fault text lines said has so_far fault is =
     AreStatementsOf-no_fault text so_far.statements fault (record { lines = lines; has = has; each = so_far.each; may_stand = says_agree so_far }) is
 
-said_by : (lines : List NumberedLine) (said : BTreeMap Entry Word) (so_far : SaysSoFar lines said) (entry : Entry) (found : Option Word) → said_in said entry ≡ found → IsSaid so_far.statements entry (answer_by found)
+said_by : (lines : List NumberedLine) (said : List (Entry × Word)) (so_far : SaysSoFar lines said) (entry : Entry) (found : Option Word) → said_in said entry ≡ found → IsSaid so_far.statements entry (answer_by found)
 said_by lines said so_far entry None e = λ word contains. let was = so_far.kept entry word contains in absurd (cc)
 said_by lines said so_far entry (Some Good) e = so_far.found entry Good e
 said_by lines said so_far entry (Some Bad) e = so_far.found entry Bad e
 
--- nothing is listed where nothing was said
-pub none_listed : (said listed : List (Entry × Word)) → listed ≡ [] → length said ≡ 0 → listed ≡ said
-none_listed [] listed none empty = none
-none_listed (entry ∷ said) listed none empty = absurd (omega (arith, empty))
-
 -- what is listed at the end is what the file says
-pub all_said : (text : List ℕ) (lines : List NumberedLine) (said : BTreeMap Entry Word) (listed : List (Entry × Word)) → HasLines text lines → SaysSoFar lines said → listed ≡ said.entries → (statements : List (Entry × Word)) × AreStatementsOf text statements × ((entry : Entry) → IsSaid statements entry (listed_answer listed entry))
+pub all_said : (text : List ℕ) (lines : List NumberedLine) (said : List (Entry × Word)) (listed : List (Entry × Word)) → HasLines text lines → SaysSoFar lines said → ((entry : Entry) → said_in listed entry ≡ said_in said entry) → (statements : List (Entry × Word)) × AreStatementsOf text statements × ((entry : Entry) → IsSaid statements entry (listed_answer listed entry))
 all_said text lines said listed has so_far same = (
   so_far.statements,
   record { lines = lines; has = has; each = so_far.each; may_stand = says_agree so_far },
   λ entry.
       let moved : answer_by (said_in said entry) ≡ listed_answer listed entry =
-      ap (λ (entries : List (Entry × Word)). listed_answer entries entry) (sym same) in
+      ap (λ (found : Option Word). answer_by found) (sym (same entry)) in
       let P : Answer → Type 0 = λ answer. IsSaid so_far.statements entry answer in
       subst P moved (said_by lines said so_far entry (said_in said entry) refl),
 )

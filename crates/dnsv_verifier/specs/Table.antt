@@ -1,5 +1,6 @@
 -- The table of what a verifier says of the evidence: each entry that is asked, with the answer.
 use Rattle.std.specs.Prelude.{◌≡◌, ◌↔◌, ℕ, Bool, true, false, List, Contains, filter, map, unwrap_or}
+use Rattle.std.specs.List.{zip}
 use Rattle.std.specs.List.Sorted.{IsStrictlySortedBy}
 use Rattle.std.specs.Map.{lookup}
 use Rattle.std.specs.Ordering.{is_eq}
@@ -39,6 +40,13 @@ abbrev pub hopeful : TableContents → TableContents
 hopeful contents = record {
   moment = contents.moment;
   answers = map (λ each. (each.0, hoped_answer each.1)) contents.answers;
+}
+
+-- the same moment and entries, with other answers: the first is that of the first entry, and so on
+abbrev pub with_answers : TableContents → List Answer → TableContents
+with_answers contents answers = record {
+  moment = contents.moment;
+  answers = zip (map (λ each. each.0) contents.answers) answers;
 }
 
 -- The contents are the moment and what a verifier of this meaning says of just those entries that are asked, each

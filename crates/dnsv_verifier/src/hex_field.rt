@@ -1,7 +1,7 @@
 //! Octets as a field of a text file.
-ghost use Rattle.std.specs.Prelude.{◌≡◌, ◌↔◌, Ok, IfOk, IsOk, IsSome, IsTrue, MatchOption, OnErr, OnOk};
+ghost use Rattle.std.specs.Prelude.{◌≡◌, ◌↔◌, ◌/◌, ◌<◌, Ok, IfOk, IsOk, IsSome, IsTrue, MatchOption, OnErr, OnOk, length};
 ghost use Rattle.std.specs.List.{AllPass};
-ghost use Rattle.hex.specs.Hex.{decode_of, is_hex_digit};
+ghost use Rattle.hex.specs.Hex.{decode_of, hex_digit_value, is_hex_digit};
 ghost use Rattle.dnsv_verifier.specs.HexField.{AddsDecoded, AreDigitsOf, hex_value};
 
 use bumpalo::Bump;
@@ -41,11 +41,16 @@ fn are_pairs(octets: &[u8]) -> bool
     octets.len() % 2 == 0 && are_digits(octets)
 }
 
-/// Whether the octets are hex digits, in either case.
+/// Whether the octets are hex digits, in either case. All are looked at, so that many can be at once.
+#[tactic(auto, using(crate::proofs::HexFieldLemmas::digits_more))]
 fn are_digits(octets: &[u8]) -> bool
     ensures { IsTrue result ↔ AllPass is_hex_digit octets.now }
 {
-    octets.iter().all(|octet| is_digit(*octet))
+    let mut all = true;
+    for octet in octets {
+        all = all & is_digit(*octet);
+    }
+    all
 }
 
 /// Whether the octet is a hex digit, in either case.
@@ -62,10 +67,8 @@ fn decoded<'b>(bump: &'b Bump, digits: &[u8]) -> Result<Octets<'b>, AllocError>
 {
     // As many octets as will be written.
     let octets = bump.try_alloc_slice_copy(&digits[..digits.len() / 2])?;
-    match hex::decode_to_slice(digits, octets) {
-        Ok(()) => Ok(Octets::of(octets)),
-        Err(_) => Err(AllocError),
-    }
+    decode(digits, octets);
+    Ok(Octets::of(octets))
 }
 
 /// Adds the octets of pairs of hex digits.
@@ -75,8 +78,27 @@ pub(crate) fn push_decoded(octets: &mut Vec<u8>, digits: &[u8]) -> Result<(), Al
 {
     let place = octets.len();
     octets.resize(place + digits.len() / 2, 0)?;
-    match hex::decode_to_slice(digits, &mut octets[place..]) {
-        Ok(()) => Ok(()),
-        Err(_) => Err(AllocError),
+    decode(digits, &mut octets[place..]);
+    Ok(())
+}
+
+/// Writes the octets of pairs of hex digits, which were tested.
+fn decode(digits: &[u8], octets: &mut [u8])
+    requires twice { length octets.old ≡ length digits.now / 2 }
+    requires decodes { IsOk (decode_of digits.now) }
+    ensures { decode_of digits.now ≡ Ok octets.new }
+{
+    for place in 0..octets.len() {
+        octets[place] = value_of(digits[2 * place]) * 16 + value_of(digits[2 * place + 1]);
     }
+}
+
+/// The value of a hex digit, in either case.
+#[tactic(auto, using(crate::proofs::HexFieldLemmas::value_is, crate::proofs::HexFieldLemmas::value_small))]
+fn value_of(digit: u8) -> u8
+    requires { IsTrue (is_hex_digit digit) }
+    ensures value { hex_digit_value digit ≡ Some result }
+    ensures small { result < 16 }
+{
+    digit % 16 + 9 * (digit / 64)
 }

@@ -1,10 +1,10 @@
 //! Files of statements.
 
+pub mod said;
 pub mod statement;
 
-ghost use Rattle.std.specs.Prelude.{◌≡◌, ◌⊎◌, ℕ, Err, List, Vec, IfOk, IfErr, OnOk};
+ghost use Rattle.std.specs.Prelude.{◌≡◌, ◌⊎◌, ℕ, Err, List, Vec, IfOk, IfErr};
 ghost use Rattle.dnsv_verifier.specs.Statements.{AreStatementsOf, BeginsWithStatement, IsFaultOf, IsSaid, listed_answer};
-ghost use Rattle.dnsv_verifier.specs.StatementsReading.{AddsStatement, Lists, RefusesEntry, RefusesLine};
 ghost use Rattle.dnsv_verifier.specs.declared.entry.Entry.{Entry};
 ghost use Rattle.dnsv_verifier.specs.declared.statements.statement.Word.{Word};
 ghost use Rattle.dnsv_verifier.specs.declared.statements.StatementsError.{StatementsError};
@@ -12,9 +12,10 @@ ghost use Rattle.dnsv_verifier.specs.declared.statements.StatementsError.{Statem
 use crate::answer::Answer;
 use crate::entry::Entry;
 use crate::entry::packed_entry::PackedEntry;
-use crate::statements::statement::{Word, statement_of};
+use crate::statements::said::{add, listed_in, said_word};
+use crate::statements::statement::Word;
 use crate::verifier::Verifier;
-use dnsv_names::{Line, Lines};
+use dnsv_names::Lines;
 use std::alloc::{AllocError, AllocFailed, Global};
 use std::collections::BTreeMap;
 use std::marker::Model;
@@ -113,19 +114,13 @@ impl Statements {
         // Memory is wanted only where the first line is a statement.
         ensures memory { IfErr result (λ error. error ≡ StatementsError.OutOfMemory → BeginsWithStatement text.now) }
     {
-        let mut said = BTreeMap::new(alloc);
+        let mut rising = Vec::new(alloc);
+        let mut tree = BTreeMap::new(alloc);
         for line in Lines::new(text) {
-            add(alloc, &mut said, &line)?;
+            add(alloc, &mut rising, &mut tree, &line)?;
         }
-        // An empty list takes no memory; and a map tells with its length that its keys rise.
-        if said.len() == 0 {
-            return Ok(Statements {
-                listed: Vec::new(alloc),
-            });
-        }
-        Ok(Statements {
-            listed: said.into_iter().collect(alloc)?,
-        })
+        let listed = listed_in(alloc, rising, tree)?;
+        Ok(Statements { listed })
     }
 }
 
@@ -133,12 +128,9 @@ impl Verifier for Statements {
     ghost meaning = { listed_answer };
 
     fn answer(&self, entry: &Entry<'_>) -> Answer {
-        let place = self
-            .listed
-            .binary_search_by(|(said, _)| said.entry().stands_to(entry));
-        match place {
-            Ok(place) => self.listed[place].1.answer(),
-            Err(_) => Answer::Unknown,
+        match said_word(&self.listed, entry) {
+            Some(word) => word.answer(),
+            None => Answer::Unknown,
         }
     }
 }
@@ -155,35 +147,3 @@ pub fn a_text_is_one_list_of_statements()
     ensures either { (text : List ℕ) → ((statements : List (Entry × Word)) → AreStatementsOf text statements → ⊥)
         → ((fault : StatementsError) → IsFaultOf text fault → ⊥) → ⊥ }
 {}
-
-/// Adds what a line states, unless something else was said.
-fn add(
-    alloc: Global,
-    said: &mut BTreeMap<PackedEntry, Word>,
-    line: &Line,
-) -> Result<(), StatementsError>
-    ensures adds { OnOk result (AddsStatement line.now.octets said.old said.new) }
-    ensures refuses { IfErr result (λ error. RefusesLine error line.now said.old) }
-{
-    let Some((entry, word)) = statement_of(alloc, line)? else {
-        return Err(StatementsError::Syntax(line.number()));
-    };
-    list(said, entry, word, line.number())
-}
-
-/// Lists an entry of the line of this number by its word. Where it is listed by the other one, that is told; memory is
-/// asked for only where it isn't listed.
-fn list(
-    said: &mut BTreeMap<PackedEntry, Word>,
-    entry: PackedEntry,
-    word: Word,
-    number: usize,
-) -> Result<(), StatementsError>
-    ensures lists { OnOk result (Lists entry word said.old said.new) }
-    ensures refuses { IfErr result (λ error. RefusesEntry error number entry word said.old) }
-{
-    if said.insert(entry, word)? == Some(word.other()) {
-        return Err(StatementsError::Contradiction(number));
-    }
-    Ok(())
-}

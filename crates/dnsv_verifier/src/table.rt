@@ -4,7 +4,7 @@ ghost use Rattle.std.specs.List.{zip};
 ghost use Rattle.std.specs.List.Sorted.{IsStrictlySortedBy};
 ghost use Rattle.dnsv_verifier.specs.Entry.{entry_cmp};
 ghost use Rattle.dnsv_verifier.specs.Numbers.{AreRising, answers_of, listed_answer, numbers_cmp};
-ghost use Rattle.dnsv_verifier.specs.Table.{hoped_answer, hopeful, is_unknown, unknown_entries};
+ghost use Rattle.dnsv_verifier.specs.Table.{hoped_answer, hopeful, is_unknown, unknown_entries, with_answers};
 
 use crate::answer::Answer;
 use crate::entries::Entries;
@@ -111,6 +111,21 @@ impl<'b> Table<'b> {
         let numbers = self.numbers.clone()?;
         let answers = hoped_answers(alloc, &self.answers)?;
         Ok(Table::new(self.moment, self.parts.copied(), numbers, answers))
+    }
+
+    /// The same moment and entries with answers that were given by number: the first is that of the first entry, and so
+    /// on. It asks nobody, and looks no entry up.
+    pub fn with_answers(self, answers: Vec<Answer>) -> Table<'b>
+        requires { length answers.items ≡ length self.answers }
+        ensures { result ≡ with_answers self.entry answers.items }
+    {
+        let Table {
+            moment,
+            parts,
+            numbers,
+            ..
+        } = self;
+        Table::new(moment, parts, numbers, answers)
     }
 }
 
