@@ -6,6 +6,11 @@ Fields = Sequence[str]
 Members = dict[str, Any]
 
 
+def octets(field: str) -> str:
+    """A field of hex, in which `-` stands for no octets."""
+    return "" if field == "-" else field
+
+
 def numbers(fields: Iterable[str], *keys: str) -> Members:
     return dict(zip(keys, map(int, fields)))
 

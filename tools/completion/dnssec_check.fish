@@ -20,8 +20,9 @@ complete -c dnssec_check -l help -d 'print help'
 complete -c dnssec_check -n $begun -l capture -r -d 'the captured messages'
 complete -c dnssec_check -n $listing -l moment -x -a '(date +%s)' -d 'seconds since 1970'
 complete -c dnssec_check -n $listing -l statements -r -d 'what was checked'
-complete -c dnssec_check -n $listing -l json -d 'one JSON object in place of lines'
+complete -c dnssec_check -n $listing -l json -d 'one JSON object instead of lines'
 complete -c dnssec_check -n '__fish_seen_subcommand_from list' -l all -d 'what every signature signs'
+complete -c dnssec_check -n '__fish_seen_subcommand_from list' -l compact -d 'each octet once'
 complete -c dnssec_check -n $asking -l anchors -r -d 'the trust anchors'
 complete -c dnssec_check -n $asking -l name -x -d 'the name, with its last dot'
 complete -c dnssec_check -n $asking -l type -x -ka '(__dnssec_check_types)' -d 'the number of the type'
@@ -34,7 +35,7 @@ for name in capture verify judge
     complete -c dnssec_check-$name -l version -d 'print the version'
 end
 
-complete -c dnssec_check-capture -l stream -r -d 'messages, each behind its length'
+complete -c dnssec_check-capture -l stream -r -d 'messages, each after its length'
 complete -c dnssec_check-capture -l pcap -r -d packets
 complete -c dnssec_check-capture -l hex -r -d 'a message a line'
 complete -c dnssec_check-capture -l tshark -r -d 'packets, as tshark reads them'

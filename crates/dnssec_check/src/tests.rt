@@ -18,6 +18,7 @@ mod asking;
 mod captures;
 mod checking;
 mod command_line;
+mod compact;
 mod desk;
 mod explaining;
 mod key_files;
@@ -34,6 +35,11 @@ use system::{File, Page, System};
 #[test]
 fn lists_as_the_rows_say(rt: HostRuntime) -> Result<(), Fail> {
     meets(&rt, "", listing::ROWS)
+}
+
+#[test]
+fn lists_each_octet_once_as_the_rows_say(rt: HostRuntime) -> Result<(), Fail> {
+    meets(&rt, "", compact::ROWS)
 }
 
 #[test]

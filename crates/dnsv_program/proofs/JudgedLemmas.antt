@@ -1,5 +1,5 @@
 -- What is told where all files were taken: the want of memory, or that the question is refused on its way.
-use Rattle.std.proofs.Common.{◌≡◌, ◌⊎◌, ◌∙◌, ℕ, Bool, true, false, List, Option, ap, inl, inr, refl, sym, subst}
+use Rattle.std.proofs.Common.{◌≡◌, ◌⊎◌, ◌∙◌, ℕ, Bool, true, false, List, None, Option, ap, inl, inr, refl, sym, subst}
 use Rattle.std.specs.Prelude.{Err, IfErr, IfOk, IsErrOf, IsTrue, Ok, Result, string_bytes}
 use Rattle.dnsv_names.specs.Name.{Labels}
 use Rattle.dnsv_canonical.specs.Question.{Asked}
@@ -167,7 +167,7 @@ module _ (format : Format) (why : Bool) (basis : Basis) (asked : Asked) (name : 
       → IsQuestion name rtype → IsVerdictOf basis name rtype report.links report.last report.verdict → IsWhy why basis rtype report told
       → IfOk result (λ outcome. outcome.status ≡ verdict_status report.verdict)
       → IfOk result (λ outcome. string_bytes outcome.text
-      ≡ check_text format name rtype moment (status_code outcome.status) rrsets report.links report.verdict told)
+      ≡ check_text format name rtype moment (status_code outcome.status) rrsets report.links report.verdict told None)
       → IfOk result (λ outcome. IsAnswer format why basis asked outcome.status (string_bytes outcome.text))
   answered_so (Err fault) names types same at may verdict is_told ends lines = tt
   answered_so (Ok outcome) names types same at may verdict is_told ends lines =
@@ -178,7 +178,7 @@ module _ (format : Format) (why : Bool) (basis : Basis) (asked : Asked) (name : 
         is_told = is_told;
         ends = ends;
         lines = lines
-            ∙ (λ i. check_text format name rtype (sym at i) (status_code outcome.status) (same i) report.links report.verdict told);
+            ∙ (λ i. check_text format name rtype (sym at i) (status_code outcome.status) (same i) report.links report.verdict told None);
       } in
       subst (λ (t : ℕ). IsAnswer format why basis (record { name = asked.name; rtype = t }) outcome.status (string_bytes outcome.text)) types
       (subst (λ (n : Labels). IsAnswer format why basis (record { name = n; rtype = rtype }) outcome.status (string_bytes outcome.text)) names (inl (may, judged)))

@@ -2,6 +2,7 @@
 pub mod Answers
 pub mod Listed
 pub mod OneCapture
+pub mod OneCompact
 pub mod OneFault
 pub mod OneRequest
 pub mod OneText

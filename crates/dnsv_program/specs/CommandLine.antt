@@ -21,6 +21,8 @@ use Rattle.dnsv_program.specs.CommandLine.Commands.{program_app}
 use Rattle.dnsv_program.specs.CommandLine.Moment.{last_moment}
 use Rattle.dnsv_program.specs.declared.command_line.request.Asking.{Asking}
 use Rattle.dnsv_program.specs.declared.command_line.request.Asking.TheVariants as asking
+use Rattle.dnsv_program.specs.declared.command_line.request.Listing.{Listing}
+use Rattle.dnsv_program.specs.declared.command_line.request.Listing.TheVariants as listing
 use Rattle.dnsv_program.specs.declared.command_line.request.Request.{Request}
 use Rattle.dnsv_program.specs.declared.command_line.request.Request.TheVariants as request
 use Rattle.dnsv_texts.specs.declared.format.Format.{Format}
@@ -46,6 +48,13 @@ abbrev pub format_said : Bool → Format
 format_said false = Lines
 format_said true = Json
 
+-- which list is asked for, by whether each flag was given: `--all`, and `--compact`; both ask for none
+abbrev pub listing_said : Bool → Bool → Option Listing
+listing_said false false = Some listing.Open
+listing_said false true = Some listing.Compact
+listing_said true false = Some listing.All
+listing_said true true = None
+
 -- the values ask for a question by its name and its type, or for each of a file
 abbrev pub AsksFor : List Row → Asking → Type 0
 AsksFor rows (asking.One asked rtype) = (first_of (codes "name") rows ≡ Some (string_bytes asked))
@@ -59,15 +68,20 @@ AsksFor rows (asking.Each questions) = (first_of (codes "name") rows ≡ None)
 abbrev pub IsUnclear : List Row → Type 0
 IsUnclear rows = (asked : Asking) → AsksFor rows asked → ⊥
 
+-- they ask for two lists
+abbrev pub AsksForTwoLists : List Row → Type 0
+AsksForTwoLists rows =
+    listing_said (flag_said (one_of (codes "all") rows)) (flag_said (one_of (codes "compact") rows)) ≡ None
+
 -- a subcommand and the values of its options ask for the request
 abbrev pub Asks : Text → List Row → Request → Type 0
 Asks name rows (request.Show capture) = (name ≡ codes "show")
     × (first_of (codes "capture") rows ≡ Some (string_bytes capture))
-Asks name rows (request.List capture moment statements all format) = (name ≡ codes "list")
+Asks name rows (request.List capture moment statements lists format) = (name ≡ codes "list")
     × (first_of (codes "capture") rows ≡ Some (string_bytes capture))
     × (option_and_then (number_said last_moment) (first_of (codes "moment") rows) ≡ Some moment)
     × (first_of (codes "statements") rows ≡ option_map string_bytes statements)
-    × (flag_said (one_of (codes "all") rows) ≡ all)
+    × (listing_said (flag_said (one_of (codes "all") rows)) (flag_said (one_of (codes "compact") rows)) ≡ Some lists)
     × (format_said (flag_said (one_of (codes "json") rows)) ≡ format)
 Asks name rows (request.Check capture anchors moment asking statements keys macs format why) = (name ≡ question_word why)
     × (first_of (codes "capture") rows ≡ Some (string_bytes capture))
@@ -94,13 +108,15 @@ is_asked kind.DisplayVersion = true
 is_asked _ = false
 
 -- help or the version was asked for, or the words have a mistake, of a kind that the program gives at them; or they have
--- none, and a subcommand for questions isn't told which
+-- none, and a subcommand for questions isn't told which, or two lists are asked for
 abbrev pub IsRefused : List Text → CommandLineError → Type 0
 IsRefused words line.OutOfMemory = ⊤
 IsRefused words line.NotText = ⊥
 IsRefused words line.Unclear = (fault_of program_app words ≡ [])
     × ((why : Bool) × (rows : List Row) × (subcommand_of program_app words ≡ Some (question_word why, rows))
     × IsUnclear rows)
+IsRefused words line.TwoLists = (fault_of program_app words ≡ [])
+    × ((rows : List Row) × (subcommand_of program_app words ≡ Some (codes "list", rows)) × AsksForTwoLists rows)
 IsRefused words (line.Help refusal) =
     (is_asked (kind_of refusal) ≡ true) × IsAmong (kind_of refusal) (fault_of program_app words)
 IsRefused words (line.Misused refusal) =
@@ -125,6 +141,7 @@ abbrev pub command_line_code : CommandLineError → ℕ
 command_line_code line.OutOfMemory = 1
 command_line_code line.NotText = 2
 command_line_code line.Unclear = 2
+command_line_code line.TwoLists = 2
 command_line_code (line.Help refusal) = 0
 command_line_code (line.Misused refusal) = 2
 
@@ -152,7 +169,7 @@ MayHaveNumber option last rows =
 
 abbrev pub HasListValues : List Row → Type 0
 HasListValues rows = HasCapture rows × HasNumber (codes "moment") last_moment rows × IsFlag (one_of (codes "all") rows)
-    × IsFlag (one_of (codes "json") rows)
+    × IsFlag (one_of (codes "compact") rows) × IsFlag (one_of (codes "json") rows)
 
 abbrev pub HasCheckValues : List Row → Type 0
 HasCheckValues rows = HasCapture rows × HasValue (codes "anchors") rows

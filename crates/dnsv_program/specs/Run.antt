@@ -7,6 +7,8 @@ use Rattle.dnsv_chain.specs.declared.anchor.Anchor.{Anchor}
 use Rattle.dnsv_program.specs.declared.opening.Opening.{Opening}
 use Rattle.dnsv_program.specs.declared.opening.Opening.TheVariants.{Plain}
 use Rattle.dnsv_program.specs.declared.command_line.request.Asking.TheVariants as asking
+use Rattle.dnsv_program.specs.declared.command_line.request.Listing.{Listing}
+use Rattle.dnsv_program.specs.declared.command_line.request.Listing.TheVariants as listing
 use Rattle.dnsv_program.specs.declared.command_line.request.Request.{Request}
 use Rattle.dnsv_program.specs.declared.command_line.request.Request.TheVariants as request
 use Rattle.dnsv_program.specs.declared.status.Fault.{Fault}
@@ -24,11 +26,10 @@ use Rattle.dnsv_program.specs.Work.Asking.{AreAnswered, AreFirstAnswered}
 use Rattle.dnsv_program.specs.Work.Checking.{IsCheck, IsStopped}
 use Rattle.dnsv_program.specs.Opening.Given.{IsOpeningOf, IsOpeningReached, IsFaultOfOpening}
 use Rattle.dnsv_program.specs.Files.{Files, IsGiven, octets_or_none}
-use Rattle.dnsv_program.specs.Work.Listing.{IsListing}
+use Rattle.dnsv_program.specs.Work.Listing.{IsListing, IsTodo, lists_all}
 use Rattle.dnsv_program.specs.CommandLine.Question.{IsQuestionRefused, Spells}
 use Rattle.dnsv_program.specs.Work.Showing.{IsShowing}
 use Rattle.dnsv_program.specs.Files.Statements.{IsFaultOfStatements}
-use Rattle.dnsv_program.specs.Work.Listing.{IsTodo}
 
 -- ---- the text
 
@@ -38,15 +39,16 @@ IsAnswered format why asked rtype moment files end text =
     (name : Labels) × Spells asked name × IsQuestion name rtype × IsCheck format why name rtype moment files end text
 
 -- what each signature signs, or what a verifier still has to check
-abbrev pub IsListed : Bool → Format → ℕ → Files → List ℕ → Type 0
-IsListed true format moment files text = IsListing format moment files.capture text
-IsListed false format moment files text = IsTodo format moment files text
+abbrev pub IsListed : Listing → Format → ℕ → Files → List ℕ → Type 0
+IsListed listing.All format moment files text = IsListing format moment files.capture text
+IsListed listing.Open format moment files text = IsTodo listing.Open format moment files text
+IsListed listing.Compact format moment files text = IsTodo listing.Compact format moment files text
 
 -- over these files the request ends so, with this text: in JSON, and with why the verdict stands, where it asks for that
 abbrev pub IsTextAskedFor : Request → Files → Status → List ℕ → Type 0
 IsTextAskedFor (request.Show capture) files end text = (end ≡ Done) × IsShowing files.capture text
-IsTextAskedFor (request.List capture moment statements all format) files end text =
-    (end ≡ Done) × IsListed all format moment files text
+IsTextAskedFor (request.List capture moment statements lists format) files end text =
+    (end ≡ Done) × IsListed lists format moment files text
 IsTextAskedFor (request.Check capture anchors moment (asking.One asked rtype) statements keys macs format why) files end text =
     IsAnswered format why (string_bytes asked) rtype.0 moment files end text
 IsTextAskedFor (request.Check capture anchors moment (asking.Each questions) statements keys macs format why) files end text =
@@ -55,14 +57,14 @@ IsTextAskedFor (request.Check capture anchors moment (asking.Each questions) sta
 -- the request asks many questions
 abbrev pub AsksMany : Request → Type 0
 AsksMany (request.Show capture) = ⊥
-AsksMany (request.List capture moment statements all format) = ⊥
+AsksMany (request.List capture moment statements lists format) = ⊥
 AsksMany (request.Check capture anchors moment (asking.One asked rtype) statements keys macs format why) = ⊥
 AsksMany (request.Check capture anchors moment (asking.Each questions) statements keys macs format why) = Unit {0}
 
 -- the request asks many questions, at this moment, in this format, and this says whether it asks why
 abbrev pub IsManyAsked : Request → Format → Bool → ℕ → Type 0
 IsManyAsked (request.Show capture) format why moment = ⊥
-IsManyAsked (request.List capture at statements all form) format why moment = ⊥
+IsManyAsked (request.List capture at statements lists form) format why moment = ⊥
 IsManyAsked (request.Check capture anchors at (asking.One asked rtype) statements keys macs form whether) format why moment = ⊥
 IsManyAsked (request.Check capture anchors at (asking.Each questions) statements keys macs form whether) format why moment =
     (format ≡ form) × (why ≡ whether) × (moment ≡ at)
@@ -70,8 +72,8 @@ IsManyAsked (request.Check capture anchors at (asking.Each questions) statements
 -- what is written at most: of many questions the text of some, from the first on, and else the whole text
 abbrev pub IsTextOfFirst : Request → Files → List ℕ → Type 0
 IsTextOfFirst (request.Show capture) files text = (end : Status) × IsTextAskedFor (request.Show capture) files end text
-IsTextOfFirst (request.List capture moment statements all format) files text =
-    (end : Status) × IsTextAskedFor (request.List capture moment statements all format) files end text
+IsTextOfFirst (request.List capture moment statements lists format) files text =
+    (end : Status) × IsTextAskedFor (request.List capture moment statements lists format) files end text
 IsTextOfFirst (request.Check capture anchors moment (asking.One asked rtype) statements keys macs format why) files text =
     (end : Status) × IsAnswered format why (string_bytes asked) rtype.0 moment files end text
 IsTextOfFirst (request.Check capture anchors moment (asking.Each questions) statements keys macs format why) files text =
@@ -122,7 +124,7 @@ IsFaultOfQuestion asked rtype _ = ⊥
 -- the request asks a question, which is refused so
 abbrev pub AsksRefused : Request → Fault → Type 0
 AsksRefused (request.Show capture) fault = ⊥
-AsksRefused (request.List capture moment statements all format) fault = ⊥
+AsksRefused (request.List capture moment statements lists format) fault = ⊥
 AsksRefused (request.Check capture anchors moment (asking.One asked rtype) statements keys macs format why) fault =
     IsFaultOfQuestion (string_bytes asked) rtype.0 fault
 AsksRefused (request.Check capture anchors moment (asking.Each questions) statements keys macs format why) fault = ⊥
@@ -147,7 +149,7 @@ IsFirstFaultOfEach moment files fault =
 -- the first fault, in the order of the work
 abbrev pub IsFirstFault : Request → Files → Fault → Type 0
 IsFirstFault (request.Show capture) files fault = IsFaultOfCapture AnyMessage Plain files.capture fault
-IsFirstFault (request.List capture moment statements all format) files fault = IsFirstFaultOfList all files fault
+IsFirstFault (request.List capture moment statements lists format) files fault = IsFirstFaultOfList (lists_all lists) files fault
 IsFirstFault (request.Check capture anchors moment (asking.One asked rtype) statements keys macs format why) files fault =
     IsFirstFaultOfCheck (string_bytes asked) rtype.0 moment files fault
 IsFirstFault (request.Check capture anchors moment (asking.Each questions) statements keys macs format why) files fault =
@@ -198,7 +200,7 @@ IsReachedByEach moment files file =
 -- The request reads the file, which is given, and what comes before it in the order of the work is in order.
 abbrev pub IsReached : Request → Files → InputFile → Type 0
 IsReached (request.Show capture) files file = IsCaptureReached file
-IsReached (request.List capture moment statements all format) files file = IsReachedByList all files file
+IsReached (request.List capture moment statements lists format) files file = IsReachedByList (lists_all lists) files file
 IsReached (request.Check capture anchors moment (asking.One asked rtype) statements keys macs format why) files file =
     IsReachedByCheck (string_bytes asked) rtype.0 moment files file
 IsReached (request.Check capture anchors moment (asking.Each questions) statements keys macs format why) files file =

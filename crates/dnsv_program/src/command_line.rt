@@ -4,9 +4,9 @@ ghost use Rattle.std.specs.IoError.{error_kind as io_error_kind};
 ghost use Rattle.std.specs.Option.{option_map};
 ghost use Rattle.clap.specs.Words.{first_of, found_of, one_of, rows_of};
 ghost use Rattle.dnsv_texts.specs.Checking.{question_word};
-ghost use Rattle.dnsv_program.specs.CommandLine.{Asks, AsksFor, HasCapture, HasCheckValues, HasListValues, HasNumber, HasValue, IsUnclear, MayHaveNumber};
-ghost use Rattle.dnsv_program.specs.CommandLine.{IsAccepted, IsFlag, IsRefused, command_line_code, command_line_error, flag_said, format_said, number_said, words_error};
-ghost use Rattle.dnsv_program.specs.declared.command_line.CommandLineError.TheVariants.{OutOfMemory, Unclear};
+ghost use Rattle.dnsv_program.specs.CommandLine.{Asks, AsksFor, AsksForTwoLists, HasCapture, HasCheckValues, HasListValues, HasNumber, HasValue, IsUnclear, MayHaveNumber};
+ghost use Rattle.dnsv_program.specs.CommandLine.{IsAccepted, IsFlag, IsRefused, command_line_code, command_line_error, flag_said, format_said, listing_said, number_said, words_error};
+ghost use Rattle.dnsv_program.specs.declared.command_line.CommandLineError.TheVariants.{OutOfMemory, TwoLists, Unclear};
 
 pub mod commands;
 pub mod moment;
@@ -15,7 +15,7 @@ pub mod request;
 
 use crate::command_line::commands::program;
 use crate::command_line::moment::Moment;
-use crate::command_line::request::{Asking, Request};
+use crate::command_line::request::{Asking, Listing, Request};
 use clap::ArgMatches;
 use clap::error::ErrorKind;
 use dnsv_names::RecordType;
@@ -43,6 +43,9 @@ pub enum CommandLineError {
     /// The words ask for no question, or for one and for many.
     #[error("error: a question is --name and --type, and many are --questions\n")]
     Unclear,
+    /// The words ask for two lists.
+    #[error("error: a list is --all or --compact\n")]
+    TwoLists,
 }
 
 impl CommandLineError {
@@ -53,8 +56,10 @@ impl CommandLineError {
         match self {
             CommandLineError::OutOfMemory => 1,
             CommandLineError::Help(_) => 0,
-            CommandLineError::NotText | CommandLineError::Misused(_) | CommandLineError::Unclear =>
-                2,
+            CommandLineError::NotText
+            | CommandLineError::Misused(_)
+            | CommandLineError::Unclear
+            | CommandLineError::TwoLists => 2,
         }
     }
 }
@@ -94,10 +99,10 @@ impl From<clap::Error> for CommandLineError {
 /// Reads the words of the command line, of which the first is the program's name.
 ///
 /// Whatever `clap` takes for the commands `show --capture FILE`,
-/// `list --capture FILE --moment N [--statements FILE] [--all] [--json]` and
+/// `list --capture FILE --moment N [--statements FILE] [--all | --compact] [--json]` and
 /// `check --capture FILE --anchors FILE --moment N` with `[--statements FILE]`, `[--keys FILE]`, `[--macs FILE]`,
 /// `[--json]` and either `--name NAME --type N` or `--questions FILE`, and for `explain` with the words of `check`, is a
-/// request. Each error is one that `clap` gives there, or that neither or more than one of the two was given, or the want
+/// request. Each error is one that `clap` gives there, or that neither or more than one of such two was given, or the want
 /// of memory.
 pub fn read_command_line<S: AsStr>(alloc: Global, words: &[S]) -> Result<Request, CommandLineError>
     ensures accepted { IfOk result (λ request. IsAccepted (map S.text words.now) request) }
@@ -108,7 +113,7 @@ pub fn read_command_line<S: AsStr>(alloc: Global, words: &[S]) -> Result<Request
     if name == "show" {
         Ok(show_request(alloc, values)?)
     } else if name == "list" {
-        Ok(list_request(alloc, values)?)
+        list_request(alloc, values)
     } else {
         check_request(alloc, values, name == "explain")
     }
@@ -124,22 +129,40 @@ fn show_request(alloc: Global, show: &ArgMatches<'_>) -> Result<Request, AllocEr
 }
 
 /// The request of the matches of `list`.
-fn list_request(alloc: Global, list: &ArgMatches<'_>) -> Result<Request, AllocError>
+fn list_request(alloc: Global, list: &ArgMatches<'_>) -> Result<Request, CommandLineError>
     requires { HasListValues (rows_of (found_of list.now)) }
-    ensures { IfOk result (Asks (codes "list") (rows_of (found_of list.now))) }
+    ensures asks { IfOk result (Asks (codes "list") (rows_of (found_of list.now))) }
+    ensures refused { IfErr result (λ error. (error ≡ OutOfMemory)
+        ⊎ ((error ≡ TwoLists) × AsksForTwoLists (rows_of (found_of list.now)))) }
 {
+    let listing = listing_asked(list)?;
     let capture = value(alloc, list, "capture")?;
     let moment = Moment::new(number(list, "moment", Moment::LAST)).unwrap();
     let statements = given_value(alloc, list, "statements")?;
-    let all = flag(list, "all");
     let format = format_asked(list);
     Ok(Request::List {
         capture,
         moment,
         statements,
-        all,
+        listing,
         format,
     })
+}
+
+/// What the matches of `list` want listed.
+fn listing_asked(list: &ArgMatches<'_>) -> Result<Listing, CommandLineError>
+    requires all { IsFlag (one_of (codes "all") (rows_of (found_of list.now))) }
+    requires compact { IsFlag (one_of (codes "compact") (rows_of (found_of list.now))) }
+    ensures asks { IfOk result (λ listing. listing_said (flag_said (one_of (codes "all") (rows_of (found_of list.now))))
+        (flag_said (one_of (codes "compact") (rows_of (found_of list.now)))) ≡ Some listing) }
+    ensures refused { IfErr result (λ error. (error ≡ TwoLists) × AsksForTwoLists (rows_of (found_of list.now))) }
+{
+    match (flag(list, "all"), flag(list, "compact")) {
+        (false, false) => Ok(Listing::Open),
+        (false, true) => Ok(Listing::Compact),
+        (true, false) => Ok(Listing::All),
+        (true, true) => Err(CommandLineError::TwoLists),
+    }
 }
 
 /// The request of the matches of `check`, or of `explain`.

@@ -229,7 +229,10 @@ fn refuse<W: Write, E: Write>(
     match error {
         CommandLineError::OutOfMemory => finish(errors, Err(Fault::OutOfMemory)),
         CommandLineError::Help(_) => finish(errors, tell_help(alloc, error, output)),
-        CommandLineError::NotText | CommandLineError::Misused(_) | CommandLineError::Unclear => {
+        CommandLineError::NotText
+        | CommandLineError::Misused(_)
+        | CommandLineError::Unclear
+        | CommandLineError::TwoLists => {
             let code = error.code();
             // Nothing is left to tell where the text itself can't be written.
             let _ = errors.write_fmt(error);

@@ -182,11 +182,14 @@ fn outcome_of<R: Read>(
     match request {
         Request::Show { .. } => Ok(done(show(alloc, inputs, bump)?)),
         Request::List {
-            all,
+            listing,
             moment,
             format,
             ..
-        } => Ok(done(list(alloc, *all, *format, *moment, inputs, bump)?)),
+        } => {
+            let text = list(alloc, *listing, *format, *moment, inputs, bump)?;
+            Ok(done(text))
+        }
         Request::Check {
             asking,
             moment,

@@ -1,5 +1,8 @@
 mod CheckingLemmas
+mod CompactLemmas
+mod CompactTextLemmas
 mod HexLemmas
 mod ListingLemmas
 mod ObjectLemmas
+mod PartLemmas
 pub mod ShowingLemmas

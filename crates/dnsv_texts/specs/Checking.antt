@@ -1,5 +1,5 @@
 -- The text of `check` and of `explain`: a question's verdict, what carries it, and why it stands.
-use Rattle.std.specs.Prelude.{ℕ, Bool, true, false, List, [], ◌∷◌, ◌++◌, Option, Some, None, codes, is_some, map}
+use Rattle.std.specs.Prelude.{ℕ, Bool, true, false, List, [], ◌∷◌, ◌++◌, Option, Some, None, codes, is_none, is_some, map}
 use Rattle.std.specs.Fmt.{decimal}
 use Rattle.std.specs.List.{flat_map}
 use Rattle.dnsv_names.specs.Name.{Labels, lower_case}
@@ -78,14 +78,20 @@ proof_lines rrsets numbers = flat_map (proof_line rrsets) numbers
 abbrev pub todo_lines : List Entry → List ℕ
 todo_lines entries = flat_map todo_line entries
 
+-- entries that are still to be checked are told where they are to be told whole
+abbrev pub if_whole : {X : Type 0} → Bool → List X → List X
+if_whole true told = told
+if_whole false told = []
+
 -- the lines for what carries the verdict
-abbrev pub reason_lines : List ReceivedRrset → Verdict → List ℕ
-reason_lines rrsets verdict = reason_by signature_line (proof_lines rrsets) cut_line todo_lines verdict
+abbrev pub reason_lines : List ReceivedRrset → Verdict → Bool → List ℕ
+reason_lines rrsets verdict whole =
+    reason_by signature_line (proof_lines rrsets) cut_line (λ entries. if_whole whole (todo_lines entries)) verdict
 
 -- the verdict, the aliases that lead to the name where it stands, and what carries it
-abbrev pub verdict_text : Labels → ℕ → List ReceivedRrset → List Link → Verdict → List ℕ
-verdict_text name rtype rrsets links verdict =
-    verdict_line verdict name rtype ++ flat_map alias_line links ++ reason_lines rrsets verdict
+abbrev pub verdict_text : Labels → ℕ → List ReceivedRrset → List Link → Verdict → Bool → List ℕ
+verdict_text name rtype rrsets links verdict whole =
+    verdict_line verdict name rtype ++ flat_map alias_line links ++ reason_lines rrsets verdict whole
 
 -- ---- the object
 
@@ -127,9 +133,9 @@ abbrev pub todo_member : List Entry → List ℕ
 todo_member entries = member (codes "todo") (array (map todo_json entries))
 
 -- the members for what carries the verdict
-abbrev pub reason_members : List ReceivedRrset → Verdict → List (List ℕ)
-reason_members rrsets verdict = reason_by signature_members (λ numbers. proof_member rrsets numbers ∷ [])
-    (λ cut. cut_member cut ∷ []) (λ entries. todo_member entries ∷ []) verdict
+abbrev pub reason_members : List ReceivedRrset → Verdict → Bool → List (List ℕ)
+reason_members rrsets verdict whole = reason_by signature_members (λ numbers. proof_member rrsets numbers ∷ [])
+    (λ cut. cut_member cut ∷ []) (λ entries. if_whole whole (todo_member entries ∷ [])) verdict
 
 -- the members for the question, and for the moment that the verdict speaks of
 abbrev pub question_members : Bool → Labels → ℕ → ℕ → List (List ℕ)
@@ -144,14 +150,19 @@ verdict_members why name rtype moment status verdict =
     ++ member (codes "verdict") (quoted (verdict_word verdict)) ∷ member (codes "status") (decimal status) ∷ []
 
 -- the same as the text of lines, in JSON, and why the verdict stands, where that is told
-abbrev pub verdict_json : Labels → ℕ → ℕ → ℕ → List ReceivedRrset → List Link → Verdict → Option (List Line) → List ℕ
-verdict_json name rtype moment status rrsets links verdict why = object_line (verdict_members (is_some why) name rtype moment status verdict
-    ++ member (codes "aliases") (array (map alias_json links)) ∷ (reason_members rrsets verdict ++ why_members why))
+abbrev pub verdict_json : Labels → ℕ → ℕ → ℕ → List ReceivedRrset → List Link → Verdict → Option (List Line) → Option (List ℕ) → List ℕ
+verdict_json name rtype moment status rrsets links verdict why numbers =
+    object_line (verdict_members (is_some why) name rtype moment status verdict
+    ++ member (codes "aliases") (array (map alias_json links))
+    ∷ (reason_members rrsets verdict (is_none numbers) ++ why_members why numbers))
 
--- lines, or JSON: behind the verdict and what carries it why it stands, where that is told
-abbrev pub check_text : Format → Labels → ℕ → ℕ → ℕ → List ReceivedRrset → List Link → Verdict → Option (List Line) → List ℕ
-check_text Lines name rtype moment status rrsets links verdict why = verdict_text name rtype rrsets links verdict ++ why_lines why
-check_text Json name rtype moment status rrsets links verdict why = verdict_json name rtype moment status rrsets links verdict why
+-- Lines, or JSON: behind the verdict and what carries it why it stands, where that is told. Entries that are still to be
+-- checked are told whole, or by their numbers in a list, where these are given.
+abbrev pub check_text : Format → Labels → ℕ → ℕ → ℕ → List ReceivedRrset → List Link → Verdict → Option (List Line) → Option (List ℕ) → List ℕ
+check_text Lines name rtype moment status rrsets links verdict why numbers =
+    verdict_text name rtype rrsets links verdict (is_none numbers) ++ why_lines why numbers
+check_text Json name rtype moment status rrsets links verdict why numbers =
+    verdict_json name rtype moment status rrsets links verdict why numbers
 
 -- ---- what is added for a part of it, to lines or behind other members
 
@@ -167,10 +178,10 @@ abbrev pub cut_text : Format → Labels → List ℕ
 cut_text Lines cut = cut_line cut
 cut_text Json cut = parted false (cut_member cut ∷ [])
 
-abbrev pub entries_text : Format → List Entry → List ℕ
-entries_text Lines entries = todo_lines entries
-entries_text Json entries = parted false (todo_member entries ∷ [])
+abbrev pub entries_text : Bool → Format → List Entry → List ℕ
+entries_text whole Lines entries = if_whole whole (todo_lines entries)
+entries_text whole Json entries = parted false (if_whole whole (todo_member entries ∷ []))
 
-abbrev pub reason_text : Format → List ReceivedRrset → Verdict → List ℕ
-reason_text format rrsets verdict =
-    reason_by (signature_text format) (proof_text format rrsets) (cut_text format) (entries_text format) verdict
+abbrev pub reason_text : Format → List ReceivedRrset → Verdict → Bool → List ℕ
+reason_text format rrsets verdict whole =
+    reason_by (signature_text format) (proof_text format rrsets) (cut_text format) (entries_text whole format) verdict

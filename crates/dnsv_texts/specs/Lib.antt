@@ -1,7 +1,9 @@
 pub mod Checking
+pub mod Compact
 pub mod Hex
 pub mod Json
 pub mod Listing
+pub mod Parts
 pub mod Refused
 pub mod Showing
 pub mod Todo

@@ -9,8 +9,9 @@ use Rattle.dnsv_canonical.specs.Rrsets.{ReceivedRrset}
 use Rattle.dnsv_canonical.specs.SignedData.{IsSignedData}
 use Rattle.dnsv_texts.specs.declared.format.Format.{Format}
 use Rattle.dnsv_texts.specs.declared.format.Format.TheVariants.{Json, Lines}
-use Rattle.dnsv_lines.specs.Json.{array, member, object, parted, quoted}
+use Rattle.dnsv_lines.specs.Json.{array, member, object, quoted}
 use Rattle.dnsv_texts.specs.Json.{object_line, octets_json}
+use Rattle.dnsv_texts.specs.Parts.{part}
 
 -- ---- what is listed
 
@@ -67,5 +68,4 @@ listing_text Json moment listed = object_line (member (codes "command") (quoted 
 
 -- a part of either: behind others, or as the first
 abbrev pub listed_part : Format → Bool → List SignedOctets → List ℕ
-listed_part Lines first listed = flat_map data_line listed
-listed_part Json first listed = parted first (map data_json listed)
+listed_part format first listed = part data_line data_json format first listed

@@ -36,6 +36,9 @@ pub fn question_word(why: bool) -> &'static str
 
 /// The text of a report, and of why its verdict stands, where the lines are given that say it: in lines, or in JSON. The
 /// error is that memory ran out.
+///
+/// Where numbers are given, entries that are still to be checked aren't told whole: the first has the first of these
+/// numbers, and lines that speak of one tell that.
 pub fn check_text(
     alloc: Global,
     format: Format,
@@ -43,14 +46,16 @@ pub fn check_text(
     rrsets: &[Rrset<'_>],
     report: &Report<'_>,
     why: Option<&[Line]>,
+    numbers: Option<&[usize]>,
 ) -> Result<String, AllocError>
     ensures { IfOk result (λ text. string_bytes text
         ≡ specs.check_text format heading.now.name.now heading.now.rtype.0 heading.now.moment heading.now.status
-        rrsets.now report.now.links report.now.verdict (option_map (λ lines. lines.now) why.entry)) }
+        rrsets.now report.now.links report.now.verdict (option_map (λ lines. lines.now) why.entry)
+        (option_map (λ numbers. numbers.now) numbers.entry)) }
 {
     match format {
-        Format::Lines => verdict_lines(alloc, heading, rrsets, report, why),
-        Format::Json => verdict_json(alloc, heading, rrsets, report, why),
+        Format::Lines => verdict_lines(alloc, heading, rrsets, report, why, numbers),
+        Format::Json => verdict_json(alloc, heading, rrsets, report, why, numbers),
     }
 }
 
@@ -61,13 +66,16 @@ fn verdict_lines(
     rrsets: &[Rrset<'_>],
     report: &Report<'_>,
     why: Option<&[Line]>,
+    numbers: Option<&[usize]>,
 ) -> Result<String, AllocError>
     ensures { IfOk result (λ text. string_bytes text
         ≡ specs.check_text Lines heading.now.name.now heading.now.rtype.0 heading.now.moment heading.now.status
-        rrsets.now report.now.links report.now.verdict (option_map (λ lines. lines.now) why.entry)) }
+        rrsets.now report.now.links report.now.verdict (option_map (λ lines. lines.now) why.entry)
+        (option_map (λ numbers. numbers.now) numbers.entry)) }
 {
-    let mut text = verdict_text(alloc, heading.name, heading.rtype, rrsets, report)?;
-    push_why(&mut text, why)?;
+    let whole = numbers.is_none();
+    let mut text = verdict_text(alloc, heading.name, heading.rtype, rrsets, report, whole)?;
+    push_why(&mut text, why, numbers)?;
     Ok(text)
 }
 
@@ -78,14 +86,15 @@ fn verdict_text(
     rtype: RecordType,
     rrsets: &[Rrset<'_>],
     report: &Report<'_>,
+    whole: bool,
 ) -> Result<String, AllocError>
     ensures { IfOk result (λ text. string_bytes text
-        ≡ specs.verdict_text name.now rtype.0 rrsets.now report.now.links report.now.verdict) }
+        ≡ specs.verdict_text name.now rtype.0 rrsets.now report.now.links report.now.verdict whole) }
 {
     let mut text = String::new(alloc);
     push_verdict(&mut text, &report.verdict, name, rtype)?;
     push_aliases(&mut text, report.links.as_slice())?;
-    push_reason(&mut text, Format::Lines, rrsets, &report.verdict)?;
+    push_reason(&mut text, Format::Lines, rrsets, &report.verdict, whole)?;
     Ok(text)
 }
 

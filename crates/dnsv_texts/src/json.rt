@@ -3,6 +3,7 @@ ghost use Rattle.std.specs.Prelude.{◌≡◌, ◌++◌, OnOk, string_bytes};
 ghost use Rattle.dnsv_texts.specs.Json.{octets_json};
 
 pub mod checking;
+pub mod compact;
 pub mod explaining;
 pub mod refused;
 pub mod todo;

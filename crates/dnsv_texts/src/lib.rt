@@ -5,6 +5,7 @@
 #![tactic(auto)]
 
 pub use checking::{Heading, check_text, question_word};
+pub use compact::compact_text;
 pub use format::Format;
 pub use listing::listing_text;
 pub use refused::refused_text;
@@ -12,11 +13,13 @@ pub use showing::push_message;
 pub use todo::todo_text;
 
 mod checking;
+mod compact;
 mod explaining;
 mod format;
 mod hex_text;
 mod json;
 mod listing;
+mod numbering;
 mod reason;
 mod refused;
 mod showing;

@@ -10,15 +10,17 @@ use dnsv_verdict::Verdict;
 use dnsv_verifier::Entries;
 use std::alloc::AllocError;
 
-/// Adds what carries the verdict: its lines, or in JSON its members behind others.
+/// Adds what carries the verdict: its lines, or in JSON its members behind others. Entries that are still to be checked
+/// are told where they are to be told whole.
 pub fn push_reason(
     text: &mut String,
     format: Format,
     rrsets: &[Rrset<'_>],
     verdict: &Verdict<'_>,
+    whole: bool,
 ) -> Result<(), AllocError>
     ensures { OnOk result (string_bytes text.new
-        ≡ string_bytes text.old ++ reason_text format rrsets.now verdict.now) }
+        ≡ string_bytes text.old ++ reason_text format rrsets.now verdict.now whole) }
 {
     match verdict {
         Verdict::SecureAnswer { rrset, signature } | Verdict::SecureAlias { rrset, signature } => {
@@ -28,7 +30,7 @@ pub fn push_reason(
             push_proof(text, format, rrsets, proof.records())
         }
         Verdict::Insecure(cut) => push_cut(text, format, cut),
-        Verdict::Pending(entries) => push_entries(text, format, entries),
+        Verdict::Pending(entries) => push_entries(text, format, entries, whole),
         Verdict::Bogus | Verdict::Indeterminate => Ok(()),
     }
 }
@@ -74,10 +76,18 @@ fn push_cut(text: &mut String, format: Format, cut: &Name) -> Result<(), AllocEr
     }
 }
 
-/// Adds the entries that are still to be checked.
-fn push_entries(text: &mut String, format: Format, entries: &Entries<'_>) -> Result<(), AllocError>
-    ensures { OnOk result (string_bytes text.new ≡ string_bytes text.old ++ entries_text format entries.now) }
+/// Adds the entries that are still to be checked, where they are to be told whole.
+fn push_entries(
+    text: &mut String,
+    format: Format,
+    entries: &Entries<'_>,
+    whole: bool,
+) -> Result<(), AllocError>
+    ensures { OnOk result (string_bytes text.new ≡ string_bytes text.old ++ entries_text whole format entries.now) }
 {
+    if !whole {
+        return Ok(());
+    }
     match format {
         Format::Lines => todo::push_entries(text, entries),
         Format::Json => json::checking::push_todo(text, entries),

@@ -14,7 +14,7 @@ use Rattle.clap.specs.Takes.{is_given, value_passes}
 use Rattle.clap.specs.Values.{read_as}
 use Rattle.clap.specs.Walk.{Row, Rule, first_of, one_of, reading_by}
 use Rattle.dnsv_program.proofs.CommandLineLemmas.Rows.{AreRowsIn, IsIn, IsRowIn, IsRowOf, StartsPassing}
-use Rattle.dnsv_program.specs.CommandLine.Commands.{all_rule, anchors_rule, capture_rule, json_rule, list_app, moment_rule, program_app, question_app, show_app, type_rule}
+use Rattle.dnsv_program.specs.CommandLine.Commands.{all_rule, anchors_rule, capture_rule, compact_rule, json_rule, list_app, moment_rule, program_app, question_app, show_app, type_rule}
 use Rattle.dnsv_program.specs.CommandLine.{HasCapture, HasCheckValues, HasListValues, HasNumber, IsFlag, MayHaveNumber}
 use Rattle.dnsv_program.specs.CommandLine.Moment.{last_moment}
 
@@ -139,6 +139,9 @@ built_moment = filled moment_rule
 abbrev built_all : Rule
 built_all = filled all_rule
 
+abbrev built_compact : Rule
+built_compact = filled compact_rule
+
 abbrev built_json : Rule
 built_json = filled json_rule
 
@@ -184,6 +187,15 @@ all_has rows only all = go (find (λ r. bytes_eq r.id (codes "all")) rows) refl
         let value = value_found list_shape (codes "all") built_all rows r only all is in
         subst IsFlag (sym value.2) (flag_text value.0 value.3)
 
+compact_has : (rows : List Row) → IsOnly list_shape.rules (codes "compact") built_compact → AreRowsIn list_shape.rules rows → IsFlag (one_of (codes "compact") rows)
+compact_has rows only all = go (find (λ r. bytes_eq r.id (codes "compact")) rows) refl
+  where
+    go : (o : Option Row) → find (λ r. bytes_eq r.id (codes "compact")) rows ≡ o → IsFlag (one_of (codes "compact") rows)
+    go None is = inl (rw is refl)
+    go (Some r) is =
+        let value = value_found list_shape (codes "compact") built_compact rows r only all is in
+        subst IsFlag (sym value.2) (flag_text value.0 value.3)
+
 json_has : (s : Shape) (rows : List Row) → IsOnly s.rules (codes "json") built_json → AreRowsIn s.rules rows → IsFlag (one_of (codes "json") rows)
 json_has s rows only all = go (find (λ r. bytes_eq r.id (codes "json")) rows) refl
   where
@@ -195,12 +207,13 @@ json_has s rows only all = go (find (λ r. bytes_eq r.id (codes "json")) rows) r
 
 pub list_values : (rows : List Row) → AreRowsIn list_shape.rules rows → check_fault list_shape rows false ≡ [] → HasListValues rows
 list_values rows all fault =
-    let file = required_value list_shape built_capture rows (λ e. refl, (λ e. cc, (λ e. cc, (λ e. cc, (λ e. cc, (λ e. cc, tt)))))) (inl refl) refl refl all fault in
-    let number = required_value list_shape built_moment rows (λ e. cc, (λ e. refl, (λ e. cc, (λ e. cc, (λ e. cc, (λ e. cc, tt)))))) (inr (inl refl)) refl refl all fault in (
+    let file = required_value list_shape built_capture rows (λ e. refl, (λ e. cc, (λ e. cc, (λ e. cc, (λ e. cc, (λ e. cc, (λ e. cc, tt))))))) (inl refl) refl refl all fault in
+    let number = required_value list_shape built_moment rows (λ e. cc, (λ e. refl, (λ e. cc, (λ e. cc, (λ e. cc, (λ e. cc, (λ e. cc, tt))))))) (inr (inl refl)) refl refl all fault in (
       ap is_some file.1,
       moment_has rows number,
-      all_has rows (λ e. cc, (λ e. cc, (λ e. cc, (λ e. refl, (λ e. cc, (λ e. cc, tt)))))) all,
-      json_has list_shape rows (λ e. cc, (λ e. cc, (λ e. cc, (λ e. cc, (λ e. refl, (λ e. cc, tt)))))) all,
+      all_has rows (λ e. cc, (λ e. cc, (λ e. cc, (λ e. refl, (λ e. cc, (λ e. cc, (λ e. cc, tt))))))) all,
+      compact_has rows (λ e. cc, (λ e. cc, (λ e. cc, (λ e. cc, (λ e. refl, (λ e. cc, (λ e. cc, tt))))))) all,
+      json_has list_shape rows (λ e. cc, (λ e. cc, (λ e. cc, (λ e. cc, (λ e. cc, (λ e. refl, (λ e. cc, tt))))))) all,
     )
 
 check_capture : (why : Bool) (rows : List Row) → AreRowsIn (question_shape why).rules rows → check_fault (question_shape why) rows false ≡ [] → HasValueOf built_capture built_capture.id rows

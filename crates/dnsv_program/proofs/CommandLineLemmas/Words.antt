@@ -32,7 +32,7 @@ use Rattle.dnsv_program.proofs.CommandLineLemmas.Walks.{AllLeaveValues, level_in
 use Rattle.clap.proofs.ValueTestLemmas.{accepts-Accepts}
 use Rattle.dnsv_texts.specs.Checking.{question_word}
 use Rattle.dnsv_program.specs.CommandLine.Commands.{program_app}
-use Rattle.dnsv_program.specs.CommandLine.{Asks, HasCapture, HasCheckValues, HasListValues, IsAccepted, IsFlag, IsRefused, IsUnclear, error_of_kind, flag_said, command_line_error, is_asked, number_said}
+use Rattle.dnsv_program.specs.CommandLine.{Asks, AsksForTwoLists, HasCapture, HasCheckValues, HasListValues, IsAccepted, IsFlag, IsRefused, IsUnclear, error_of_kind, flag_said, command_line_error, is_asked, number_said}
 use Rattle.std.specs.Option.{SomeIff}
 use Rattle.dnsv_program.specs.CommandLine.Moment.{IsMoment}
 
@@ -190,6 +190,13 @@ pub unclear_as : (r : Result Request CommandLineError) (words : List Text) (why 
 unclear_as (Ok request) words why rows none met told = tt
 unclear_as (Err error) words why rows none met (inl memory) = subst (IsRefused words) (sym memory) tt
 unclear_as (Err error) words why rows none met (inr unclear) = subst (IsRefused words) (sym unclear.0) (none, (why, rows, met, unclear.1))
+
+pub two_lists_as : (r : Result Request CommandLineError) (words : List Text) (rows : List Row) → fault_of program_app words ≡ []
+    → subcommand_of program_app words ≡ Some (codes "list", rows)
+    → IfErr r (λ error. (error ≡ line.OutOfMemory) ⊎ ((error ≡ line.TwoLists) × AsksForTwoLists rows)) → IfErr r (IsRefused words)
+two_lists_as (Ok request) words rows none met told = tt
+two_lists_as (Err error) words rows none met (inl memory) = subst (IsRefused words) (sym memory) tt
+two_lists_as (Err error) words rows none met (inr two) = subst (IsRefused words) (sym two.0) (none, (rows, met, two.1))
 
 -- a subcommand of that name with these rows stands in the words, and has its values
 pub record Sees (words : List Text) (name : Text) (rows : List Row) : Type 0 where

@@ -13,6 +13,8 @@ use Rattle.dnsv_chain.specs.declared.anchor.Anchor.{Anchor}
 use Rattle.dnsv_program.specs.declared.opening.Opening.{Opening}
 use Rattle.dnsv_program.specs.declared.opening.Opening.TheVariants.{Plain, Signed}
 use Rattle.dnsv_program.specs.declared.command_line.request.Asking.TheVariants as asking
+use Rattle.dnsv_program.specs.declared.command_line.request.Listing.{Listing}
+use Rattle.dnsv_program.specs.declared.command_line.request.Listing.TheVariants as listing
 use Rattle.dnsv_program.specs.declared.command_line.request.Request.{Request}
 use Rattle.dnsv_program.specs.declared.command_line.request.Request.TheVariants as request
 use Rattle.dnsv_program.specs.declared.status.Fault.{Fault}
@@ -175,9 +177,9 @@ module _ (laws : LayerLaws) where
 
     -- ---- files with a text
 
-    todo_stands : (format : Format) (moment : ℕ) (text : List ℕ) (told : Fault) → IsTodo format moment files text → IsFirstFaultOfTodo files told → ⊥
-    todo_stands format moment text told x (inl captured) = holding_stands Plain x.messages told x.holds captured
-    todo_stands format moment text told x (inr stated) = no_statements_fault (octets_or_none files.statements) x.meaning told x.said stated.1
+    todo_stands : (lists : Listing) (format : Format) (moment : ℕ) (text : List ℕ) (told : Fault) → IsTodo lists format moment files text → IsFirstFaultOfTodo files told → ⊥
+    todo_stands lists format moment text told x (inl captured) = holding_stands Plain x.messages told x.holds captured
+    todo_stands lists format moment text told x (inr stated) = no_statements_fault (octets_or_none files.statements) x.meaning told x.said stated.1
 
     -- a question with a verdict isn't refused
     verdict_stands : (format : Format) (why : Bool) (name : Labels) (rtype moment : ℕ) (end : Status) (text : List ℕ) → IsCheck format why name rtype moment files end text
@@ -201,8 +203,9 @@ module _ (laws : LayerLaws) where
   pub text_stands : (asked : Request) (files : Files) → AreOctets files.capture → (end : Status) (text : List ℕ) (told : Fault)
       → IsTextAskedFor asked files end text → IsFirstFault asked files told → ⊥
   text_stands (request.Show capture) files are end text told x bad = no_capture_fault laws AnyMessage Plain files.capture are x.1.0 told x.1.1 bad
-  text_stands (request.List capture moment statements true format) files are end text told x bad = no_capture_fault laws NewEvidence Plain files.capture are x.1.0 told x.1.1 bad
-  text_stands (request.List capture moment statements false format) files are end text told x bad = todo_stands files are format moment text told x.1 bad
+  text_stands (request.List capture moment statements listing.All format) files are end text told x bad = no_capture_fault laws NewEvidence Plain files.capture are x.1.0 told x.1.1 bad
+  text_stands (request.List capture moment statements listing.Open format) files are end text told x bad = todo_stands files are listing.Open format moment text told x.1 bad
+  text_stands (request.List capture moment statements listing.Compact format) files are end text told x bad = todo_stands files are listing.Compact format moment text told x.1 bad
   text_stands (request.Check capture anchors moment (asking.One asked rtype) statements keys macs format why) files are end text told x bad =
       answer_stands files are format why (string_bytes asked) rtype.0 moment end text told x bad
   text_stands (request.Check capture anchors moment (asking.Each questions) statements keys macs format why) files are end text told x (inl bad) =
@@ -213,8 +216,9 @@ module _ (laws : LayerLaws) where
   -- files have one first fault
   pub one_first_fault : (asked : Request) (files : Files) → AreOctets files.capture → (a b : Fault) → IsFirstFault asked files a → IsFirstFault asked files b → a ≡ b
   one_first_fault (request.Show capture) files are a b x y = one_capture_fault laws AnyMessage Plain files.capture are a b x y
-  one_first_fault (request.List capture moment statements true format) files are a b x y = one_capture_fault laws NewEvidence Plain files.capture are a b x y
-  one_first_fault (request.List capture moment statements false format) files are a b x y = one_todo_fault files are a b x y
+  one_first_fault (request.List capture moment statements listing.All format) files are a b x y = one_capture_fault laws NewEvidence Plain files.capture are a b x y
+  one_first_fault (request.List capture moment statements listing.Open format) files are a b x y = one_todo_fault files are a b x y
+  one_first_fault (request.List capture moment statements listing.Compact format) files are a b x y = one_todo_fault files are a b x y
   one_first_fault (request.Check capture anchors moment (asking.One asked rtype) statements keys macs format why) files are a b x y =
       one_fault_of_check files are (string_bytes asked) rtype.0 moment a b x y
   one_first_fault (request.Check capture anchors moment (asking.Each questions) statements keys macs format why) files are a b (inl x) (inl y) =

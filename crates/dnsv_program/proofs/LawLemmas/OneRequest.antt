@@ -1,10 +1,11 @@
 -- A request has one text and end for its files.
 use Rattle.std.proofs.Common.{◌≡◌, List, ap, subst, sym, ℕ, ◌∙◌}
-use Rattle.std.specs.Prelude.{false, string_bytes, true}
+use Rattle.std.specs.Prelude.{string_bytes}
 use Rattle.dnsv_names.specs.Octets.{AreOctets}
 use Rattle.dnsv_canonical.specs.Evidence.{evidence_of}
 use Rattle.dnsv_program.specs.declared.opening.Opening.TheVariants.{Plain}
 use Rattle.dnsv_program.specs.declared.command_line.request.Asking.TheVariants as asking
+use Rattle.dnsv_program.specs.declared.command_line.request.Listing.TheVariants as listing
 use Rattle.dnsv_program.specs.declared.command_line.request.Request.{Request}
 use Rattle.dnsv_program.specs.declared.command_line.request.Request.TheVariants as request
 use Rattle.dnsv_program.specs.declared.status.Status.{Status}
@@ -24,12 +25,13 @@ module _ (laws : LayerLaws) where
       → IsTextAskedFor asked files s a → IsTextAskedFor asked files t b → (s ≡ t) × (a ≡ b)
   one_text (request.Show capture) files are s t a b x y =
       (x.0 ∙ sym y.0, x.1.2 ∙ ap (texts_from message_text 1) (one_holding laws AnyMessage Plain files.capture are x.1.0 y.1.0 x.1.1 y.1.1) ∙ sym y.1.2)
-  one_text (request.List capture moment statements true format) files are s t a b x y = (
+  one_text (request.List capture moment statements listing.All format) files are s t a b x y = (
     x.0 ∙ sym y.0,
     x.1.4 ∙ ap (listing_text format moment) (one_list laws 1 (evidence_of x.1.0).rrsets x.1.2 y.1.2 x.1.3
         (subst (λ messages. ListsRrsets 1 (evidence_of messages).rrsets y.1.2) (one_holding laws NewEvidence Plain files.capture are y.1.0 x.1.0 y.1.1 x.1.1) y.1.3)) ∙ sym y.1.4,
   )
-  one_text (request.List capture moment statements false format) files are s t a b x y = (x.0 ∙ sym y.0, one_todo laws format moment files are a b x.1 y.1)
+  one_text (request.List capture moment statements listing.Open format) files are s t a b x y = (x.0 ∙ sym y.0, one_todo laws listing.Open format moment files are a b x.1 y.1)
+  one_text (request.List capture moment statements listing.Compact format) files are s t a b x y = (x.0 ∙ sym y.0, one_todo laws listing.Compact format moment files are a b x.1 y.1)
   one_text (request.Check capture anchors moment (asking.One asked rtype) statements keys macs format why) files are s t a b x y =
       one_answer laws rtype.0 moment files are format why (string_bytes asked) s t a b x y
   one_text (request.Check capture anchors moment (asking.Each questions) statements keys macs format why) files are s t a b x y =

@@ -20,12 +20,15 @@ use Rattle.dnsv_verdict.specs.declared.verdict.Verdict.{Verdict}
 use Rattle.dnsv_explain.specs.Explained.{Explained}
 use Rattle.dnsv_explain.specs.Explanation.{IsExplanation, IsExplanationOf}
 use Rattle.dnsv_lines.specs.declared.line.Line.{Line}
+use Rattle.dnsv_program.specs.declared.command_line.request.Listing.{Listing}
+use Rattle.dnsv_program.specs.declared.command_line.request.Listing.TheVariants as listing
 use Rattle.dnsv_program.specs.declared.opening.Opening.{Opening}
 use Rattle.dnsv_program.specs.declared.opening.Opening.TheVariants.{Plain, Signed}
 use Rattle.dnsv_program.specs.declared.status.Status.{Status}
 use Rattle.dnsv_texts.specs.declared.format.Format.{Format}
 use Rattle.dnsv_program.specs.Files.Capture.{NewEvidence, Holds}
 use Rattle.dnsv_texts.specs.Checking.{check_text}
+use Rattle.dnsv_texts.specs.Compact.{compact_text}
 use Rattle.dnsv_program.specs.Work.Checking.{AreInOrder, IsCheck, IsJudged, IsWhy, basis_in, verdict_status}
 use Rattle.dnsv_program.specs.Opening.Given.{IsOpeningOf}
 use Rattle.dnsv_program.specs.Files.{Files, octets_or_none}
@@ -35,11 +38,11 @@ use Rattle.dnsv_texts.specs.Listing.{ListsRrsets, ListsSignatures, SignedOctets}
 use Rattle.dnsv_program.specs.CommandLine.Question.{Spells}
 use Rattle.dnsv_program.specs.Status.{status_code}
 use Rattle.dnsv_program.specs.Run.{IsAnswered}
-use Rattle.dnsv_texts.specs.Todo.{todo_text}
-use Rattle.dnsv_program.specs.Work.Listing.{IsTodo}
+use Rattle.dnsv_program.specs.Work.Listing.{IsTodo, ListsEntries}
 use Rattle.dnsv_program.proofs.OpeningLemmas.Keys.{same_keys}
 use Rattle.dnsv_program.proofs.OpeningLemmas.Macs.{same_macs}
 use Rattle.dnsv_program.proofs.LawLemmas.OneCapture.{one_holding}
+use Rattle.dnsv_program.proofs.LawLemmas.OneCompact.{one_compact_list}
 use Rattle.dnsv_program.proofs.FileLemmas.Statements.{one_meaning}
 
 module _ (laws : LayerLaws) where
@@ -64,13 +67,24 @@ module _ (laws : LayerLaws) where
 
   -- ---- list
 
-  pub one_todo : (format : Format) (moment : ℕ) (files : Files) → AreOctets files.capture → (a b : List ℕ) → IsTodo format moment files a → IsTodo format moment files b → a ≡ b
-  one_todo format moment files are a b x y =
+  -- entries are listed in one way
+  one_listing : (lists : Listing) (format : Format) (moment : ℕ) (rrsets : List ReceivedRrset) (entries : List Entry) (a b : List ℕ)
+      → ListsEntries lists format moment rrsets entries a → ListsEntries lists format moment rrsets entries b → a ≡ b
+  one_listing listing.Open format moment rrsets entries a b x y = x ∙ sym y
+  one_listing listing.Compact format moment rrsets entries a b x y =
+      x.2 ∙ ap (compact_text format moment) (one_compact_list laws moment rrsets entries x.0 y.0 x.1 y.1) ∙ sym y.2
+  one_listing listing.All format moment rrsets entries a b x y = absurd x
+
+  pub one_todo : (lists : Listing) (format : Format) (moment : ℕ) (files : Files) → AreOctets files.capture → (a b : List ℕ) → IsTodo lists format moment files a → IsTodo lists format moment files b → a ≡ b
+  one_todo lists format moment files are a b x y =
       let messages = one_holding laws NewEvidence Plain files.capture are x.messages y.messages x.holds y.holds in
       let meanings = one_meaning (octets_or_none files.statements) x.meaning y.meaning x.said y.said in
       let first = subst (λ (meaning : Entry → Answer). IsTableOf meaning moment (evidence_of x.messages).rrsets x.table) meanings x.is_table in
       let second = subst (λ messages. IsTableOf y.meaning moment (evidence_of messages).rrsets x.table) messages first in
-      x.lines ∙ ap (λ table. todo_text format moment (unknown_entries table)) (laws.verdicts.one_table y.meaning moment (evidence_of y.messages).rrsets x.table y.table second y.is_table) ∙ sym y.lines
+      let tables = laws.verdicts.one_table y.meaning moment (evidence_of y.messages).rrsets x.table y.table second y.is_table in
+      one_listing lists format moment (evidence_of y.messages).rrsets (unknown_entries y.table) a b
+      (subst (λ messages. ListsEntries lists format moment (evidence_of messages).rrsets (unknown_entries y.table) a) messages
+      (subst (λ table. ListsEntries lists format moment (evidence_of x.messages).rrsets (unknown_entries table) a) tables x.lines)) y.lines
 
   -- ---- check
 
@@ -146,7 +160,7 @@ module _ (laws : LayerLaws) where
         (why_of why basis x.report y.report ways.0 ways.1 ways.2 x.told x.is_told) y.is_told in
         let ends : s ≡ t = x.ends ∙ ap verdict_status ways.2 ∙ sym y.ends in (
           ends,
-          x.lines ∙ (λ i. check_text format name rtype basis.moment (status_code (ends i)) basis.rrsets (ways.0 i) (ways.2 i) (tolds i)) ∙ sym y.lines,
+          x.lines ∙ (λ i. check_text format name rtype basis.moment (status_code (ends i)) basis.rrsets (ways.0 i) (ways.2 i) (tolds i) None) ∙ sym y.lines,
         )
 
     one_check : (format : Format) (why : Bool) (name : Labels) (s t : Status) (a b : List ℕ) → IsCheck format why name rtype moment files s a → IsCheck format why name rtype moment files t b

@@ -22,7 +22,7 @@ pub record AskedAlike (asked : Request) (format : Format) (why : Bool) (moment :
 
 pub asked_alike : (asked : Request) (format : Format) (why : Bool) (moment : ℕ) → IsManyAsked asked format why moment → AskedAlike asked format why moment
 asked_alike (request.Show capture) format why moment is = absurd is
-asked_alike (request.List capture at statements all form) format why moment is = absurd is
+asked_alike (request.List capture at statements lists form) format why moment is = absurd is
 asked_alike (request.Check capture anchors at (asking.One name rtype) statements keys macs form whether) format why moment is = absurd is
 asked_alike (request.Check capture anchors at (asking.Each questions) statements keys macs form whether) format why moment is = record {
   texts = λ files end text holds. rw (is.0, is.1, is.2) at holds;

@@ -81,6 +81,13 @@ all_rule = record (new_rule (codes "all")) {
   action = Some SetTrue;
 }
 
+-- `--compact`, which takes no value
+abbrev pub compact_rule : Rule
+compact_rule = record (new_rule (codes "compact")) {
+  long = Some (codes "compact");
+  action = Some SetTrue;
+}
+
 -- `--json`, which takes no value
 abbrev pub json_rule : Rule
 json_rule = record (new_rule (codes "json")) {
@@ -92,10 +99,10 @@ json_rule = record (new_rule (codes "json")) {
 abbrev pub show_app : App
 show_app = with_rule (new_app (codes "show")) capture_rule
 
--- `list --capture FILE --moment N [--statements FILE] [--all] [--json]`
+-- `list --capture FILE --moment N [--statements FILE] [--all] [--compact] [--json]`
 abbrev pub list_app : App
-list_app = with_rule (with_rule (with_rule (with_rule (with_rule (new_app (codes "list")) capture_rule) moment_rule)
-    statements_rule) all_rule) json_rule
+list_app = with_rule (with_rule (with_rule (with_rule (with_rule (with_rule (new_app (codes "list")) capture_rule)
+    moment_rule) statements_rule) all_rule) compact_rule) json_rule
 
 -- this word, and `--capture FILE --anchors FILE --moment N [--name NAME] [--type N] [--questions FILE]
 -- [--statements FILE] [--keys FILE] [--macs FILE] [--json]`

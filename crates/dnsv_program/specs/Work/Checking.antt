@@ -90,7 +90,7 @@ pub record IsJudged (format : Format) (why : Bool) (basis : Basis) (name : Label
   pub told : Option (List Line)
   pub is_told : IsWhy why basis rtype report told
   pub ends : end ≡ verdict_status report.verdict
-  pub lines : text ≡ check_text format name rtype basis.moment (status_code end) basis.rrsets report.links report.verdict told
+  pub lines : text ≡ check_text format name rtype basis.moment (status_code end) basis.rrsets report.links report.verdict told None
 
 -- the files are in order, and these are the end and the text of the question by what they say
 pub record IsCheck (format : Format) (why : Bool) (name : Labels) (rtype moment : ℕ) (files : Files) (end : Status) (text : List ℕ) : Type 0 where

@@ -1,15 +1,20 @@
 -- What `list` lists over the files: what each signature signs, or what a verifier still has to check.
-use Rattle.std.specs.Prelude.{◌≡◌, ℕ, List}
+use Rattle.std.specs.Prelude.{◌≡◌, ℕ, Bool, true, false, List}
 use Rattle.dnsv_message.specs.Message.{Contents}
 use Rattle.dnsv_canonical.specs.Evidence.{evidence_of}
+use Rattle.dnsv_canonical.specs.Rrsets.{ReceivedRrset}
+use Rattle.dnsv_compact.specs.CompactList.{IsCompactList, ListContents}
 use Rattle.dnsv_verifier.specs.declared.answer.Answer.{Answer}
 use Rattle.dnsv_verifier.specs.declared.entry.Entry.{Entry}
 use Rattle.dnsv_verifier.specs.Table.{IsTableOf, TableContents, unknown_entries}
+use Rattle.dnsv_program.specs.declared.command_line.request.Listing.{Listing}
+use Rattle.dnsv_program.specs.declared.command_line.request.Listing.TheVariants.{All, Compact, Open}
 use Rattle.dnsv_program.specs.declared.opening.Opening.TheVariants.{Plain}
 use Rattle.dnsv_program.specs.Files.Capture.{Holds, NewEvidence}
 use Rattle.dnsv_program.specs.Files.{Files, octets_or_none}
 use Rattle.dnsv_program.specs.Files.Statements.{IsMeaningOf}
 use Rattle.dnsv_texts.specs.declared.format.Format.{Format}
+use Rattle.dnsv_texts.specs.Compact.{compact_text}
 use Rattle.dnsv_texts.specs.Listing.{ListsRrsets, SignedOctets, listing_text}
 use Rattle.dnsv_texts.specs.Todo.{todo_text}
 
@@ -19,13 +24,26 @@ IsListing format moment file text =
     (messages : List Contents) × Holds NewEvidence Plain file messages × (listed : List SignedOctets)
     × ListsRrsets 1 (evidence_of messages).rrsets listed × (text ≡ listing_text format moment listed)
 
+-- whether the signed octets of all signatures are listed, whatever was checked
+abbrev pub lists_all : Listing → Bool
+lists_all Open = false
+lists_all Compact = false
+lists_all All = true
+
+-- the text lists entries that are asked of the RRsets: each whole, or each octet once
+abbrev pub ListsEntries : Listing → Format → ℕ → List ReceivedRrset → List Entry → List ℕ → Type 0
+ListsEntries Open format moment rrsets entries text = text ≡ todo_text format moment entries
+ListsEntries Compact format moment rrsets entries text =
+    (list : ListContents) × IsCompactList moment rrsets entries list × (text ≡ compact_text format moment list)
+ListsEntries All format moment rrsets entries text = ⊥
+
 -- The capture holds messages, each of them evidence besides those before it, and the text has an entry for each
 -- signature that some key of theirs may be used to verify at the moment and of which the statements say nothing.
-pub record IsTodo (format : Format) (moment : ℕ) (files : Files) (text : List ℕ) : Type 0 where
+pub record IsTodo (listing : Listing) (format : Format) (moment : ℕ) (files : Files) (text : List ℕ) : Type 0 where
   pub messages : List Contents
   pub holds : Holds NewEvidence Plain files.capture messages
   pub meaning : Entry → Answer
   pub said : IsMeaningOf (octets_or_none files.statements) meaning
   pub table : TableContents
   pub is_table : IsTableOf meaning moment (evidence_of messages).rrsets table
-  pub lines : text ≡ todo_text format moment (unknown_entries table)
+  pub lines : ListsEntries listing format moment (evidence_of messages).rrsets (unknown_entries table) text

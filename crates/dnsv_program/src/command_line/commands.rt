@@ -2,7 +2,7 @@
 ghost use Rattle.std.specs.Prelude.{◌≡◌, false, true, IfOk};
 ghost use Rattle.clap.specs.Words.{app_of, rule_of};
 ghost use Rattle.clap.specs.declared.Command.TheViews.{out-Command as fields_of};
-ghost use Rattle.dnsv_program.specs.CommandLine.Commands.{all_rule, capture_rule, json_rule, keys_rule, macs_rule, moment_rule, statements_rule};
+ghost use Rattle.dnsv_program.specs.CommandLine.Commands.{all_rule, capture_rule, compact_rule, json_rule, keys_rule, macs_rule, moment_rule, statements_rule};
 ghost use Rattle.dnsv_program.specs.CommandLine.Commands.{anchors_rule, name_rule, questions_rule, type_rule};
 ghost use Rattle.dnsv_program.specs.CommandLine.Commands.{asking_app, list_app, program_app, question_app, show_app};
 
@@ -101,6 +101,7 @@ fn list<'a>(alloc: Global) -> Result<Command<'a>, AllocError>
         .arg(moment_option(alloc))?
         .arg(statements_option(alloc))?
         .arg(all_flag(alloc))?
+        .arg(compact_flag(alloc))?
         .arg(json_flag(alloc))
 }
 
@@ -267,6 +268,17 @@ fn all_flag<'a>(alloc: Global) -> Arg<'a>
     Arg::new(alloc, "all")
         .long("all")
         .help("Lists the signed octets of every signature, whatever was checked")
+        .action(ArgAction::SetTrue)
+}
+
+/// `--compact`
+fn compact_flag<'a>(alloc: Global) -> Arg<'a>
+    ensures rule { rule_of result ≡ compact_rule }
+    ensures local { result.global ≡ false }
+{
+    Arg::new(alloc, "compact")
+        .long("compact")
+        .help("Lists each octet of keys, records and signatures once")
         .action(ArgAction::SetTrue)
 }
 

@@ -24,6 +24,17 @@ pub enum Asking {
     },
 }
 
+/// What a list has.
+#[derive(Clone, Copy, Debug)]
+pub enum Listing {
+    /// The signatures that a verifier still has to check.
+    Open,
+    /// The same, each octet once.
+    Compact,
+    /// The signed octets of each signature of each RRset. No statements are read then.
+    All,
+}
+
 /// What the program is asked to do.
 #[derive(Debug, Drop)]
 pub enum Request {
@@ -39,8 +50,7 @@ pub enum Request {
         moment: Moment,
         /// The path of the file of statements.
         statements: Option<String>,
-        /// List the signed octets of each signature of each RRset. No statements are read then.
-        all: bool,
+        listing: Listing,
         /// How the text is written.
         format: Format,
     },
@@ -94,7 +104,7 @@ impl Request {
         match self {
             Request::List {
                 statements: Some(path),
-                all: false,
+                listing: Listing::Open | Listing::Compact,
                 ..
             }
             | Request::Check {

@@ -1,5 +1,5 @@
 //! How questions are judged, and what the program says of one.
-ghost use Rattle.std.specs.Prelude.{◌≡◌, ◌⊎◌, IfErr, IfOk, List, Option, string_bytes};
+ghost use Rattle.std.specs.Prelude.{◌≡◌, ◌⊎◌, IfErr, IfOk, List, None, Option, string_bytes};
 ghost use Rattle.std.specs.Option.{option_map};
 ghost use Rattle.dnsv_canonical.specs.Rrsets.{IsQuestion};
 ghost use Rattle.dnsv_verdict.specs.Way.{IsRefusal, IsRefusedFor, IsVerdictOf};
@@ -161,7 +161,7 @@ pub fn outcome_by(
     ensures status { IfOk result (λ outcome. outcome.status ≡ specs.verdict_status report.now.verdict) }
     ensures text { IfOk result (λ outcome. string_bytes outcome.text ≡ texts.check_text format asked.now.name.now
         asked.now.rtype.0 asked.now.moment (status_code outcome.status) rrsets.now report.now.links
-        report.now.verdict why.now) }
+        report.now.verdict why.now None) }
 {
     let status = status_of(&report.verdict);
     let heading = Heading {
@@ -170,7 +170,7 @@ pub fn outcome_by(
         moment: asked.moment.seconds(),
         status: status.code(),
     };
-    let text = check_text(alloc, format, &heading, rrsets, report, lines_of(why))?;
+    let text = check_text(alloc, format, &heading, rrsets, report, lines_of(why), None)?;
     Ok(Outcome { status, text })
 }
 

@@ -23,17 +23,20 @@ pub fn verdict_json(
     rrsets: &[Rrset<'_>],
     report: &Report<'_>,
     why: Option<&[Line]>,
+    numbers: Option<&[usize]>,
 ) -> Result<String, AllocError>
     ensures { IfOk result (λ text. string_bytes text
         ≡ specs.verdict_json heading.now.name.now heading.now.rtype.0 heading.now.moment heading.now.status
-        rrsets.now report.now.links report.now.verdict (option_map (λ lines. lines.now) why.entry)) }
+        rrsets.now report.now.links report.now.verdict (option_map (λ lines. lines.now) why.entry)
+        (option_map (λ numbers. numbers.now) numbers.entry)) }
 {
+    let whole = numbers.is_none();
     let mut text = String::new(alloc);
     push_verdict(&mut text, why.is_some(), heading, &report.verdict)?;
     text.push_str(",\"aliases\":")?;
     push_aliases(&mut text, report.links.as_slice())?;
-    push_reason(&mut text, Format::Json, rrsets, &report.verdict)?;
-    push_why(&mut text, why)?;
+    push_reason(&mut text, Format::Json, rrsets, &report.verdict, whole)?;
+    push_why(&mut text, why, numbers)?;
     text.push_str("}\n")?;
     Ok(text)
 }

@@ -3,7 +3,7 @@ use Rattle.std.proofs.lemmas.Slice.Eq.{bytes_eq-Decides}
 use Rattle.std.specs.Str.{bytes_eq}
 use Rattle.clap.specs.Words.{app_of, found_of, rows_of}
 use Rattle.dnsv_texts.specs.Checking.{question_word}
-use Rattle.dnsv_program.proofs.CommandLineLemmas.Words.{Sees, asked_as, is_list, is_neither, is_show, passed_up, sees, unclear_as}
+use Rattle.dnsv_program.proofs.CommandLineLemmas.Words.{Sees, asked_as, is_list, is_neither, is_show, passed_up, sees, two_lists_as, unclear_as}
 use Rattle.dnsv_program.proofs.command_line.read_command_line.Goals as goal
 
 pub returns-in_err-matches-clause-refused : goal.returns-in_err-matches-clause-refused
@@ -45,7 +45,18 @@ returns-then-eq-2-clause-accepted g c =
     c.in_ok-program.ensures c.in_ok-matches.ensures.matches c.in_ok-matches.ensures.kinds c.unwrap.ensures c.subcommand.ensures.name c.subcommand.ensures.rows in
     let test : bytes_eq c.unwrap.result.0.now (codes "list") ≡ true = search rules in
     let same = (bytes_eq-Decides c.unwrap.result.0.now (codes "list")).0 test in
-    (at.none, (codes "list", _, at.met ∙ ap (λ n. Some (n, rows_of (found_of c.unwrap.result.1.now))) same, c.in_ok-list_request.ensures))
+    asked_as c.list_request.result (map g.S.AsStr.text c.args.words.now) (codes "list") (rows_of (found_of c.unwrap.result.1.now)) at.none
+    (at.met ∙ ap (λ n. Some (n, rows_of (found_of c.unwrap.result.1.now))) same) c.list_request.ensures.asks
+
+pub returns-then-eq-2-clause-refused : goal.returns-then-eq-2-clause-refused
+returns-then-eq-2-clause-refused g c =
+    let at : Sees (map g.S.AsStr.text c.args.words.now) c.unwrap.result.0.now (rows_of (found_of c.unwrap.result.1.now)) =
+    sees (λ p. p.0.now) (λ p. rows_of (found_of p.1.now)) c.subcommand.result c.unwrap.result (app_of c.in_ok-program.field-0) (map g.S.AsStr.text c.args.words.now) c.in_ok-matches.matches
+    c.in_ok-program.ensures c.in_ok-matches.ensures.matches c.in_ok-matches.ensures.kinds c.unwrap.ensures c.subcommand.ensures.name c.subcommand.ensures.rows in
+    let test : bytes_eq c.unwrap.result.0.now (codes "list") ≡ true = search rules in
+    let same = (bytes_eq-Decides c.unwrap.result.0.now (codes "list")).0 test in
+    two_lists_as c.list_request.result (map g.S.AsStr.text c.args.words.now) (rows_of (found_of c.unwrap.result.1.now)) at.none
+    (at.met ∙ ap (λ n. Some (n, rows_of (found_of c.unwrap.result.1.now))) same) c.list_request.ensures.refused
 
 pub check_request-requires : goal.check_request-requires
 check_request-requires g c =

@@ -4,7 +4,7 @@ use Rattle.std.proofs.lemmas.Result.{IfOk-weaker}
 use Rattle.clap.specs.Words.{app_of, new_app, with_rule}
 use Rattle.clap.specs.declared.Command.TheViews.{out-Command as fields_of}
 use Rattle.clap.specs.Simple.{app_of_fields}
-use Rattle.dnsv_program.specs.CommandLine.Commands.{all_rule, capture_rule, moment_rule, statements_rule}
+use Rattle.dnsv_program.specs.CommandLine.Commands.{all_rule, capture_rule, compact_rule, moment_rule, statements_rule}
 use Rattle.dnsv_program.proofs.command_line.commands.list.Goals as goal
 
 pub returns : goal.returns
@@ -29,7 +29,11 @@ returns c =
     c.in_ok-arg-4.ensures.shape c.all_flag.ensures.local ∙ ap₂ with_rule three c.all_flag.ensures.rule in
     let after_four : (fields_of c.in_ok-arg-4.field-0).has_globals ≡ false =
     c.in_ok-arg-4.ensures.globals ∙ ap₂ ◌||◌ after_three c.all_flag.ensures.local in
-    IfOk-weaker c.arg-5.result _ _ (λ command adds. (
-      adds.shape c.json_flag.ensures.local ∙ ap₂ with_rule four c.json_flag.ensures.rule,
-      adds.globals ∙ ap₂ ◌||◌ after_four c.json_flag.ensures.local,
-    )) c.arg-5.ensures
+    let five : app_of c.in_ok-arg-5.field-0 ≡ with_rule (with_rule (with_rule (with_rule (with_rule (new_app (codes "list")) capture_rule) moment_rule) statements_rule) all_rule) compact_rule =
+    c.in_ok-arg-5.ensures.shape c.compact_flag.ensures.local ∙ ap₂ with_rule four c.compact_flag.ensures.rule in
+    let after_five : (fields_of c.in_ok-arg-5.field-0).has_globals ≡ false =
+    c.in_ok-arg-5.ensures.globals ∙ ap₂ ◌||◌ after_four c.compact_flag.ensures.local in
+    IfOk-weaker c.arg-6.result _ _ (λ command adds. (
+      adds.shape c.json_flag.ensures.local ∙ ap₂ with_rule five c.json_flag.ensures.rule,
+      adds.globals ∙ ap₂ ◌||◌ after_five c.json_flag.ensures.local,
+    )) c.arg-6.ensures

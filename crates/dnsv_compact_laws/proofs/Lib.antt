@@ -1,0 +1,4 @@
+mod ListLemmas
+mod OneLemmas
+mod OwnerLemmas
+mod ReadLemmas
