@@ -3,7 +3,8 @@ use Rattle.std.specs.Prelude.{◌≡◌}
 use Rattle.dnsv_denial.specs.Viewed.{Viewed}
 use Rattle.dnsv_verdict.specs.Case.{HasTrust}
 use Rattle.dnsv_verdict.specs.Report.{hashed_in}
-use Rattle.dnsv_explain.specs.Explained.{Explained, explained_by}
+use Rattle.dnsv_derivations.specs.Explained.{Explained}
+use Rattle.dnsv_explain.specs.Explained.{explained_by}
 use Rattle.dnsv_explain.specs.declared.explanation.at.At.{At}
 
 -- the case have the evidence that is explained, with its trust, and the hashes are those for the name

@@ -23,15 +23,16 @@ use Rattle.dnsv_verdict.specs.declared.verdict.Verdict.{Verdict}
 use Rattle.dnsv_verdict.specs.declared.verdict.Verdict.TheVariants.{SecureAnswer, SecureAlias, SecureNoName, SecureNoData, Insecure, Pending, Bogus, Indeterminate}
 use Rattle.dnsv_gaps.specs.Asking.{Asking}
 use Rattle.dnsv_reasons.specs.Failures.{AreFailures}
-use Rattle.dnsv_explain.specs.Denials.{IsDenialTold, IsExpandedTold}
-use Rattle.dnsv_explain.specs.Explained.{Explained, Setting, basis_in, hoped, setting_in}
-use Rattle.dnsv_explain.specs.Places.{ArePlacesOf, ArePlacesTold}
-use Rattle.dnsv_explain.specs.Saying.{AreBoth, AreEach}
-use Rattle.dnsv_explain.specs.derivations.HeldTo.{IsHeldTo}
-use Rattle.dnsv_explain.specs.derivations.OwnDerivations.{IsSignatureTold, IsTrustIn}
+use Rattle.dnsv_derivations.specs.Denials.{IsDenialTold, IsExpandedTold}
+use Rattle.dnsv_derivations.specs.Explained.{Explained, Setting, setting_in}
+use Rattle.dnsv_explain.specs.Explained.{basis_in, hoped}
+use Rattle.dnsv_derivations.specs.Places.{ArePlacesOf, ArePlacesTold}
+use Rattle.dnsv_derivations.specs.Saying.{AreBoth, AreEach}
+use Rattle.dnsv_derivations.specs.derivations.HeldTo.{IsHeldTo}
+use Rattle.dnsv_derivations.specs.derivations.OwnDerivations.{IsSignatureTold, IsTrustIn}
 use Rattle.dnsv_explain.specs.KeyLines.{AreLinesOfKeysAsked}
-use Rattle.dnsv_explain.specs.intervals.Holding.{IsHoldingOf}
-use Rattle.dnsv_explain.specs.unsigned_cuts.ShownCuts.{IsCutShownBy, IsCutTold, IsUnsignedTold}
+use Rattle.dnsv_derivations.specs.intervals.Holding.{IsHoldingOf}
+use Rattle.dnsv_derivations.specs.unsigned_cuts.ShownCuts.{IsCutShownBy, IsCutTold, IsUnsignedTold}
 use Rattle.dnsv_lines.specs.declared.line.interval.Interval.{Interval}
 use Rattle.dnsv_lines.specs.declared.line.Kind.{Kind}
 use Rattle.dnsv_lines.specs.declared.line.Kind.TheVariants as kind

@@ -3,16 +3,17 @@ use Rattle.std.specs.Prelude.{◌≡◌, ◌≢◌, ◌⊎◌, ◌≤◌, ℕ, L
 use Rattle.dnsv_names.specs.Name.{Labels, SameName}
 use Rattle.dnsv_canonical.specs.Rrsets.{IsNumbered, ReceivedRrset}
 use Rattle.dnsv_chain.specs.Anchor.{IsAnchorMatch}
+use Rattle.dnsv_chain.specs.Ds.{IsMatch}
 use Rattle.dnsv_chain.specs.declared.anchor.Anchor.{Anchor}
 use Rattle.dnsv_denial.specs.words.EvidenceWords.{number_cmp}
 use Rattle.dnsv_canonical.specs.declared.number.RecordNumber.{RecordNumber}
-use Rattle.dnsv_explain.specs.Explained.{Setting}
+use Rattle.dnsv_derivations.specs.Explained.{Setting}
 use Rattle.dnsv_verifier.specs.Admissible.{DnskeyRecord}
 use Rattle.std.specs.declared.cmp.Ordering.TheVariants.{Less}
-use Rattle.dnsv_explain.specs.Following.{IsDsMatch, IsGoodUnder, IsNamed}
-use Rattle.dnsv_explain.specs.derivations.WaySearch.{AreKeysInOrder, signature_of}
+use Rattle.dnsv_derivations.specs.Following.{IsDsMatch, IsGoodUnder, IsNamed}
+use Rattle.dnsv_derivations.specs.derivations.WaySearch.{AreKeysInOrder, signature_of}
 use Rattle.dnsv_explain.specs.Listing.{AreOfNumbered, AreWhere}
-use Rattle.dnsv_explain.specs.unsigned_cuts.UnsignedCuts.{record_of}
+use Rattle.dnsv_derivations.specs.unsigned_cuts.UnsignedCuts.{record_of}
 use Rattle.dnsv_lines.specs.declared.line.Line.{Line}
 use Rattle.dnsv_lines.specs.declared.line.Line.TheVariants as line
 use Rattle.dnsv_lines.specs.declared.line.fault.Reason.{Reason}
@@ -21,6 +22,7 @@ use Rattle.dnsv_lines.specs.declared.line.fault.key.ShownKey.{ShownKey}
 use Rattle.dnsv_lines.specs.declared.line.fault.signature.ShownSignature.{ShownSignature}
 use Rattle.dnsv_lines.specs.declared.line.fault.signature.WhySignature.{WhySignature}
 use Rattle.dnsv_lines.specs.declared.line.fault.signature.WhySignature.TheVariants as why
+use Rattle.dnsv_records.specs.declared.ds.Ds.{Ds}
 use Rattle.dnsv_records.specs.declared.number.DigestType.{DigestType}
 
 -- ---- the zones in question
@@ -73,6 +75,12 @@ IsMatchedByAnchor setting key number =
 -- a usable DS record, signed or not, matches the key
 abbrev pub IsMatchedByDs : Setting → DnskeyRecord → RecordNumber → Type 0
 IsMatchedByDs setting key number = (digest_type : DigestType) × IsDsMatch setting number digest_type key
+
+-- one of the records, of a DS RRset of the owner, matches the key: no public clause cites this
+pub record HasMatch (records : List Ds) (owner : Labels) (key : DnskeyRecord) : Type 0 where
+  pub ds : Ds
+  pub among : Contains records ds
+  pub matching : IsMatch owner ds key
 
 -- the lowest such record, if one is
 abbrev pub IsLowestDs : Setting → DnskeyRecord → Option RecordNumber → Type 0

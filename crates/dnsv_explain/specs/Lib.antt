@@ -1,15 +1,7 @@
 pub mod At
-pub mod Denials
-pub mod Digests
 pub mod Explained
 pub mod Explanation
-pub mod Following
 pub mod KeyLines
 pub mod Listing
 pub mod Marked
-pub mod Places
-pub mod Rising
-pub mod Saying
-pub mod derivations
-pub mod intervals
-pub mod unsigned_cuts
+pub mod SharedWays

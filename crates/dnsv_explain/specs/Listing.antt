@@ -1,6 +1,6 @@
 -- Lists of what is so.
 use Rattle.std.specs.Prelude.{◌≡◌, ◌⊎◌, ◌+◌, ℕ, List, [], ◌∷◌, ◌++◌}
-use Rattle.dnsv_explain.specs.Saying.{Adds}
+use Rattle.dnsv_derivations.specs.Saying.{Adds}
 use Rattle.dnsv_lines.specs.declared.line.Line.{Line}
 
 -- those of the list that are such, in its order

@@ -6,18 +6,17 @@ ghost use Rattle.std.specs.Prelude.{◌↔◌, IfOk, IsTrue, OnOk};
 ghost use Rattle.dnsv_canonical.specs.Rrsets.{IsNumbered};
 ghost use Rattle.dnsv_chain.specs.Trusted.{IsKeyOf};
 ghost use Rattle.dnsv_chain.specs.Ds.{IsMatch, IsUsable};
-ghost use Rattle.dnsv_explain.specs.Explained.{setting_in};
-ghost use Rattle.dnsv_explain.specs.Following.{IsGoodUnder};
-ghost use Rattle.dnsv_explain.specs.derivations.WaySearch.{AreKeysInOrder, signature_of};
-ghost use Rattle.dnsv_explain.specs.KeyLines.{AreLinesOfKeysAsked, AreLinesOfSet, IsKeyLine, IsLowestDs, IsLowestOf, IsMatchedByAnchor, IsMatchedByDs, IsShownKey};
+ghost use Rattle.dnsv_derivations.specs.Explained.{setting_in};
+ghost use Rattle.dnsv_derivations.specs.Following.{IsGoodUnder};
+ghost use Rattle.dnsv_derivations.specs.derivations.WaySearch.{AreKeysInOrder, signature_of};
+ghost use Rattle.dnsv_explain.specs.KeyLines.{AreLinesOfKeysAsked, AreLinesOfSet, HasMatch, IsKeyLine, IsLowestDs, IsLowestOf, IsMatchedByAnchor, IsMatchedByDs, IsShownKey};
 ghost use Rattle.dnsv_explain.specs.Listing.{AddsThose, AreOfNumbered};
-ghost use Rattle.dnsv_explain.specs.unsigned_cuts.UnsignedCuts.{record_of};
+ghost use Rattle.dnsv_derivations.specs.unsigned_cuts.UnsignedCuts.{record_of};
 
-use crate::derivations::ways::keys::{key_name, keys_in_order, lowest_good};
-use crate::evidence::Evidence;
 use crate::keys_in_question::zones::is_in_question;
 use dnsv_canonical::{RecordNumber, Rrset, in_canonical_order};
-use dnsv_chain::{is_match, is_usable};
+use dnsv_chain::is_usable;
+use dnsv_derivations::{DigestedKey, Evidence, is_ds_match, key_name, keys_in_order, lowest_good};
 use dnsv_lines::{Line, ShownKey};
 use dnsv_names::{Name, RecordType};
 use dnsv_records::Ds;
@@ -125,7 +124,7 @@ fn shown_key(
         flags: key.dnskey().flags,
         signature: lowest_signature(alloc, evidence, number.rrset, set, key)?,
         anchor: lowest_anchor(evidence, key),
-        ds: lowest_ds(alloc, evidence, key)?,
+        ds: matching_ds(alloc, evidence, key)?,
     })
 }
 
@@ -158,16 +157,29 @@ fn lowest_anchor(evidence: &Evidence<'_>, key: &KeyRecord<'_>) -> Option<usize>
     None
 }
 
-/// The lowest DS record that can be used and matches the key, signed or not.
-fn lowest_ds(
+/// The lowest DS record that can be used and matches the key, signed or not. The key is digested once for all.
+fn matching_ds(
     alloc: Global,
     evidence: &Evidence<'_>,
     key: &KeyRecord<'_>,
 ) -> Result<Option<RecordNumber>, AllocError>
     ensures { IfOk result (IsLowestDs (setting_in evidence.now) key.now) }
 {
+    let digested = DigestedKey::new(key);
+    let lowest = lowest_ds(alloc, evidence, &digested)?;
+    Ok(lowest)
+}
+
+/// The lowest such record of the key with its digests.
+fn lowest_ds(
+    alloc: Global,
+    evidence: &Evidence<'_>,
+    key: &DigestedKey<'_>,
+) -> Result<Option<RecordNumber>, AllocError>
+    ensures { IfOk result (IsLowestDs (setting_in evidence.now) key.now) }
+{
     for (before, ds) in evidence.rrsets().iter().enumerate() {
-        if let Some(place) = lowest_in(alloc, evidence, before + 1, ds, key)? {
+        if let Some(place) = lowest_match(alloc, evidence, before + 1, ds, key)? {
             return Ok(Some(RecordNumber {
                 rrset: before + 1,
                 place,
@@ -177,13 +189,39 @@ fn lowest_ds(
     Ok(None)
 }
 
-/// The lowest place of such a record in the RRset, which has the number.
+/// The lowest place of such a record in the RRset, which has the number. Where no record matches, none is put in order.
+fn lowest_match(
+    alloc: Global,
+    evidence: &Evidence<'_>,
+    number: usize,
+    ds: &Rrset<'_>,
+    key: &DigestedKey<'_>,
+) -> Result<Option<usize>, AllocError>
+    requires { IsNumbered evidence.now.rrsets number ds.now }
+    ensures { IfOk result (IsLowestOf (λ place. IsMatchedByDs (setting_in evidence.now) key.now (record_of number place))) }
+{
+    let values = ds.ds_records();
+    if !has_match(values, ds.owner(), key) {
+        return Ok(None);
+    }
+    let place = lowest_in(alloc, evidence, number, ds, key)?;
+    Ok(place)
+}
+
+/// Whether one of the records of a DS RRset of the owner matches the key.
+fn has_match(values: &[Ds<'_>], owner: &Name, key: &DigestedKey<'_>) -> bool
+    ensures { IsTrue result ↔ HasMatch values.now owner.now key.now }
+{
+    values.iter().any(|ds| is_ds_match(owner, ds, key))
+}
+
+/// The same, of the records in their order.
 fn lowest_in(
     alloc: Global,
     evidence: &Evidence<'_>,
     number: usize,
     ds: &Rrset<'_>,
-    key: &KeyRecord<'_>,
+    key: &DigestedKey<'_>,
 ) -> Result<Option<usize>, AllocError>
     requires { IsNumbered evidence.now.rrsets number ds.now }
     ensures { IfOk result (IsLowestOf (λ place. IsMatchedByDs (setting_in evidence.now) key.now (record_of number place))) }
@@ -202,8 +240,8 @@ fn lowest_in(
 }
 
 /// Whether the record of a DS RRset of the owner can be used, and matches the key.
-fn is_usable_match(values: &[Ds<'_>], owner: &Name, ds: &Ds<'_>, key: &KeyRecord<'_>) -> bool
+fn is_usable_match(values: &[Ds<'_>], owner: &Name, ds: &Ds<'_>, key: &DigestedKey<'_>) -> bool
     ensures { IsTrue result ↔ (IsUsable values.now ds.now × IsMatch owner.now ds.now key.now) }
 {
-    is_usable(values, ds) && is_match(owner, ds, key)
+    is_usable(values, ds) && is_ds_match(owner, ds, key)
 }

@@ -1,20 +1,16 @@
 //! Laws of explanations.
 //!
 //! Each is a function that does nothing and ensures the law, which its caller learns.
-ghost use Rattle.std.specs.Prelude.{◌≡◌, ◌≤◌, ◌∷◌, ℕ, [], List, Some, Contains, map};
+ghost use Rattle.std.specs.Prelude.{◌≡◌, ◌≤◌, ℕ, [], List, Some, Contains};
 ghost use Rattle.dnsv_names.specs.Name.{Labels};
-ghost use Rattle.dnsv_canonical.specs.Rdata.{IsWellFormed};
 ghost use Rattle.dnsv_canonical.specs.Rrsets.{IsNumbered, ReceivedRrset};
 ghost use Rattle.dnsv_chain.specs.Trusted.{IsSecured, IsTrusted};
 ghost use Rattle.dnsv_denial.specs.words.EvidenceWords.{Chain};
-ghost use Rattle.dnsv_explain.specs.Explained.{Explained, Setting, basis_in, setting_in};
-ghost use Rattle.dnsv_denial.specs.declared.proving.shown_denial.ShownDenial.{ShownDenial};
-ghost use Rattle.dnsv_denial.specs.declared.unsigned_cuts.shown_cut.ShownCut.{ShownCut};
-ghost use Rattle.dnsv_explain.specs.Denials.{IsDenialTold, IsExpandedTold, IsShownDenial};
-ghost use Rattle.dnsv_explain.specs.derivations.Derivations.{IsDerivation, Subject};
+ghost use Rattle.dnsv_derivations.specs.Explained.{Explained, Setting};
+ghost use Rattle.dnsv_explain.specs.Explained.{basis_in};
 ghost use Rattle.dnsv_verdict.specs.Report.{IsReport};
 ghost use Rattle.dnsv_verdict.specs.NoLess.{case_of};
-ghost use Rattle.dnsv_verdict.specs.Verdict.{Basis, HasAnchor, IsSettledVerdict, IsVerdictAt, basis_of, with_meaning};
+ghost use Rattle.dnsv_verdict.specs.Verdict.{Basis, IsSettledVerdict, IsVerdictAt, basis_of, with_meaning};
 ghost use Rattle.dnsv_verdict.specs.Way.{IsVerdictOf};
 ghost use Rattle.dnsv_verdict.specs.declared.link.Link.{Link};
 ghost use Rattle.dnsv_verdict.specs.declared.report.Report.{Report};
@@ -23,20 +19,15 @@ ghost use Rattle.dnsv_verifier.specs.declared.entry.Entry.{Entry};
 ghost use Rattle.dnsv_explain.specs.Explanation.{IsExplanation, IsExplanationOf, IsUnproved, its_setting, told_kind};
 ghost use Rattle.dnsv_explain.specs.Marked.{AnswersMarked};
 ghost use Rattle.dnsv_reason_laws.specs.Once.{AreOnce};
-ghost use Rattle.dnsv_explain.specs.Following.{EachFollows, at_moment};
-ghost use Rattle.dnsv_explain.specs.Following.Cases.{IsCaseBy};
-ghost use Rattle.dnsv_explain.specs.Following.Parts.{IsPartOf, IsUnusableRecord};
-ghost use Rattle.dnsv_explain.specs.intervals.Holding.{AreShownValidAt, IsHolding, IsHoldingOf};
-ghost use Rattle.dnsv_lines.specs.Rows.{line_text};
-ghost use Rattle.dnsv_explain.specs.unsigned_cuts.ShownCuts.{IsCutShownBy, IsCutTold};
-ghost use Rattle.dnsv_explain.specs.derivations.Ways.{HasSecured};
+ghost use Rattle.dnsv_derivations.specs.Following.{EachFollows};
+ghost use Rattle.dnsv_derivations.specs.Following.Cases.{IsCaseBy};
+ghost use Rattle.dnsv_derivations.specs.Following.Parts.{IsPartOf, IsUnusableRecord};
+ghost use Rattle.dnsv_derivations.specs.intervals.Holding.{AreShownValidAt};
+ghost use Rattle.dnsv_derivations.specs.derivations.Ways.{HasSecured};
 
-use crate::interval::Times;
-use dnsv_canonical::SignatureNumber;
 use dnsv_chain::{more_evidence_takes_no_trust_away, trust_depends_on_what_is_asked};
 use dnsv_lines::{
-    Cut, Interval, Kind, Line, Part, Reason, ShownKey, SignedRrset, TrustedKeys, UntrustedSigner,
-    UnusableDs, WhyZone,
+    Cut, Kind, Line, Part, Reason, ShownKey, SignedRrset, TrustedKeys, UntrustedSigner, UnusableDs,
 };
 use dnsv_verdict::Verdict;
 use dnsv_verifier::Answer;
@@ -67,47 +58,6 @@ pub fn lines_that_follow_are_true()
         → IsUnusableRecord setting.rrsets unusable × HasSecured setting unusable.number.rrset }
     ensures valid { (setting : Setting) (lines : List Line) → EachFollows setting [] lines
         → AreShownValidAt setting.rrsets lines setting.moment }
-{}
-
-/// Lines of which each follows from those before it do so at each moment of the interval in which the signatures that
-/// they show are valid: so what they call trusted is trusted then too.
-pub fn lines_follow_as_long_as_they_hold()
-    ensures { (setting : Setting) (lines : List Line) (interval : Interval) (moment : ℕ) → EachFollows setting [] lines
-        → IsHoldingOf setting.rrsets lines setting.moment interval → interval.from ≤ moment → moment ≤ interval.to
-        → EachFollows (at_moment setting moment) [] lines }
-{}
-
-/// Signatures hold in one greatest interval around a moment.
-pub fn signatures_hold_in_one_interval()
-    ensures { (signatures : List Times) (moment : ℕ) (a b : Interval) → IsHolding signatures moment a
-        → IsHolding signatures moment b → a ≡ b }
-{}
-
-/// Each line of a derivation follows from those before it: from what was said before the derivation, and from the lines
-/// of it that come first. So what a derivation says is true.
-pub fn derivations_follow()
-    ensures { (setting : Setting) (before lines : List Line) (subject : Subject) → IsDerivation setting before subject lines
-        → EachFollows setting before lines }
-{}
-
-/// So does each line of a denial that the evidence shows.
-pub fn denials_follow()
-    ensures { (setting : Setting) (name : Labels) (shown : ShownDenial) (before lines : List Line)
-        → IsShownDenial setting name shown → IsDenialTold setting name shown before lines → EachFollows setting before lines }
-{}
-
-/// And so does each line of a signature behind which a wildcard is.
-pub fn expanded_signatures_follow()
-    ensures { (setting : Setting) (name : Labels) (number : SignatureNumber) (shown : ShownDenial) (before lines : List Line)
-        → IsShownDenial setting name shown → IsExpandedTold setting name number shown before lines
-        → EachFollows setting before lines }
-{}
-
-/// And so does each line of the name from which on a name may be unsigned.
-pub fn unsigned_cuts_follow()
-    ensures { (setting : Setting) (name : Labels) (cut : ShownCut) (before lines : List Line)
-        → IsCutShownBy setting name cut → IsCutTold setting name cut before lines
-        → EachFollows setting before lines }
 {}
 
 /// Each line of an explanation follows from those before it, so what it says is true; where the verdict needs more answers,

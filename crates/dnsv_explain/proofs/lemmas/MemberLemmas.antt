@@ -6,7 +6,7 @@ use Rattle.dnsv_canonical.specs.Rrsets.{IsNumbered, ReceivedRrset}
 use Rattle.dnsv_chain.specs.Trusted.{IsKeyOf}
 use Rattle.dnsv_verifier.specs.Admissible.{DnskeyRecord, IsKeyAmong}
 use Rattle.dnsv_explain.specs.Listing.{AreOfNumbered}
-use Rattle.dnsv_explain.proofs.lemmas.NumberedLemmas.{among}
+use Rattle.dnsv_derivations.proofs.lemmas.NumberedLemmas.{among}
 
 -- ---- members of lists
 

@@ -4,5 +4,3 @@ pub mod HopedLemmas
 pub mod HopedWayLemmas
 pub mod LineLemmas
 pub mod MarkLemmas
-pub mod RisingLemmas
-pub mod TodoLemmas

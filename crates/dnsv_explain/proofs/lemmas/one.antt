@@ -1,12 +1,6 @@
 -- That what is told is told in one way.
-pub mod CutLemmas
-pub mod DenialLemmas
-pub mod DerivationLemmas
 pub mod FailureLemmas
 pub mod FormLemmas
 pub mod PlaceLemmas
 pub mod ShownLemmas
-pub mod SignedLemmas
-pub mod StepLemmas
-pub mod TrustedLemmas
 pub mod WholeLemmas

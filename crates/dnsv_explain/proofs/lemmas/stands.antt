@@ -1,5 +1,4 @@
 -- What is shown stands wherever the signatures count that are told of it.
 pub mod CutLemmas
-pub mod FormLemmas
 pub mod ToldLemmas
 pub mod WholeLemmas

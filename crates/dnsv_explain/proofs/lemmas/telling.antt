@@ -4,7 +4,6 @@ pub mod FaultLemmas
 pub mod FollowingLemmas
 pub mod QuietLemmas
 pub mod RefusalLemmas
-pub mod SayingLemmas
 pub mod SecureLemmas
 pub mod TellLemmas
 pub mod WholeLemmas

@@ -4,8 +4,8 @@ ghost use Rattle.std.specs.Option.{option_map_or};
 ghost use Rattle.dnsv_verdict.specs.Report.{hashed_in};
 ghost use Rattle.dnsv_explain.specs.Explained.{explained_by};
 
-use crate::evidence::Evidence;
 use dnsv_denial::{Hashes, View};
+use dnsv_derivations::Evidence;
 use dnsv_names::Name;
 use dnsv_verdict::Case;
 use dnsv_verifier::Entries;

@@ -1,15 +1,13 @@
 //! The last lines of an explanation.
 ghost use Rattle.std.specs.Prelude.{◌≡◌, ◌++◌, [], OnOk, map};
-ghost use Rattle.dnsv_explain.specs.Explained.{setting_in};
+ghost use Rattle.dnsv_derivations.specs.Explained.{setting_in};
 ghost use Rattle.dnsv_explain.specs.Explanation.{IsEnd};
-ghost use Rattle.dnsv_explain.specs.Following.{EachFollows};
-ghost use Rattle.dnsv_explain.specs.Places.{ArePlacesTold};
-ghost use Rattle.dnsv_explain.specs.Saying.{Adds};
+ghost use Rattle.dnsv_derivations.specs.Following.{EachFollows};
+ghost use Rattle.dnsv_derivations.specs.Places.{ArePlacesTold};
+ghost use Rattle.dnsv_derivations.specs.Saying.{Adds};
 
-use crate::evidence::Evidence;
 use crate::laws::lines_that_follow_are_true;
-use crate::places::places_named;
-use crate::shown::holding_of;
+use dnsv_derivations::{Evidence, holding_of, places_named};
 use dnsv_lines::{Line, RrsetPlace};
 use std::alloc::{AllocError, Global};
 

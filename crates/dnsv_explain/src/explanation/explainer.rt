@@ -1,20 +1,21 @@
 //! What all explanations over one case share.
 ghost use Rattle.std.specs.Prelude.{◌≡◌, [], IfOk};
-ghost use Rattle.dnsv_explain.specs.Explained.{explained_by, setting_in};
+ghost use Rattle.dnsv_derivations.specs.Explained.{setting_in};
+ghost use Rattle.dnsv_explain.specs.Explained.{explained_by};
 ghost use Rattle.dnsv_explain.specs.Explanation.{IsExplanationOf};
-ghost use Rattle.dnsv_explain.specs.derivations.KeptWays.{AreHopedWays};
-ghost use Rattle.dnsv_explain.specs.derivations.WaySearch.{AreFirstWays};
+ghost use Rattle.dnsv_explain.specs.SharedWays.{AreHopedWays};
+ghost use Rattle.dnsv_derivations.specs.derivations.WaySearch.{AreFirstWays};
 ghost use Rattle.dnsv_verdict.specs.Case.{IsCaseOf, basis_by};
 ghost use Rattle.dnsv_verdict.specs.Hope.{HasHope};
 ghost use Rattle.dnsv_verdict.specs.Report.{IsReport, Refuses};
 ghost use Rattle.dnsv_verdict.specs.Verdict.{Basis, IsVerdictAt, basis_of};
 
-use crate::derivations::ways::kept::{KeptWay, first_ways};
 use crate::explanation::at::evidence_of;
 use crate::explanation::{Explanation, explanation_of};
 use bumpalo::Bump;
 use dnsv_canonical::Capture;
 use dnsv_chain::Anchors;
+use dnsv_derivations::{KeptWay, first_ways};
 use dnsv_names::{Name, RecordType};
 use dnsv_verdict::{Case, Hope, Judged, OpenCase, Report, Verdict, VerdictError};
 use dnsv_verifier::{Entries, Verifier};
@@ -33,7 +34,7 @@ pub struct Explainer<'a> {
 }
 
 impl<'a> Model for Explainer<'a> {
-    ghost use Rattle.dnsv_explain.specs.derivations.KeptWays.{AreHopedWays, AreOfCase};
+    ghost use Rattle.dnsv_explain.specs.SharedWays.{AreHopedWays, AreOfCase};
     ghost use Rattle.dnsv_verdict.specs.Case.{CaseContents};
 
     ghost Value = { CaseContents };

@@ -4,13 +4,13 @@ ghost use Rattle.dnsv_gaps.specs.Asking.{asking_of};
 ghost use Rattle.dnsv_reasons.specs.Failures.{AreFailures};
 ghost use Rattle.dnsv_verdict.specs.Report.{hashed_in};
 ghost use Rattle.dnsv_explain.specs.At.{IsAt};
-ghost use Rattle.dnsv_explain.specs.Explained.{setting_in};
+ghost use Rattle.dnsv_derivations.specs.Explained.{setting_in};
 ghost use Rattle.dnsv_explain.specs.Explanation.{IsFailureTold, IsUnproved};
-ghost use Rattle.dnsv_explain.specs.Saying.{Adds};
+ghost use Rattle.dnsv_derivations.specs.Saying.{Adds};
 
-use crate::evidence::Evidence;
 use crate::explanation::at::At;
 use crate::keys_in_question::add_keys_in_question;
+use dnsv_derivations::Evidence;
 use dnsv_faults::CaseFacts;
 use dnsv_lines::Line;
 use dnsv_names::RecordType;

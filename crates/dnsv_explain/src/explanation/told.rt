@@ -5,17 +5,15 @@ ghost use Rattle.dnsv_verdict.specs.Secure.{IsSecureSet};
 ghost use Rattle.dnsv_verdict.specs.Verdict.{IsSettledAsBy};
 ghost use Rattle.dnsv_explain.specs.At.{IsAt};
 ghost use Rattle.dnsv_explain.specs.Explanation.{IsNoDataTold, IsNoNameTold, IsSetTold, IsSettledTold};
-ghost use Rattle.dnsv_explain.specs.Explained.{basis_in, setting_in};
-ghost use Rattle.dnsv_explain.specs.Saying.{Adds};
-ghost use Rattle.dnsv_explain.specs.derivations.OwnDerivations.{SecuredIn};
+ghost use Rattle.dnsv_derivations.specs.Explained.{setting_in};
+ghost use Rattle.dnsv_explain.specs.Explained.{basis_in};
+ghost use Rattle.dnsv_derivations.specs.Saying.{Adds};
+ghost use Rattle.dnsv_derivations.specs.derivations.OwnDerivations.{SecuredIn};
 
-use crate::denials::add_denial;
-use crate::derivations::derivation;
-use crate::evidence::Evidence;
 use crate::explanation::at::At;
 use crate::explanation::wildcard_cut::add_wildcard_cut;
-use crate::unsigned_cuts::add_cut;
 use dnsv_canonical::{SignatureNumber, is_expanded, numbered};
+use dnsv_derivations::{Evidence, add_cut, add_denial, add_derivation};
 use dnsv_lines::Line;
 use dnsv_names::RecordType;
 use dnsv_verdict::Verdict;
@@ -86,10 +84,7 @@ pub fn add_set(
     let Some(rrsig) = numbered(rrset.signatures(), number.signature) else {
         return Ok(());
     };
-    let Some(mut more) = derivation(alloc, evidence, lines, number)? else {
-        return Ok(());
-    };
-    lines.append(&mut more)?;
+    add_derivation(alloc, evidence, lines, number)?;
     if !is_expanded(rrset.owner(), rrsig) {
         return Ok(());
     }

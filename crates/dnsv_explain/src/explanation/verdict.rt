@@ -6,15 +6,13 @@ ghost use Rattle.dnsv_verdict.specs.Report.{hashed_in};
 ghost use Rattle.dnsv_verdict.specs.Verdict.{AreUnknown, IsSettledVerdict, IsVerdictAt};
 ghost use Rattle.dnsv_explain.specs.Explained.{explained_by};
 ghost use Rattle.dnsv_explain.specs.Explanation.{IsHopeTold, IsVerdictTold, told_kind};
-ghost use Rattle.dnsv_explain.specs.Saying.{Adds};
-ghost use Rattle.dnsv_explain.specs.derivations.KeptWays.{AreHopedWays};
+ghost use Rattle.dnsv_derivations.specs.Saying.{Adds};
+ghost use Rattle.dnsv_explain.specs.SharedWays.{AreHopedWays};
 
-use crate::derivations::ways::kept::KeptWay;
-use crate::evidence::Evidence;
 use crate::explanation::at::{At, evidence_of};
-use crate::explanation::held::add_held;
 use crate::explanation::told::add_settled;
 use dnsv_denial::Hashes;
+use dnsv_derivations::{Evidence, KeptWay, add_held};
 use dnsv_lines::{Kind, Line};
 use dnsv_names::{Name, RecordType};
 use dnsv_verdict::{Case, Hope, Judged, Verdict};

@@ -1,8 +1,8 @@
 use Rattle.std.proofs.Common.{[]}
 use Rattle.dnsv_verdict.specs.Report.{hashes_in}
-use Rattle.dnsv_explain.specs.Explained.{setting_in}
+use Rattle.dnsv_derivations.specs.Explained.{setting_in}
 use Rattle.dnsv_explain.specs.Explanation.{IsLinkTold}
-use Rattle.dnsv_explain.proofs.lemmas.telling.SayingLemmas.{next_added}
+use Rattle.dnsv_derivations.proofs.lemmas.SayingLemmas.{next_added}
 use Rattle.dnsv_explain.proofs.lemmas.telling.SecureLemmas.{item_secure}
 use Rattle.dnsv_explain.proofs.lemmas.telling.TellLemmas.{at_same, link_hashed, todo_same, within_same}
 use Rattle.dnsv_explain.proofs.explanation.add_links.Goals as goal

@@ -1,7 +1,7 @@
 use Rattle.std.proofs.Common.{take}
-use Rattle.dnsv_explain.specs.Explained.{setting_in}
+use Rattle.dnsv_derivations.specs.Explained.{setting_in}
 use Rattle.dnsv_explain.specs.Explanation.{IsLinkTold}
-use Rattle.dnsv_explain.specs.Saying.{Adds, AreEach}
+use Rattle.dnsv_derivations.specs.Saying.{Adds, AreEach}
 use Rattle.dnsv_explain.proofs.explanation.add_links.Given as goal
 
 -- what holds for each link so far

@@ -1,5 +1,5 @@
 use Rattle.std.proofs.Common.{sym}
-use Rattle.dnsv_explain.specs.Explained.{setting_in}
+use Rattle.dnsv_derivations.specs.Explained.{setting_in}
 use Rattle.dnsv_explain.specs.KeyLines.{IsKeyLine}
 use Rattle.dnsv_explain.proofs.lemmas.keys.ListingLemmas.{all_added, next_added}
 use Rattle.dnsv_explain.proofs.keys_in_question.add_keys.Goals as goal

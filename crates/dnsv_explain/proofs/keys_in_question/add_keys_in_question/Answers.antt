@@ -1,8 +1,8 @@
 use Rattle.std.proofs.Common.{◌<◌, List, get_or, length, ap, ◌∙◌, subst}
 use Rattle.dnsv_canonical.specs.Rrsets.{ReceivedRrset}
-use Rattle.dnsv_explain.specs.Explained.{setting_in}
+use Rattle.dnsv_derivations.specs.Explained.{setting_in}
 use Rattle.dnsv_explain.specs.KeyLines.{AreLinesOfSet}
-use Rattle.dnsv_explain.proofs.lemmas.NumberedLemmas.{all_passed, numbered_at}
+use Rattle.dnsv_derivations.proofs.lemmas.NumberedLemmas.{all_passed, numbered_at}
 use Rattle.dnsv_explain.proofs.lemmas.keys.ListingLemmas.{all_added, next_added}
 use Rattle.dnsv_explain.proofs.keys_in_question.add_keys_in_question.Goals as goal
 

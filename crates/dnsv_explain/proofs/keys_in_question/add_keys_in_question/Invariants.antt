@@ -1,5 +1,5 @@
 use Rattle.std.proofs.Common.{take}
-use Rattle.dnsv_explain.specs.Explained.{setting_in}
+use Rattle.dnsv_derivations.specs.Explained.{setting_in}
 use Rattle.dnsv_explain.specs.KeyLines.{AreLinesOfSet}
 use Rattle.dnsv_explain.specs.Listing.{AddsThose, AreOfNumbered}
 use Rattle.dnsv_explain.proofs.keys_in_question.add_keys_in_question.Given as goal

@@ -1,8 +1,8 @@
 use Rattle.std.proofs.Common.{sym, ◌∙◌, length}
 use Rattle.std.proofs.lemmas.Bool.{false≢true}
-use Rattle.dnsv_explain.specs.Explained.{setting_in}
+use Rattle.dnsv_derivations.specs.Explained.{setting_in}
 use Rattle.dnsv_explain.specs.KeyLines.{IsMatchedByAnchor}
-use Rattle.dnsv_explain.proofs.lemmas.NumberedLemmas.{all_passed, numbered_at}
+use Rattle.dnsv_derivations.proofs.lemmas.NumberedLemmas.{all_passed, numbered_at}
 use Rattle.dnsv_explain.proofs.lemmas.keys.LowestLemmas.{found, none_first, none_found, none_next}
 use Rattle.dnsv_explain.proofs.lemmas.keys.ShownKeyLemmas.{anchor_counted, anchor_never, anchor_within}
 use Rattle.dnsv_explain.proofs.keys_in_question.lowest_anchor.Goals as goal

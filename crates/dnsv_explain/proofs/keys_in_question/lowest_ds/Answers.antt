@@ -1,16 +1,16 @@
 use Rattle.std.proofs.Common.{◌+◌, subst}
-use Rattle.dnsv_explain.specs.Explained.{setting_in}
+use Rattle.dnsv_derivations.specs.Explained.{setting_in}
 use Rattle.dnsv_explain.specs.KeyLines.{IsLowestOf, IsMatchedByDs}
-use Rattle.dnsv_explain.specs.unsigned_cuts.UnsignedCuts.{record_of}
-use Rattle.dnsv_explain.proofs.lemmas.NumberedLemmas.{all_passed, numbered_at}
+use Rattle.dnsv_derivations.specs.unsigned_cuts.UnsignedCuts.{record_of}
+use Rattle.dnsv_derivations.proofs.lemmas.NumberedLemmas.{all_passed, numbered_at}
 use Rattle.dnsv_explain.proofs.lemmas.keys.ShownKeyLemmas.{ds_lowest, no_ds_at_all, no_ds_first, no_ds_next}
 use Rattle.dnsv_explain.proofs.keys_in_question.lowest_ds.Goals as goal
 
 pub loop-before-init : goal.loop-before-init
 loop-before-init c = no_ds_first (setting_in c.args.evidence.now) c.args.key.now
 
-pub lowest_in-requires : goal.lowest_in-requires
-lowest_in-requires c =
+pub lowest_match-requires : goal.lowest_match-requires
+lowest_match-requires c =
     numbered_at c.args.evidence.now.rrsets c.rrsets-ds-items.result.now c.loop-before.before c.ds-item.result c.rrsets-ds-items.ensures
     c.loop-before-test.true c.ds-item.is
 

@@ -1,5 +1,5 @@
 use Rattle.std.proofs.Common.{◌≤◌}
-use Rattle.dnsv_explain.specs.Explained.{setting_in}
+use Rattle.dnsv_derivations.specs.Explained.{setting_in}
 use Rattle.dnsv_explain.specs.KeyLines.{IsMatchedByDs}
 use Rattle.dnsv_canonical.specs.declared.number.RecordNumber.{RecordNumber}
 use Rattle.dnsv_explain.proofs.keys_in_question.lowest_ds.Given as goal

@@ -2,9 +2,9 @@ use Rattle.std.proofs.Common.{length, sym, subst, ◌∙◌}
 use Rattle.std.proofs.lemmas.Bool.{eqb-true, false≢true, not-false}
 use Rattle.dnsv_names.specs.Name.{Labels}
 use Rattle.dnsv_chain.specs.Ds.{IsMatch}
-use Rattle.dnsv_explain.specs.Explained.{setting_in}
+use Rattle.dnsv_derivations.specs.Explained.{setting_in}
 use Rattle.dnsv_explain.specs.KeyLines.{IsMatchedByDs}
-use Rattle.dnsv_explain.specs.unsigned_cuts.UnsignedCuts.{record_of}
+use Rattle.dnsv_derivations.specs.unsigned_cuts.UnsignedCuts.{record_of}
 use Rattle.dnsv_explain.proofs.lemmas.keys.LowestLemmas.{found, none_first, none_found, none_next}
 use Rattle.dnsv_explain.proofs.lemmas.keys.ShownKeyLemmas.{ds_counted, ds_found, ds_never, ds_within}
 use Rattle.dnsv_explain.proofs.keys_in_question.lowest_in.Goals as goal

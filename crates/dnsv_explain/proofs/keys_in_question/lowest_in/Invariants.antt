@@ -1,7 +1,7 @@
 use Rattle.std.proofs.Common.{◌≤◌, ℕ}
-use Rattle.dnsv_explain.specs.Explained.{setting_in}
+use Rattle.dnsv_derivations.specs.Explained.{setting_in}
 use Rattle.dnsv_explain.specs.KeyLines.{IsMatchedByDs}
-use Rattle.dnsv_explain.specs.unsigned_cuts.UnsignedCuts.{record_of}
+use Rattle.dnsv_derivations.specs.unsigned_cuts.UnsignedCuts.{record_of}
 use Rattle.dnsv_explain.proofs.keys_in_question.lowest_in.Given as goal
 
 -- none of the records so far matches

@@ -3,23 +3,23 @@ use Rattle.std.proofs.Common.{◌≡◌, ◌≢◌, ◌∙◌, ℕ, List, [], �
 use Rattle.std.specs.List.{Contains}
 use Rattle.dnsv_canonical.proofs.CanonicalLemmas.{canonical_unique}
 use Rattle.dnsv_chain.specs.Trusted.{IsKeyOf}
-use Rattle.dnsv_explain.proofs.lemmas.derivations.WayLemmas.SearchLemmas.{one_key}
-use Rattle.dnsv_explain.proofs.lemmas.intervals.MomentLemmas.{is_behind, is_first}
-use Rattle.dnsv_explain.specs.Following.{IsNamed}
+use Rattle.dnsv_derivations.proofs.lemmas.derivations.WayLemmas.SearchLemmas.{one_key}
+use Rattle.dnsv_derivations.proofs.lemmas.intervals.MomentLemmas.{is_behind, is_first}
+use Rattle.dnsv_derivations.specs.Following.{IsNamed}
 use Rattle.dnsv_lines.specs.declared.line.derivation.KeyName.{KeyName}
 use Rattle.dnsv_reason_laws.proofs.questions.HeldLemmas.{same_number}
 use Rattle.dnsv_canonical.specs.Rrsets.{ReceivedRrset}
 use Rattle.dnsv_canonical.specs.declared.number.RecordNumber.{RecordNumber}
 use Rattle.dnsv_verifier.specs.Admissible.{DnskeyRecord}
-use Rattle.dnsv_explain.specs.Explained.{Setting}
-use Rattle.dnsv_explain.specs.derivations.WaySearch.{AreKeysInOrder}
+use Rattle.dnsv_derivations.specs.Explained.{Setting}
+use Rattle.dnsv_derivations.specs.derivations.WaySearch.{AreKeysInOrder}
 use Rattle.dnsv_explain.specs.KeyLines.{AreLinesOfKeysAsked, AreLinesOfSet, IsInQuestion, IsKeyLine, IsLowestDs, IsLowestOf, IsMatchedByAnchor, IsShownKey}
 use Rattle.dnsv_explain.specs.Listing.{AreOfNumbered}
 use Rattle.dnsv_lines.specs.declared.line.Line.{Line}
 use Rattle.dnsv_lines.specs.declared.line.Line.TheVariants as line
 use Rattle.dnsv_lines.specs.declared.line.fault.key.ShownKey.{ShownKey}
 use Rattle.dnsv_explain.proofs.lemmas.keys.OneListLemmas.{IsOneList, one_numbered, one_where}
-use Rattle.dnsv_explain.proofs.lemmas.one.StepLemmas.{even}
+use Rattle.dnsv_derivations.proofs.lemmas.one.StepLemmas.{even}
 
 -- a key has one name
 pub one_name : (key : DnskeyRecord) (a b : KeyName) → IsNamed key a → IsNamed key b → a ≡ b

@@ -5,7 +5,7 @@ use Rattle.std.proofs.lemmas.Cmp.{nat_cmp_total, on_total, then_total, tied_itse
 use Rattle.std.proofs.lemmas.List.{length-map}
 use Rattle.std.proofs.lemmas.Option.{slice_get_within}
 use Rattle.std.specs.Cmp.{IsTotalOrder, nat_cmp_is}
-use Rattle.std.specs.List.{AllByRecursion, AllZip}
+use Rattle.std.specs.List.{AllByRecursion, AllZip, Contains}
 use Rattle.std.specs.Ordering.{nat_cmp}
 use Rattle.std.specs.declared.cmp.Ordering.TheVariants.{Less, Equal}
 use Rattle.dnsv_records.specs.Ds.{IsDs}
@@ -15,18 +15,19 @@ use Rattle.dnsv_canonical.specs.Canonical.{IsCanonical}
 use Rattle.dnsv_canonical.specs.CanonicalRdata.{canonical_form}
 use Rattle.dnsv_canonical.specs.Rdata.{rdata_of_type}
 use Rattle.dnsv_canonical.specs.Rrsets.{IsNumbered, ReceivedRrset}
+use Rattle.dnsv_chain.proofs.ChainLemmas.{same_ds}
 use Rattle.dnsv_chain.specs.Anchor.{IsAnchorMatch}
 use Rattle.dnsv_chain.specs.Ds.{IsMatch, IsUsable}
 use Rattle.dnsv_chain.specs.declared.anchor.Anchor.{Anchor}
 use Rattle.dnsv_denial.specs.words.EvidenceWords.{number_cmp}
 use Rattle.dnsv_canonical.specs.declared.number.RecordNumber.{RecordNumber}
-use Rattle.dnsv_explain.specs.Explained.{Setting}
+use Rattle.dnsv_derivations.specs.Explained.{Setting}
 use Rattle.dnsv_verifier.specs.Admissible.{DnskeyRecord}
 use Rattle.dnsv_explain.specs.KeyLines.{IsLowestDs, IsLowestOf, IsMatchedByAnchor, IsMatchedByDs}
-use Rattle.dnsv_explain.specs.unsigned_cuts.UnsignedCuts.{record_of}
-use Rattle.dnsv_explain.proofs.lemmas.NumberedLemmas.{same_number}
-use Rattle.dnsv_explain.proofs.lemmas.derivations.WayLemmas.KeysLemmas.{mapped_there, read_there}
-use Rattle.dnsv_explain.proofs.lemmas.derivations.WayLemmas.RankLemmas.{RecordAt, ds_read, forms_of, record_said, record_there, same_record}
+use Rattle.dnsv_derivations.specs.unsigned_cuts.UnsignedCuts.{record_of}
+use Rattle.dnsv_derivations.proofs.lemmas.NumberedLemmas.{same_number}
+use Rattle.dnsv_derivations.proofs.lemmas.derivations.WayLemmas.KeysLemmas.{mapped_there, read_there}
+use Rattle.dnsv_derivations.proofs.lemmas.derivations.WayLemmas.RankLemmas.{RecordAt, ds_read, forms_of, record_said, record_there, same_record}
 
 module _ (setting : Setting) (key : DnskeyRecord) where
   -- ---- anchors
@@ -60,6 +61,18 @@ module _ (setting : Setting) (key : DnskeyRecord) where
 
     pub ds_counted : (place : ℕ) → ByDs place → 1 ≤ place
     ds_counted place is = is.1.at.is_rdata.0
+
+    -- none of an RRset of which no record matches
+    pub unmatched : (values : List Ds) → AllZip IsDs (rdata_of_type 43 ds) values
+        → ((each : Ds) → Contains values each → ¬ IsMatch ds.owner each key) → (place : ℕ) → ¬ ByDs place
+    unmatched values read none place is =
+        let rtype : ds.rtype ≡ 43 = sym (ap (λ (each : ReceivedRrset). each.rtype) (its_rrset place is)) ∙ is.1.rtype in
+        let Read : ReceivedRrset → Type 0 = λ one. AllZip IsDs one.rdata is.1.records in
+        let In : List Ds → Type 0 = λ all. Contains all is.1.ds in
+        let Matches : ReceivedRrset → Type 0 = λ one. IsMatch one.owner is.1.ds key in
+        let same : is.1.records ≡ values =
+        same_ds ds.rdata is.1.records values (subst Read (its_rrset place is) is.1.are_read) (ds_read ds values rtype read) in
+        none is.1.ds (subst In same is.1.among) (subst Matches (its_rrset place is) is.1.matching)
 
     module _ {X : Type 0} (rdata : X → List ℕ) (record_in : X → Ds) (rtype : ds.rtype ≡ 43)
         (values : List Ds) (read : AllZip IsDs (rdata_of_type 43 ds) values)

@@ -17,16 +17,17 @@ use Rattle.dnsv_verdict.specs.Case.{CaseContents}
 use Rattle.dnsv_verdict.specs.declared.at_name.Hope.{Hope}
 use Rattle.dnsv_verdict.specs.declared.verdict.Verdict.{Verdict}
 use Rattle.dnsv_verdict.specs.declared.verdict.Verdict.TheVariants.{Pending}
-use Rattle.dnsv_explain.specs.Explained.{Explained, basis_in, explained_by, hoped, setting_in}
+use Rattle.dnsv_derivations.specs.Explained.{Explained, setting_in}
+use Rattle.dnsv_explain.specs.Explained.{basis_in, explained_by, hoped}
 use Rattle.dnsv_explain.specs.Explanation.{IsHopeTold, IsSettledTold, IsVerdictTold, told_kind}
-use Rattle.dnsv_explain.specs.Following.{EachFollows, IsGoodUnder}
-use Rattle.dnsv_explain.specs.Saying.{Adds}
+use Rattle.dnsv_derivations.specs.Following.{EachFollows, IsGoodUnder}
+use Rattle.dnsv_derivations.specs.Saying.{Adds}
 use Rattle.dnsv_lines.specs.declared.line.Kind.{Kind}
 use Rattle.dnsv_lines.specs.declared.line.Line.{Line}
 use Rattle.dnsv_lines.specs.declared.line.Line.TheVariants as line
 use Rattle.dnsv_canonical.specs.declared.number.SignatureNumber.{SignatureNumber}
-use Rattle.dnsv_explain.proofs.lemmas.telling.SayingLemmas.{both_added}
-use Rattle.dnsv_explain.proofs.lemmas.intervals.MomentLemmas.{each_follows_then, good_as}
+use Rattle.dnsv_derivations.proofs.lemmas.SayingLemmas.{both_added}
+use Rattle.dnsv_derivations.proofs.lemmas.intervals.MomentLemmas.{each_follows_then, good_as}
 
 -- ---- answers
 

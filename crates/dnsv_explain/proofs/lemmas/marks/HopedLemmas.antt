@@ -11,10 +11,11 @@ use Rattle.dnsv_verifier.specs.declared.entry.Entry.{Entry}
 use Rattle.dnsv_chain.specs.Trusted.{IsKeyOf}
 use Rattle.dnsv_chain.specs.declared.anchor.Anchor.{Anchor}
 use Rattle.dnsv_verdict.specs.Verdict.{AreUnknown, basis_of}
-use Rattle.dnsv_explain.specs.Explained.{Explained, IsTodo, Setting, hoped, setting_in}
-use Rattle.dnsv_explain.specs.Following.{EachFollows, Follows, FollowsSigned, FollowsTrusted, IsGoodUnder, IsMatchedBy, IsVouchedBy}
+use Rattle.dnsv_derivations.specs.Explained.{Explained, IsTodo, Setting, setting_in}
+use Rattle.dnsv_explain.specs.Explained.{hoped}
+use Rattle.dnsv_derivations.specs.Following.{EachFollows, Follows, FollowsSigned, FollowsTrusted, IsGoodUnder, IsMatchedBy, IsVouchedBy}
 use Rattle.dnsv_explain.specs.Marked.{AnswersMarked, IsMarked}
-use Rattle.dnsv_explain.specs.derivations.Ways.{HasSecured, IsSignedLine, IsTrustedLine}
+use Rattle.dnsv_derivations.specs.derivations.Ways.{HasSecured, IsSignedLine, IsTrustedLine}
 use Rattle.dnsv_lines.specs.declared.line.Line.{Line}
 use Rattle.dnsv_lines.specs.declared.line.Line.TheVariants as line
 use Rattle.dnsv_canonical.specs.declared.number.SignatureNumber.{SignatureNumber}
@@ -22,9 +23,9 @@ use Rattle.dnsv_lines.specs.declared.line.derivation.SignedRrset.{SignedRrset}
 use Rattle.dnsv_lines.specs.declared.line.derivation.TrustedKeys.{TrustedKeys}
 use Rattle.dnsv_lines.specs.declared.line.derivation.Voucher.{Voucher}
 use Rattle.dnsv_lines.specs.declared.line.derivation.Voucher.TheVariants as voucher
-use Rattle.dnsv_explain.proofs.lemmas.NumberedLemmas.{among}
-use Rattle.dnsv_explain.proofs.lemmas.derivations.DerivationLemmas.{same_as}
-use Rattle.dnsv_explain.proofs.lemmas.intervals.MomentLemmas.{good_as, is_behind, is_first, vouched_then}
+use Rattle.dnsv_derivations.proofs.lemmas.NumberedLemmas.{among}
+use Rattle.dnsv_derivations.proofs.lemmas.derivations.DerivationLemmas.{same_as}
+use Rattle.dnsv_derivations.proofs.lemmas.intervals.MomentLemmas.{good_as, is_behind, is_first, vouched_then}
 use Rattle.dnsv_explain.proofs.lemmas.marks.LineLemmas.{IsLineOf}
 use Rattle.dnsv_explain.proofs.lemmas.MemberLemmas.{key_among}
 

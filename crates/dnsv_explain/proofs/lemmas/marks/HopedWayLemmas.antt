@@ -10,10 +10,11 @@ use Rattle.dnsv_verdict.specs.Verdict.{AreUnknown, IsVerdictAt}
 use Rattle.dnsv_verdict.specs.declared.at_name.Hope.{Hope}
 use Rattle.dnsv_verdict.specs.declared.verdict.Verdict.{Verdict}
 use Rattle.dnsv_verdict.specs.declared.verdict.Verdict.TheVariants.{Pending}
-use Rattle.dnsv_explain.specs.Explained.{Explained, explained_by, hoped, setting_in}
-use Rattle.dnsv_explain.specs.derivations.KeptWays.{AreHopedWays}
-use Rattle.dnsv_explain.specs.derivations.WaySearch.{AreFirstWays}
-use Rattle.dnsv_explain.specs.declared.derivations.ways.kept.KeptWay.{KeptWay}
+use Rattle.dnsv_derivations.specs.Explained.{Explained, setting_in}
+use Rattle.dnsv_explain.specs.Explained.{explained_by, hoped}
+use Rattle.dnsv_explain.specs.SharedWays.{AreHopedWays}
+use Rattle.dnsv_derivations.specs.derivations.WaySearch.{AreFirstWays}
+use Rattle.dnsv_derivations.specs.declared.derivations.ways.kept.KeptWay.{KeptWay}
 use Rattle.dnsv_explain.proofs.lemmas.marks.HopeLemmas.{is_hoped}
 
 -- what a verdict that needs answers lists

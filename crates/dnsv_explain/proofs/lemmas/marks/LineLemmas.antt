@@ -11,19 +11,19 @@ use Rattle.dnsv_denial.specs.declared.unsigned_cuts.shown_cut.ShownCut.TheVarian
 use Rattle.dnsv_verdict.specs.declared.link.Link.{Link}
 use Rattle.dnsv_verdict.specs.declared.verdict.Verdict.{Verdict}
 use Rattle.dnsv_verdict.specs.declared.verdict.Verdict.TheVariants.{SecureAnswer, SecureAlias, SecureNoName, SecureNoData, Insecure, Pending, Bogus, Indeterminate}
-use Rattle.dnsv_explain.specs.Denials.{IsDenialTold, IsPartSaid, IsPartTold, IsProofOf, IsProofSaid, IsProofTold, IsProofWithParts, told_form}
-use Rattle.dnsv_explain.specs.Explained.{Setting}
+use Rattle.dnsv_derivations.specs.Denials.{IsDenialTold, IsPartSaid, IsPartTold, IsProofOf, IsProofSaid, IsProofTold, IsProofWithParts, told_form}
+use Rattle.dnsv_derivations.specs.Explained.{Setting}
 use Rattle.dnsv_explain.specs.Explanation.{IsLinkTold, IsSetTold, IsSettledTold, IsUnsignedFromTold, signature_of}
 use Rattle.dnsv_explain.specs.Explanation.IsSetTold.{as_owned, by_wildcard}
 use Rattle.dnsv_explain.specs.Explanation.IsUnsignedFromTold.{by_cut, by_wildcard as loosely}
-use Rattle.dnsv_explain.specs.Saying.{AreBoth, AreEach, IsOnce}
-use Rattle.dnsv_explain.specs.derivations.Derivations.{IsDerivation, Subject}
-use Rattle.dnsv_explain.specs.derivations.Derivations.IsDerivation.{said_trusted, anchored, delegated, said_signed, signed}
-use Rattle.dnsv_explain.specs.derivations.Derivations.Subject.{keys, signature}
-use Rattle.dnsv_explain.specs.derivations.OwnDerivations.{AreRecordsDerived, IsOwnDerivation, IsSignatureTold}
-use Rattle.dnsv_explain.specs.derivations.Ways.{IsSignedLine, IsTrustedLine}
-use Rattle.dnsv_explain.specs.unsigned_cuts.ShownCuts.{IsCutTold, IsUnsignedTold}
-use Rattle.dnsv_explain.specs.unsigned_cuts.UnsignedCuts.{AreAllTold, IsCaseTold, IsUnusableTold}
+use Rattle.dnsv_derivations.specs.Saying.{AreBoth, AreEach, IsOnce}
+use Rattle.dnsv_derivations.specs.derivations.Derivations.{IsDerivation, Subject}
+use Rattle.dnsv_derivations.specs.derivations.Derivations.IsDerivation.{said_trusted, anchored, delegated, said_signed, signed}
+use Rattle.dnsv_derivations.specs.derivations.Derivations.Subject.{keys, signature}
+use Rattle.dnsv_derivations.specs.derivations.OwnDerivations.{AreRecordsDerived, IsOwnDerivation, IsSignatureTold}
+use Rattle.dnsv_derivations.specs.derivations.Ways.{IsSignedLine, IsTrustedLine}
+use Rattle.dnsv_derivations.specs.unsigned_cuts.ShownCuts.{IsCutTold, IsUnsignedTold}
+use Rattle.dnsv_derivations.specs.unsigned_cuts.UnsignedCuts.{AreAllTold, IsCaseTold, IsUnusableTold}
 use Rattle.dnsv_lines.specs.declared.line.Line.{Line}
 use Rattle.dnsv_lines.specs.declared.line.Line.TheVariants as line
 use Rattle.dnsv_lines.specs.declared.line.cut.InsecureCase.{InsecureCase}

@@ -23,11 +23,12 @@ use Rattle.dnsv_verdict.specs.declared.link.Link.{Link}
 use Rattle.dnsv_verdict.specs.declared.report.Report.{Report}
 use Rattle.dnsv_verdict.specs.declared.verdict.Verdict.{Verdict}
 use Rattle.dnsv_verdict.specs.declared.verdict.Verdict.TheVariants.{SecureAnswer, SecureAlias, SecureNoName, SecureNoData, Insecure, Pending, Bogus, Indeterminate}
-use Rattle.dnsv_explain.specs.Explained.{Explained, Setting, hoped, setting_in}
+use Rattle.dnsv_derivations.specs.Explained.{Explained, Setting, setting_in}
+use Rattle.dnsv_explain.specs.Explained.{hoped}
 use Rattle.dnsv_explain.specs.Explanation.{IsEndTold, IsExplanation, IsExplanationOf, IsHopeTold, IsLinkTold, IsSettledTold, IsVerdictTold, IsWayTold, signature_of, told_kind}
-use Rattle.dnsv_explain.specs.Following.{EachFollows, IsSignatureSaid}
+use Rattle.dnsv_derivations.specs.Following.{EachFollows, IsSignatureSaid}
 use Rattle.dnsv_explain.specs.Marked.{AnswersMarked, IsMarked}
-use Rattle.dnsv_explain.specs.Saying.{AreEach}
+use Rattle.dnsv_derivations.specs.Saying.{AreEach}
 use Rattle.dnsv_lines.specs.declared.line.Kind.{Kind}
 use Rattle.dnsv_lines.specs.declared.line.Kind.TheVariants as kind
 use Rattle.dnsv_lines.specs.declared.line.Line.{Line}
@@ -35,7 +36,7 @@ use Rattle.dnsv_lines.specs.declared.line.Line.TheVariants as line
 use Rattle.dnsv_lines.specs.declared.line.place.RrsetPlace.{RrsetPlace}
 use Rattle.dnsv_explain.proofs.lemmas.telling.ExplanationLemmas.{explanation_follows}
 use Rattle.dnsv_explain.proofs.lemmas.telling.FollowingLemmas.{all_true, no_lines, said_secured}
-use Rattle.dnsv_explain.proofs.lemmas.intervals.MomentLemmas.{is_first}
+use Rattle.dnsv_derivations.proofs.lemmas.intervals.MomentLemmas.{is_first}
 use Rattle.dnsv_explain.proofs.lemmas.marks.HopedLemmas.{IsIts, each_then, unknown_of}
 use Rattle.dnsv_explain.proofs.lemmas.marks.HopedLemmas.IsIts.{known, under_hope}
 use Rattle.dnsv_explain.proofs.lemmas.marks.LineLemmas.{IsLineOf, both, links_told, settled_told}

@@ -24,7 +24,7 @@ use Rattle.dnsv_denial.specs.declared.forms.proof_form.ProofForm.TheVariants as 
 use Rattle.dnsv_denial.specs.declared.forms.proof_form.WildcardParts.{WildcardParts}
 use Rattle.dnsv_canonical.specs.declared.number.RecordNumber.{RecordNumber}
 use Rattle.dnsv_verdict.proofs.OneProof.{number_exact, number_total}
-use Rattle.dnsv_explain.proofs.lemmas.one.StepLemmas.{even}
+use Rattle.dnsv_derivations.proofs.lemmas.one.StepLemmas.{even}
 
 first_by : (Says : RecordNumber → Type 0) (a b : RecordNumber) (o : Ordering) → number_cmp a b ≡ o → IsFirstToSay number_cmp Says a
     → IsFirstToSay number_cmp Says b → a ≡ b

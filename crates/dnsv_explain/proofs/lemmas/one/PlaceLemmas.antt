@@ -3,17 +3,17 @@ use Rattle.std.proofs.Common.{◌≡◌, ◌∙◌, ⊎_elim, ℕ, List, [], ◌
 use Rattle.std.specs.List.{Contains}
 use Rattle.dnsv_canonical.specs.Rrsets.{IsNumbered, ReceivedRrset}
 use Rattle.dnsv_explain.specs.Explanation.{IsEnd}
-use Rattle.dnsv_explain.specs.Following.{IsPlaceOf}
-use Rattle.dnsv_explain.specs.Places.{ArePlacesOf, ArePlacesTold, place_numbers}
-use Rattle.dnsv_explain.specs.intervals.Holding.{AreShownValidAt}
+use Rattle.dnsv_derivations.specs.Following.{IsPlaceOf}
+use Rattle.dnsv_derivations.specs.Places.{ArePlacesOf, ArePlacesTold, place_numbers}
+use Rattle.dnsv_derivations.specs.intervals.Holding.{AreShownValidAt}
 use Rattle.dnsv_lines.specs.declared.line.Line.{Line}
 use Rattle.dnsv_lines.specs.declared.line.Line.TheVariants as line
 use Rattle.dnsv_lines.specs.declared.line.place.RrsetPlace.{RrsetPlace}
-use Rattle.dnsv_explain.proofs.lemmas.NumberedLemmas.{same_number}
-use Rattle.dnsv_explain.proofs.lemmas.intervals.HoldingLemmas.{one_around}
-use Rattle.dnsv_explain.proofs.lemmas.intervals.MomentLemmas.{first_or_behind, is_behind, is_first}
+use Rattle.dnsv_derivations.proofs.lemmas.NumberedLemmas.{same_number}
+use Rattle.dnsv_derivations.proofs.lemmas.intervals.HoldingLemmas.{one_around}
+use Rattle.dnsv_derivations.proofs.lemmas.intervals.MomentLemmas.{first_or_behind, is_behind, is_first}
 use Rattle.dnsv_explain.proofs.lemmas.one.ShownLemmas.{one_rising}
-use Rattle.dnsv_explain.proofs.lemmas.one.StepLemmas.{IsOne}
+use Rattle.dnsv_derivations.proofs.lemmas.one.StepLemmas.{IsOne}
 
 -- ---- places
 

@@ -32,27 +32,28 @@ use Rattle.dnsv_verdict.specs.declared.link.Link.{Link}
 use Rattle.dnsv_verdict.specs.declared.report.Report.{Report}
 use Rattle.dnsv_verdict.specs.declared.verdict.Verdict.{Verdict}
 use Rattle.dnsv_verdict.specs.declared.verdict.Verdict.TheVariants.{SecureAnswer, SecureAlias, SecureNoName, SecureNoData, Insecure, Pending, Bogus, Indeterminate}
-use Rattle.dnsv_explain.specs.Denials.{IsDenialTold, IsExpandedTold}
-use Rattle.dnsv_explain.specs.Explained.{Explained, Setting, hoped, setting_in}
+use Rattle.dnsv_derivations.specs.Denials.{IsDenialTold, IsExpandedTold}
+use Rattle.dnsv_derivations.specs.Explained.{Explained, Setting, setting_in}
+use Rattle.dnsv_explain.specs.Explained.{hoped}
 use Rattle.dnsv_explain.specs.Explanation.{IsEndTold, IsExplanation, IsExplanationOf, IsFailureTold, IsHoldingTold, IsHopeTold, IsLinkTold, IsNoDataTold, IsNoNameTold, IsSetTold, IsSettledTold, IsUnsignedFromTold, IsVerdictTold, IsWayTold, signature_of, told_kind}
 use Rattle.dnsv_explain.specs.Explanation.IsSetTold.{as_owned, by_wildcard}
 use Rattle.dnsv_explain.specs.Explanation.IsUnsignedFromTold.{by_cut, by_wildcard as loosely}
-use Rattle.dnsv_explain.specs.Saying.{AreBoth, AreEach}
-use Rattle.dnsv_explain.specs.derivations.OwnDerivations.{IsSignatureTold}
-use Rattle.dnsv_explain.specs.unsigned_cuts.ShownCuts.{IsCutTold, IsUnsignedTold}
+use Rattle.dnsv_derivations.specs.Saying.{AreBoth, AreEach}
+use Rattle.dnsv_derivations.specs.derivations.OwnDerivations.{IsSignatureTold}
+use Rattle.dnsv_derivations.specs.unsigned_cuts.ShownCuts.{IsCutTold, IsUnsignedTold}
 use Rattle.dnsv_lines.specs.declared.line.Kind.{Kind}
 use Rattle.dnsv_lines.specs.declared.line.Line.{Line}
 use Rattle.dnsv_lines.specs.declared.line.Line.TheVariants as line
 use Rattle.dnsv_lines.specs.declared.line.cut.InsecureCase.TheVariants as case
 use Rattle.dnsv_canonical.specs.declared.number.SignatureNumber.{SignatureNumber}
 use Rattle.dnsv_explain.proofs.lemmas.one.FailureLemmas.{one_failure_told}
-use Rattle.dnsv_explain.proofs.lemmas.one.CutLemmas.{one_cut_told, one_unsigned}
-use Rattle.dnsv_explain.proofs.lemmas.one.DenialLemmas.{one_denial, one_expanded}
-use Rattle.dnsv_explain.proofs.lemmas.one.DerivationLemmas.{one_held, one_signature}
+use Rattle.dnsv_derivations.proofs.lemmas.one.CutLemmas.{one_cut_told, one_unsigned}
+use Rattle.dnsv_derivations.proofs.lemmas.one.DenialLemmas.{one_denial, one_expanded}
+use Rattle.dnsv_derivations.proofs.lemmas.one.DerivationLemmas.{one_held, one_signature}
 use Rattle.dnsv_explain.proofs.lemmas.one.PlaceLemmas.{one_end, one_places_told}
 use Rattle.dnsv_explain.proofs.lemmas.one.ShownLemmas.{cut_there, one_shown_closer, one_shown_cut, one_shown_data, one_shown_name, one_shown_out, one_trust}
-use Rattle.dnsv_explain.proofs.lemmas.one.StepLemmas.{IsOne, one_both, one_each}
-use Rattle.dnsv_explain.proofs.lemmas.one.TrustedLemmas.{AreApart, one_signature_at}
+use Rattle.dnsv_derivations.proofs.lemmas.one.StepLemmas.{IsOne, one_both, one_each}
+use Rattle.dnsv_derivations.proofs.lemmas.one.TrustedLemmas.{AreApart, one_signature_at}
 
 -- which signatures are kept as good
 abbrev Kept : (ℕ → List ℕ) → ℕ → ℕ → Type 0

@@ -17,21 +17,21 @@ use Rattle.dnsv_denial.specs.declared.proving.shown_denial.ShownDenial.{ShownDen
 use Rattle.dnsv_canonical.specs.declared.number.RecordNumber.{RecordNumber}
 use Rattle.dnsv_denial.specs.declared.unsigned_cuts.shown_cut.ShownCut.{ShownCut}
 use Rattle.dnsv_verdict.specs.Insecure.{IsUnsigned}
-use Rattle.dnsv_explain.specs.Denials.{IsProofWithParts}
-use Rattle.dnsv_explain.specs.Explained.{Setting}
+use Rattle.dnsv_derivations.specs.Denials.{IsProofWithParts}
+use Rattle.dnsv_derivations.specs.Explained.{Setting}
 use Rattle.dnsv_explain.specs.Explanation.{IsUnsignedFromTold, signature_of}
 use Rattle.dnsv_explain.specs.Explanation.IsUnsignedFromTold.{by_cut, by_wildcard}
-use Rattle.dnsv_explain.specs.Following.{IsSignatureSaid}
-use Rattle.dnsv_explain.specs.Saying.{AreBoth}
-use Rattle.dnsv_explain.specs.derivations.OwnDerivations.{AreRecordsDerived, IsSignatureTold}
-use Rattle.dnsv_explain.specs.unsigned_cuts.ShownCuts.{IsCutTold, IsUnsignedTold}
-use Rattle.dnsv_explain.specs.unsigned_cuts.UnsignedCuts.{AreAllTold, IsCaseTold, IsUnusableTold}
+use Rattle.dnsv_derivations.specs.Following.{IsSignatureSaid}
+use Rattle.dnsv_derivations.specs.Saying.{AreBoth}
+use Rattle.dnsv_derivations.specs.derivations.OwnDerivations.{AreRecordsDerived, IsSignatureTold}
+use Rattle.dnsv_derivations.specs.unsigned_cuts.ShownCuts.{IsCutTold, IsUnsignedTold}
+use Rattle.dnsv_derivations.specs.unsigned_cuts.UnsignedCuts.{AreAllTold, IsCaseTold, IsUnusableTold}
 use Rattle.dnsv_lines.specs.declared.line.Line.{Line}
 use Rattle.dnsv_lines.specs.declared.line.cut.InsecureCase.{InsecureCase}
 use Rattle.dnsv_lines.specs.declared.line.cut.InsecureCase.TheVariants as case
-use Rattle.dnsv_explain.proofs.lemmas.denials.PartLemmas.{zone_as}
-use Rattle.dnsv_explain.proofs.lemmas.denials.ShownLemmas.{spelled}
-use Rattle.dnsv_explain.proofs.lemmas.stands.FormLemmas.{Counts, delegation_by, each_by, opt_out_by, opt_out_closer_by}
+use Rattle.dnsv_derivations.proofs.lemmas.denials.PartLemmas.{zone_as}
+use Rattle.dnsv_derivations.proofs.lemmas.denials.ShownLemmas.{spelled}
+use Rattle.dnsv_derivations.proofs.lemmas.denials.StandingLemmas.{Counts, delegation_by, each_by, opt_out_by, opt_out_closer_by}
 use Rattle.dnsv_explain.proofs.lemmas.stands.ToldLemmas.{Lies, back, front, records_count, signature_counts}
 
 module _ (setting : Setting) (T : ℕ → ℕ → Type 0) (all : List Line) (counts : (k s : ℕ) → IsSignatureSaid all (signature_of k s) → T k s)

@@ -18,22 +18,22 @@ use Rattle.dnsv_denial.specs.declared.forms.proof_form.ProofForm.{ProofForm}
 use Rattle.dnsv_denial.specs.declared.proving.shown_denial.ShownDenial.{ShownDenial}
 use Rattle.dnsv_canonical.specs.declared.number.RecordNumber.{RecordNumber}
 use Rattle.dnsv_verdict.specs.Secure.{HoldsForName, IsSecureSet}
-use Rattle.dnsv_explain.specs.Denials.{IsDenialTold, IsProofWithParts}
-use Rattle.dnsv_explain.specs.Explained.{Setting}
+use Rattle.dnsv_derivations.specs.Denials.{IsDenialTold, IsProofWithParts}
+use Rattle.dnsv_derivations.specs.Explained.{Setting}
 use Rattle.dnsv_explain.specs.Explanation.{IsNoDataTold, IsNoNameTold, IsSetTold, signature_of}
 use Rattle.dnsv_explain.specs.Explanation.IsSetTold.{as_owned, by_wildcard}
-use Rattle.dnsv_explain.specs.Following.{IsSignatureSaid}
-use Rattle.dnsv_explain.specs.Saying.{AreBoth}
-use Rattle.dnsv_explain.specs.derivations.OwnDerivations.{AreRecordsDerived, IsSignatureTold, SecuredIn}
+use Rattle.dnsv_derivations.specs.Following.{IsSignatureSaid}
+use Rattle.dnsv_derivations.specs.Saying.{AreBoth}
+use Rattle.dnsv_derivations.specs.derivations.OwnDerivations.{AreRecordsDerived, IsSignatureTold, SecuredIn}
 use Rattle.dnsv_lines.specs.declared.line.Line.{Line}
 use Rattle.dnsv_canonical.specs.declared.number.SignatureNumber.{SignatureNumber}
-use Rattle.dnsv_explain.proofs.lemmas.denials.FollowLemmas.{OwnSaid, Said, records_said, said_stays}
-use Rattle.dnsv_explain.proofs.lemmas.denials.FormLemmas.{each_member}
-use Rattle.dnsv_explain.proofs.lemmas.denials.PartLemmas.{secured_too, zone_as}
-use Rattle.dnsv_explain.proofs.lemmas.denials.ShownLemmas.{spelled}
-use Rattle.dnsv_explain.proofs.lemmas.derivations.DerivationLemmas.{number_said}
-use Rattle.dnsv_explain.proofs.lemmas.one.TrustedLemmas.{one_signature_at}
-use Rattle.dnsv_explain.proofs.lemmas.stands.FormLemmas.{Counts, each_by, no_closer_by, no_data_by, no_name_by}
+use Rattle.dnsv_derivations.proofs.lemmas.denials.FollowLemmas.{OwnSaid, Said, records_said, said_stays}
+use Rattle.dnsv_derivations.proofs.lemmas.denials.FormLemmas.{each_member}
+use Rattle.dnsv_derivations.proofs.lemmas.denials.PartLemmas.{secured_too, zone_as}
+use Rattle.dnsv_derivations.proofs.lemmas.denials.ShownLemmas.{spelled}
+use Rattle.dnsv_derivations.proofs.lemmas.derivations.DerivationLemmas.{number_said}
+use Rattle.dnsv_derivations.proofs.lemmas.one.TrustedLemmas.{one_signature_at}
+use Rattle.dnsv_derivations.proofs.lemmas.denials.StandingLemmas.{Counts, each_by, no_closer_by, no_data_by, no_name_by}
 
 module _ (setting : Setting) (T : ℕ → ℕ → Type 0) (all : List Line) (counts : (k s : ℕ) → IsSignatureSaid all (signature_of k s) → T k s) where
   -- the lines of a step lie among all

@@ -7,17 +7,18 @@ use Rattle.dnsv_verifier.specs.declared.entry.Entry.{Entry}
 use Rattle.dnsv_verdict.specs.declared.link.Link.{Link}
 use Rattle.dnsv_verdict.specs.declared.verdict.Verdict.{Verdict}
 use Rattle.dnsv_verdict.specs.declared.verdict.Verdict.TheVariants.{SecureAnswer, SecureAlias, SecureNoName, SecureNoData, Insecure, Pending, Bogus, Indeterminate}
-use Rattle.dnsv_explain.specs.Denials.IsShownBy.{no_name, no_data, no_closer}
-use Rattle.dnsv_explain.specs.Explained.{Explained, Setting, hoped, setting_in}
+use Rattle.dnsv_derivations.specs.Denials.IsShownBy.{no_name, no_data, no_closer}
+use Rattle.dnsv_derivations.specs.Explained.{Explained, Setting, setting_in}
+use Rattle.dnsv_explain.specs.Explained.{hoped}
 use Rattle.dnsv_explain.specs.Explanation.{IsEnd, IsEndTold, IsExplanation, IsFailureTold, IsHoldingTold, IsHopeTold, IsLinkTold, IsSetTold, IsSettledTold, IsUnsignedFromTold, IsVerdictTold, IsWayTold, its_setting, signature_of}
 use Rattle.dnsv_explain.specs.Explanation.IsSetTold.{as_owned, by_wildcard}
 use Rattle.dnsv_explain.specs.Explanation.IsUnsignedFromTold.{by_cut, by_wildcard as by_open_wildcard}
-use Rattle.dnsv_explain.specs.Following.{EachFollows, IsPlaceOf}
-use Rattle.dnsv_explain.specs.Places.{ArePlacesOf, ArePlacesTold}
-use Rattle.dnsv_explain.specs.Saying.{Adds, AreBoth, AreEach}
-use Rattle.dnsv_explain.specs.derivations.Derivations.Subject.{signature}
-use Rattle.dnsv_explain.specs.intervals.Holding.{AreShownValidAt, IsHoldingOf}
-use Rattle.dnsv_explain.specs.unsigned_cuts.ShownCuts.IsShownUnsigned.{closer_opted_out}
+use Rattle.dnsv_derivations.specs.Following.{EachFollows, IsPlaceOf}
+use Rattle.dnsv_derivations.specs.Places.{ArePlacesOf, ArePlacesTold}
+use Rattle.dnsv_derivations.specs.Saying.{Adds, AreBoth, AreEach}
+use Rattle.dnsv_derivations.specs.derivations.Derivations.Subject.{signature}
+use Rattle.dnsv_derivations.specs.intervals.Holding.{AreShownValidAt, IsHoldingOf}
+use Rattle.dnsv_derivations.specs.unsigned_cuts.ShownCuts.IsShownUnsigned.{closer_opted_out}
 use Rattle.dnsv_lines.specs.declared.line.interval.Interval.{Interval}
 use Rattle.dnsv_lines.specs.declared.line.Line.{Line}
 use Rattle.dnsv_lines.specs.declared.line.Line.TheVariants as line
@@ -25,11 +26,11 @@ use Rattle.dnsv_lines.specs.declared.line.cut.InsecureCase.TheVariants as case
 use Rattle.dnsv_canonical.specs.declared.number.SignatureNumber.{SignatureNumber}
 use Rattle.dnsv_lines.specs.declared.line.place.RrsetPlace.{RrsetPlace}
 use Rattle.dnsv_explain.proofs.lemmas.telling.QuietLemmas.{failure_follows}
-use Rattle.dnsv_explain.proofs.lemmas.derivations.HeldLemmas.{held_follows}
+use Rattle.dnsv_derivations.proofs.lemmas.derivations.HeldLemmas.{held_follows}
 use Rattle.dnsv_explain.proofs.lemmas.marks.HopeLemmas.{still_follow}
-use Rattle.dnsv_explain.proofs.lemmas.denials.FollowLemmas.{behind, both_follow, denial_follows, each_follow, expanded_follows, first_of, unsigned_follows}
-use Rattle.dnsv_explain.proofs.lemmas.derivations.DerivationLemmas.{derivation_follows}
-use Rattle.dnsv_explain.proofs.lemmas.unsigned_cuts.CutFollowLemmas.{cut_follows}
+use Rattle.dnsv_derivations.proofs.lemmas.denials.FollowLemmas.{behind, both_follow, denial_follows, each_follow, expanded_follows, first_of, unsigned_follows}
+use Rattle.dnsv_derivations.proofs.lemmas.derivations.DerivationLemmas.{derivation_follows}
+use Rattle.dnsv_derivations.proofs.lemmas.unsigned_cuts.CutFollowLemmas.{cut_follows}
 
 -- ---- a verdict that needs no more answers
 

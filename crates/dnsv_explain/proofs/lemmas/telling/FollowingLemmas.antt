@@ -10,14 +10,14 @@ use Rattle.dnsv_verifier.specs.Admissible.{DnskeyRecord}
 use Rattle.dnsv_denial.specs.words.EvidenceWords.{Chain, evidence_said}
 use Rattle.dnsv_verdict.proofs.FormLemmas.{SaysNoLess, cut_to, opts_out_to}
 use Rattle.dnsv_verdict.proofs.SettledLemmas.EvidenceLemmas.{chain_to}
-use Rattle.dnsv_explain.specs.Explained.{Setting}
-use Rattle.dnsv_explain.specs.Following.{EachFollows, Follows, FollowsTrusted, IsMatchedBy, IsSaidSigned, IsSignatureSaid}
-use Rattle.dnsv_explain.specs.Following.Cases.{IsCaseBy, IsCaseOf}
-use Rattle.dnsv_explain.specs.Following.Parts.{IsPartOf, IsUnusableRecord}
-use Rattle.dnsv_explain.specs.derivations.Ways.{HasSecured, IsWayInto}
-use Rattle.dnsv_explain.proofs.lemmas.NumberedLemmas.{same_number}
-use Rattle.dnsv_explain.proofs.lemmas.denials.PartLemmas.{said_too}
-use Rattle.dnsv_explain.proofs.lemmas.derivations.WayLemmas.{way_leads}
+use Rattle.dnsv_derivations.specs.Explained.{Setting}
+use Rattle.dnsv_derivations.specs.Following.{EachFollows, Follows, FollowsTrusted, IsMatchedBy, IsSaidSigned, IsSignatureSaid}
+use Rattle.dnsv_derivations.specs.Following.Cases.{IsCaseBy, IsCaseOf}
+use Rattle.dnsv_derivations.specs.Following.Parts.{IsPartOf, IsUnusableRecord}
+use Rattle.dnsv_derivations.specs.derivations.Ways.{HasSecured, IsWayInto}
+use Rattle.dnsv_derivations.proofs.lemmas.NumberedLemmas.{same_number}
+use Rattle.dnsv_derivations.proofs.lemmas.denials.PartLemmas.{said_too}
+use Rattle.dnsv_derivations.proofs.lemmas.derivations.WayLemmas.{way_leads}
 use Rattle.dnsv_lines.specs.declared.line.Line.{Line}
 use Rattle.dnsv_lines.specs.declared.line.Line.TheVariants as line
 use Rattle.dnsv_lines.specs.declared.line.cut.InsecureCase.{InsecureCase}

@@ -4,9 +4,9 @@ use Rattle.std.specs.List.{AllByRecursion}
 use Rattle.dnsv_names.specs.Name.{Labels}
 use Rattle.dnsv_canonical.specs.Rrsets.{ReceivedRrset}
 use Rattle.dnsv_verifier.specs.Admissible.{DnskeyRecord}
-use Rattle.dnsv_explain.specs.Explained.{Setting}
+use Rattle.dnsv_derivations.specs.Explained.{Setting}
 use Rattle.dnsv_explain.specs.Explanation.{IsFailureTold, asking_in}
-use Rattle.dnsv_explain.specs.Following.{EachFollows, Follows}
+use Rattle.dnsv_derivations.specs.Following.{EachFollows, Follows}
 use Rattle.dnsv_explain.specs.KeyLines.{AreLinesOfSet, IsKeyLine}
 use Rattle.dnsv_explain.specs.Listing.{AreOfNumbered}
 use Rattle.dnsv_lines.specs.declared.line.Line.{Line}

@@ -22,18 +22,19 @@ use Rattle.dnsv_verdict.specs.Case.{CaseContents}
 use Rattle.dnsv_verdict.specs.declared.link.Link.{Link}
 use Rattle.dnsv_verdict.specs.declared.verdict.Verdict.{Verdict}
 use Rattle.dnsv_verdict.specs.declared.verdict.Verdict.TheVariants.{SecureAnswer, SecureAlias, SecureNoName, SecureNoData, Insecure, Pending, Bogus, Indeterminate}
-use Rattle.dnsv_explain.specs.Explained.{Explained, Setting, basis_in, explained_by, setting_in}
+use Rattle.dnsv_derivations.specs.Explained.{Explained, Setting, setting_in}
+use Rattle.dnsv_explain.specs.Explained.{basis_in, explained_by}
 use Rattle.dnsv_explain.specs.Explanation.{IsSettledTold, IsSignatureAt, IsVerdictTold, told_kind}
-use Rattle.dnsv_explain.specs.Saying.{Adds}
-use Rattle.dnsv_explain.specs.derivations.HeldTo.{IsHeldTo}
-use Rattle.dnsv_explain.specs.derivations.OwnDerivations.{SecuredIn}
+use Rattle.dnsv_derivations.specs.Saying.{Adds}
+use Rattle.dnsv_derivations.specs.derivations.HeldTo.{IsHeldTo}
+use Rattle.dnsv_derivations.specs.derivations.OwnDerivations.{SecuredIn}
 use Rattle.dnsv_lines.specs.declared.line.Kind.{Kind}
 use Rattle.dnsv_lines.specs.declared.line.Kind.TheVariants as kind
 use Rattle.dnsv_lines.specs.declared.line.Line.{Line}
 use Rattle.dnsv_canonical.specs.declared.number.SignatureNumber.{SignatureNumber}
-use Rattle.dnsv_explain.proofs.lemmas.NumberedLemmas.{same_number}
+use Rattle.dnsv_derivations.proofs.lemmas.NumberedLemmas.{same_number}
 use Rattle.dnsv_explain.proofs.lemmas.telling.TellLemmas.{at_same, within_same}
-use Rattle.dnsv_explain.proofs.lemmas.derivations.SignerLemmas.{no_signature}
+use Rattle.dnsv_derivations.proofs.lemmas.derivations.SignerLemmas.{no_signature}
 
 -- ---- a secure RRset
 

@@ -25,22 +25,23 @@ use Rattle.dnsv_verdict.specs.Secure.{IsFirstSuch}
 use Rattle.dnsv_verdict.specs.Way.{names_on}
 use Rattle.dnsv_verdict.specs.Case.{CaseContents}
 use Rattle.dnsv_verdict.specs.declared.link.Link.{Link}
-use Rattle.dnsv_explain.specs.Denials.{IsDenialTold, IsShownDenial}
-use Rattle.dnsv_explain.specs.Denials.IsShownBy.{no_name, no_data, no_closer}
-use Rattle.dnsv_explain.specs.Explained.{Explained, Setting, explained_by, setting_in}
+use Rattle.dnsv_derivations.specs.Denials.{IsDenialTold, IsShownDenial}
+use Rattle.dnsv_derivations.specs.Denials.IsShownBy.{no_name, no_data, no_closer}
+use Rattle.dnsv_derivations.specs.Explained.{Explained, Setting, setting_in}
+use Rattle.dnsv_explain.specs.Explained.{explained_by}
 use Rattle.dnsv_explain.specs.Explanation.{IsNoDataTold, IsNoNameTold, IsSetTold, IsSignatureAt, IsUnsignedFromTold, signature_of}
 use Rattle.dnsv_explain.specs.Explanation.IsSetTold.{as_owned, by_wildcard}
 use Rattle.dnsv_explain.specs.Explanation.IsUnsignedFromTold.{by_cut, by_wildcard as by_open_wildcard}
-use Rattle.dnsv_explain.specs.Saying.{Adds}
-use Rattle.dnsv_explain.specs.derivations.OwnDerivations.{IsSignatureTold, IsTrustIn, SecuredIn as GoodIn}
-use Rattle.dnsv_explain.specs.unsigned_cuts.ShownCuts.{IsCutShownBy, IsCutTold, IsShownUnsigned, IsUnsignedTold}
-use Rattle.dnsv_explain.specs.unsigned_cuts.ShownCuts.IsShownUnsigned.{closer_opted_out}
+use Rattle.dnsv_derivations.specs.Saying.{Adds}
+use Rattle.dnsv_derivations.specs.derivations.OwnDerivations.{IsSignatureTold, IsTrustIn, SecuredIn as GoodIn}
+use Rattle.dnsv_derivations.specs.unsigned_cuts.ShownCuts.{IsCutShownBy, IsCutTold, IsShownUnsigned, IsUnsignedTold}
+use Rattle.dnsv_derivations.specs.unsigned_cuts.ShownCuts.IsShownUnsigned.{closer_opted_out}
 use Rattle.dnsv_lines.specs.declared.line.Line.{Line}
 use Rattle.dnsv_lines.specs.declared.line.cut.InsecureCase.TheVariants as case
 use Rattle.dnsv_canonical.specs.declared.number.SignatureNumber.{SignatureNumber}
-use Rattle.dnsv_explain.proofs.lemmas.telling.SayingLemmas.{both_added}
-use Rattle.dnsv_explain.proofs.lemmas.denials.TrustLemmas.{kept_good}
-use Rattle.dnsv_explain.proofs.lemmas.intervals.ShownLemmas.{rdata_at}
+use Rattle.dnsv_derivations.proofs.lemmas.SayingLemmas.{both_added}
+use Rattle.dnsv_derivations.proofs.lemmas.denials.TrustLemmas.{kept_good}
+use Rattle.dnsv_derivations.proofs.lemmas.intervals.ShownLemmas.{rdata_at}
 
 pub signature_at : (rrsets : List ReceivedRrset) (number : SignatureNumber) (rrset : ReceivedRrset) (rrsigs : List Rrsig) (rrsig : Rrsig)
     → IsNumbered rrsets number.rrset rrset → AllZip IsRrsig rrset.signatures rrsigs → IsNumbered rrsigs number.signature rrsig

@@ -3,21 +3,21 @@ use Rattle.std.proofs.Common.{◌≡◌, ◌≤◌, ◌+◌, ◌++◌, ◌∙◌
 use Rattle.std.proofs.lemmas.List.{length_push}
 use Rattle.std.proofs.lemmas.List.Elements.{Contains-append_cases}
 use Rattle.std.specs.List.{Contains}
-use Rattle.dnsv_explain.specs.Explained.{Setting}
-use Rattle.dnsv_explain.specs.Following.{IsSaidTrusted, IsSignatureSaid}
-use Rattle.dnsv_explain.specs.derivations.Derivations.{IsDerivation, Subject}
-use Rattle.dnsv_explain.specs.derivations.Derivations.IsDerivation.{said_trusted, anchored, delegated, said_signed, signed}
-use Rattle.dnsv_explain.specs.derivations.Derivations.Subject.{keys, signature}
-use Rattle.dnsv_explain.specs.derivations.Ways.{IsSignedLine, IsTrustedLine, Way}
+use Rattle.dnsv_derivations.specs.Explained.{Setting}
+use Rattle.dnsv_derivations.specs.Following.{IsSaidTrusted, IsSignatureSaid}
+use Rattle.dnsv_derivations.specs.derivations.Derivations.{IsDerivation, Subject}
+use Rattle.dnsv_derivations.specs.derivations.Derivations.IsDerivation.{said_trusted, anchored, delegated, said_signed, signed}
+use Rattle.dnsv_derivations.specs.derivations.Derivations.Subject.{keys, signature}
+use Rattle.dnsv_derivations.specs.derivations.Ways.{IsSignedLine, IsTrustedLine, Way}
 use Rattle.dnsv_lines.specs.declared.line.Line.{Line}
 use Rattle.dnsv_lines.specs.declared.line.Line.TheVariants as line
 use Rattle.dnsv_canonical.specs.declared.number.SignatureNumber.{SignatureNumber}
 use Rattle.dnsv_lines.specs.declared.line.derivation.SignedRrset.{SignedRrset}
 use Rattle.dnsv_lines.specs.declared.line.derivation.TrustedKeys.{TrustedKeys}
 use Rattle.dnsv_explain.proofs.lemmas.MemberLemmas.{first_or_rest, none_in}
-use Rattle.dnsv_explain.proofs.lemmas.one.DerivationLemmas.{never_both, number_of, same_above}
-use Rattle.dnsv_explain.proofs.lemmas.one.SignedLemmas.{one_keys}
-use Rattle.dnsv_explain.proofs.lemmas.one.TrustedLemmas.{one_way}
+use Rattle.dnsv_derivations.proofs.lemmas.one.DerivationLemmas.{never_both, number_of, same_above}
+use Rattle.dnsv_derivations.proofs.lemmas.one.SignedLemmas.{one_keys}
+use Rattle.dnsv_derivations.proofs.lemmas.one.TrustedLemmas.{one_way}
 use Rattle.dnsv_explain.proofs.lemmas.whole.FreshLemmas.{IsFresh, append_fresh, kind, none_fresh, one_fresh}
 
 -- it is derived or shown

@@ -7,7 +7,7 @@ use Rattle.dnsv_canonical.proofs.OrderLemmas.{each_of}
 use Rattle.dnsv_canonical.specs.Rrsets.{ReceivedRrset}
 use Rattle.dnsv_verifier.specs.Admissible.{DnskeyRecord}
 use Rattle.dnsv_canonical.specs.declared.number.RecordNumber.{RecordNumber}
-use Rattle.dnsv_explain.specs.Explained.{Setting}
+use Rattle.dnsv_derivations.specs.Explained.{Setting}
 use Rattle.dnsv_explain.specs.Explanation.{IsFailureTold, asking_in}
 use Rattle.dnsv_reason_laws.specs.Once.{AreOnce}
 use Rattle.dnsv_explain.specs.KeyLines.{AreLinesOfKeysAsked, AreLinesOfSet, IsKeyLine}

@@ -7,12 +7,13 @@ use Rattle.dnsv_verdict.specs.declared.verdict.Verdict.{Verdict}
 use Rattle.dnsv_verdict.specs.declared.verdict.Verdict.TheVariants.{SecureAnswer, SecureAlias, SecureNoName, SecureNoData, Insecure, Pending, Bogus, Indeterminate}
 use Rattle.dnsv_verifier.proofs.NumberLemmas.{contains_from_map}
 use Rattle.dnsv_verifier.specs.declared.entry.Entry.{Entry}
-use Rattle.dnsv_explain.specs.Explained.{Explained, Setting, hoped, setting_in}
+use Rattle.dnsv_derivations.specs.Explained.{Explained, Setting, setting_in}
+use Rattle.dnsv_explain.specs.Explained.{hoped}
 use Rattle.dnsv_explain.specs.Explanation.{IsEnd, IsExplanation, IsFailureTold, IsHopeTold, IsLinkTold, IsSettledTold}
 use Rattle.dnsv_reason_laws.specs.Once.{AreOnce}
-use Rattle.dnsv_explain.specs.Places.{ArePlacesOf, ArePlacesTold}
-use Rattle.dnsv_explain.specs.Saying.{AreBoth, AreEach}
-use Rattle.dnsv_explain.specs.derivations.HeldTo.{IsHeldTo}
+use Rattle.dnsv_derivations.specs.Places.{ArePlacesOf, ArePlacesTold}
+use Rattle.dnsv_derivations.specs.Saying.{AreBoth, AreEach}
+use Rattle.dnsv_derivations.specs.derivations.HeldTo.{IsHeldTo}
 use Rattle.dnsv_lines.specs.declared.line.Line.{Line}
 use Rattle.dnsv_lines.specs.declared.line.Line.TheVariants as line
 use Rattle.dnsv_lines.specs.declared.line.place.RrsetPlace.{RrsetPlace}

@@ -7,10 +7,11 @@ use Rattle.dnsv_verdict.specs.declared.link.Link.{Link}
 use Rattle.dnsv_verdict.specs.declared.verdict.Verdict.{Verdict}
 use Rattle.dnsv_verdict.specs.declared.verdict.Verdict.TheVariants.{SecureAnswer, SecureAlias, SecureNoName, SecureNoData, Insecure, Pending, Bogus, Indeterminate}
 use Rattle.dnsv_verifier.specs.declared.entry.Entry.{Entry}
-use Rattle.dnsv_explain.specs.Explained.{Explained, Setting, hoped, setting_in}
+use Rattle.dnsv_derivations.specs.Explained.{Explained, Setting, setting_in}
+use Rattle.dnsv_explain.specs.Explained.{hoped}
 use Rattle.dnsv_explain.specs.Explanation.{IsEnd, IsExplanation, IsHopeTold, IsLinkTold, IsSettledTold, IsUnproved}
-use Rattle.dnsv_explain.specs.Places.{ArePlacesTold}
-use Rattle.dnsv_explain.specs.Saying.{AreBoth, AreEach}
+use Rattle.dnsv_derivations.specs.Places.{ArePlacesTold}
+use Rattle.dnsv_derivations.specs.Saying.{AreBoth, AreEach}
 use Rattle.dnsv_lines.specs.declared.line.Line.{Line}
 use Rattle.dnsv_lines.specs.declared.line.Line.TheVariants as line
 use Rattle.dnsv_lines.specs.declared.line.place.RrsetPlace.{RrsetPlace}

@@ -6,7 +6,7 @@ use Rattle.dnsv_canonical.specs.Rrsets.{ReceivedRrset}
 use Rattle.dnsv_verifier.specs.Table.{TableContents, table_answer}
 use Rattle.dnsv_chain.specs.Trust.{IsTrustOf, KeptTrust}
 use Rattle.dnsv_chain.specs.declared.anchor.Anchor.{Anchor}
-use Rattle.dnsv_explain.specs.Explained.{Explained}
+use Rattle.dnsv_derivations.specs.Explained.{Explained}
 use Rattle.dnsv_explain.proofs.explanation.at.evidence_of.Goals as goal
 
 pub new-requires : goal.new-requires

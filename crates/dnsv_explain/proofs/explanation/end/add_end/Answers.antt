@@ -1,4 +1,4 @@
-use Rattle.dnsv_explain.specs.Explained.{setting_in}
+use Rattle.dnsv_derivations.specs.Explained.{setting_in}
 use Rattle.dnsv_explain.proofs.lemmas.telling.ExplanationLemmas.{end_added, valid_there}
 use Rattle.dnsv_explain.proofs.explanation.end.add_end.Goals as goal
 

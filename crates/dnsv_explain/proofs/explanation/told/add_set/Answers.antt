@@ -1,11 +1,8 @@
-use Rattle.std.proofs.Common.{◌∙◌, List, subst, sym}
+use Rattle.std.proofs.Common.{◌∙◌, sym}
 use Rattle.std.proofs.lemmas.Bool.{false≢true}
-use Rattle.std.proofs.lemmas.Option.{MatchOption-at_none, MatchOption-at_some}
 use Rattle.dnsv_canonical.specs.Rrsets.{IsNumbered}
-use Rattle.dnsv_explain.specs.Explained.{setting_in}
-use Rattle.dnsv_explain.specs.derivations.OwnDerivations.{IsSignatureTold}
-use Rattle.dnsv_lines.specs.declared.line.Line.{Line}
-use Rattle.dnsv_explain.proofs.lemmas.NumberedLemmas.{in_list}
+use Rattle.dnsv_derivations.specs.Explained.{setting_in}
+use Rattle.dnsv_derivations.proofs.lemmas.NumberedLemmas.{in_list}
 use Rattle.dnsv_explain.proofs.lemmas.telling.SecureLemmas.{its_signature, must_hold, never_rrset, never_signature}
 use Rattle.dnsv_explain.proofs.lemmas.telling.TellLemmas.{closer_there, no_closer_shown, owned_added, signature_at, wildcard_added}
 use Rattle.dnsv_explain.proofs.explanation.told.add_set.Goals as goal
@@ -22,10 +19,8 @@ returns-in_default-numbered c =
     (in_list rrsets c.rrsets.result.now c.args.number.rrset c.in-Some.rrset.now c.rrsets.ensures c.in-Some.ensures)
     c.signatures.result.now c.signatures.ensures c.in_default-numbered.ensures)
 
-pub returns-in_default-2 : goal.returns-in_default-2
-returns-in_default-2 c =
-    absurd (MatchOption-at_none _ _ c.in_default-2.is c.in_ok-more.ensures
-    (its_signature (setting_in c.args.evidence.now) c.args.at.now.name.now c.args.number c.requires.secure))
+pub add_derivation-requires : goal.add_derivation-requires
+add_derivation-requires c = its_signature (setting_in c.args.evidence.now) c.args.at.now.name.now c.args.number c.requires.secure
 
 pub returns-then-not-is_expanded : goal.returns-then-not-is_expanded
 returns-then-not-is_expanded c =
@@ -33,15 +28,14 @@ returns-then-not-is_expanded c =
     let rrset = c.in-Some.rrset.now in
     let rrsig = c.in-Some-numbered.rrsig.now in
     let test = rw c.owner.ensures at c.is_expanded.ensures in
-    let Told : List Line → Type 0 = λ before. IsSignatureTold (setting_in explained) c.args.number before c.in-Some-2.more.items in
+    let derived = c.in_ok-add_derivation.ensures in
     owned_added (setting_in explained) c.args.at.now.name.now c.args.number rrset rrsig
-    c.args.lines.now.items c.in-Some-2.more.items c.append.new.self.items
+    c.args.lines.now.items derived.more _
     (signature_at explained.rrsets c.args.number rrset c.signatures.result.now rrsig
     (in_list explained.rrsets c.rrsets.result.now c.args.number.rrset rrset c.rrsets.ensures c.in-Some.ensures)
     c.signatures.ensures c.in-Some-numbered.ensures)
     (λ expanded. false≢true (sym c.if-not-is_expanded.true ∙ test.1 expanded))
-    (subst Told c.deref.ensures.value (MatchOption-at_some _ _ c.in-Some-2.more c.in-Some-2.is c.in_ok-more.ensures))
-    c.in_ok-append.ensures.items
+    derived.says derived.is
 
 pub returns-in_default-shown_no_closer : goal.returns-in_default-shown_no_closer
 returns-in_default-shown_no_closer c =
@@ -70,14 +64,13 @@ returns c =
     let rrset = c.in-Some.rrset.now in
     let rrsig = c.in-Some-numbered.rrsig.now in
     let test = rw c.owner.ensures at c.is_expanded.ensures in
-    let Told : List Line → Type 0 = λ before. IsSignatureTold (setting_in explained) c.args.number before c.in-Some-2.more.items in
+    let derived = c.in_ok-add_derivation.ensures in
     wildcard_added c.args.at.now.case.now explained c.requires.at.evidence c.requires.at.trust
     c.in_ok-view.view c.args.at.now.name.now c.in_ok-view.ensures c.args.number rrset rrsig
-    c.in-Some-shown_no_closer.shown c.args.lines.now.items c.in-Some-2.more.items _ _
+    c.in-Some-shown_no_closer.shown c.args.lines.now.items derived.more _ _
     (signature_at explained.rrsets c.args.number rrset c.signatures.result.now rrsig
     (in_list explained.rrsets c.rrsets.result.now c.args.number.rrset rrset c.rrsets.ensures c.in-Some.ensures)
     c.signatures.ensures c.in-Some-numbered.ensures)
     (test.0 c.if-not-is_expanded.false)
     (rw c.to_name.ensures at c.in-Some-shown_no_closer.ensures.first)
-    (subst Told c.deref.ensures.value (MatchOption-at_some _ _ c.in-Some-2.more c.in-Some-2.is c.in_ok-more.ensures))
-    c.in_ok-append.ensures.items c.in_ok-add_denial.ensures
+    derived.says derived.is c.in_ok-add_denial.ensures

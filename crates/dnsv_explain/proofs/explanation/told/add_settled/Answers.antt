@@ -1,9 +1,10 @@
 use Rattle.std.proofs.Common.{subst, sym}
 use Rattle.dnsv_verdict.specs.Verdict.{IsSettledAsBy}
 use Rattle.dnsv_verdict.specs.declared.verdict.Verdict.{Verdict}
-use Rattle.dnsv_explain.specs.Explained.{basis_in, setting_in}
+use Rattle.dnsv_derivations.specs.Explained.{setting_in}
+use Rattle.dnsv_explain.specs.Explained.{basis_in}
 use Rattle.dnsv_explain.specs.Explanation.{IsSettledTold}
-use Rattle.dnsv_explain.specs.Saying.{Adds}
+use Rattle.dnsv_derivations.specs.Saying.{Adds}
 use Rattle.dnsv_explain.proofs.lemmas.telling.SecureLemmas.{alias_secure, answer_secure, data_proved, name_proved, unsigned_of}
 use Rattle.dnsv_explain.proofs.lemmas.telling.TellLemmas.{cut_added, cut_shown_by}
 use Rattle.dnsv_explain.proofs.explanation.told.add_settled.Goals as goal

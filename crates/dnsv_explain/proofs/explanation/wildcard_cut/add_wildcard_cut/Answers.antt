@@ -1,7 +1,7 @@
 use Rattle.std.proofs.Common.{subst, sym}
 use Rattle.dnsv_names.specs.Name.{Labels}
-use Rattle.dnsv_explain.specs.Explained.{setting_in}
-use Rattle.dnsv_explain.specs.unsigned_cuts.ShownCuts.{IsShownUnsigned}
+use Rattle.dnsv_derivations.specs.Explained.{setting_in}
+use Rattle.dnsv_derivations.specs.unsigned_cuts.ShownCuts.{IsShownUnsigned}
 use Rattle.dnsv_lines.specs.declared.line.cut.InsecureCase.TheVariants as case
 use Rattle.dnsv_explain.proofs.lemmas.telling.TellLemmas.{covered_there, its_secured, open_added, open_shown, open_there}
 use Rattle.dnsv_explain.proofs.explanation.wildcard_cut.add_wildcard_cut.Goals as goal

@@ -6,10 +6,11 @@ use Rattle.dnsv_verdict.specs.Hope.{HasHope}
 use Rattle.dnsv_verdict.specs.Report.{IsKept, hashes_in}
 use Rattle.dnsv_verdict.specs.Verdict.{IsVerdictAt}
 use Rattle.dnsv_verdict.specs.Way.{IsVerdictOf}
-use Rattle.dnsv_explain.specs.Explained.{Explained, explained_by, setting_in}
-use Rattle.dnsv_explain.specs.derivations.KeptWays.{AreHopedWays, AreOfCase}
-use Rattle.dnsv_explain.specs.derivations.WaySearch.{AreFirstWays}
-use Rattle.dnsv_explain.specs.declared.derivations.ways.kept.KeptWay.{KeptWay}
+use Rattle.dnsv_derivations.specs.Explained.{Explained, setting_in}
+use Rattle.dnsv_explain.specs.Explained.{explained_by}
+use Rattle.dnsv_explain.specs.SharedWays.{AreHopedWays, AreOfCase}
+use Rattle.dnsv_derivations.specs.derivations.WaySearch.{AreFirstWays}
+use Rattle.dnsv_derivations.specs.declared.derivations.ways.kept.KeptWay.{KeptWay}
 use Rattle.dnsv_explain.proofs.lemmas.telling.RefusalLemmas.{explained_of, not_refused, without_memory}
 use Rattle.dnsv_explain.proofs.explanation.explainer.Explainer.explain.Goals as goal
 

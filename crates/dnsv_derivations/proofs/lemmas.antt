@@ -1,0 +1,14 @@
+-- What proofs of functions and laws rest on.
+pub mod AnswerLemmas
+pub mod IndexLemmas
+pub mod NumberLemmas
+pub mod NumberedLemmas
+pub mod PlaceLemmas
+pub mod RisingLemmas
+pub mod SayingLemmas
+pub mod TodoLemmas
+pub mod denials
+pub mod derivations
+pub mod intervals
+pub mod one
+pub mod unsigned_cuts

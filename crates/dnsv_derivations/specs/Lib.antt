@@ -1,0 +1,10 @@
+pub mod Denials
+pub mod Digests
+pub mod Explained
+pub mod Following
+pub mod Places
+pub mod Rising
+pub mod Saying
+pub mod derivations
+pub mod intervals
+pub mod unsigned_cuts

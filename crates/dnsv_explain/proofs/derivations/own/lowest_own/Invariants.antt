@@ -1,5 +1,0 @@
-use Rattle.dnsv_explain.specs.derivations.OwnSearch.{IsNoneOwn}
-use Rattle.dnsv_explain.proofs.derivations.own.lowest_own.Given as goal
-
-abbrev pub invariant-loop-signature : goal.invariant-loop-signature
-invariant-loop-signature l = IsNoneOwn l.found l.zone l.signature-items l.signature-index

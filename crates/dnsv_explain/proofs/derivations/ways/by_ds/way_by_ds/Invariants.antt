@@ -1,8 +1,0 @@
-use Rattle.dnsv_explain.specs.Explained.{setting_in}
-use Rattle.dnsv_explain.specs.derivations.WaySearch.{IsNoWayBefore, number_or_end}
-use Rattle.dnsv_explain.proofs.derivations.ways.by_ds.way_by_ds.Given as goal
-
--- no way goes before the RRset that is next
-abbrev pub invariant-loop-number : goal.invariant-loop-number
-invariant-loop-number l =
-    IsNoWayBefore (setting_in l.evidence) l.set.number (1, number_or_end l.evidence.rrsets l.number-items l.number-index, 0)

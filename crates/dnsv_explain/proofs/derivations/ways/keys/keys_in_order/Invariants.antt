@@ -1,8 +1,0 @@
-use Rattle.std.proofs.Common.{◌≡◌, map, take}
-use Rattle.dnsv_explain.specs.derivations.WaySearch.{key_of}
-use Rattle.dnsv_explain.proofs.derivations.ways.keys.keys_in_order.Given as goal
-
--- the keys so far
-abbrev pub invariant-loop-each : goal.invariant-loop-each
-invariant-loop-each l =
-    l.keys.items ≡ map (λ each. key_of l.set.owner each.rdata.now each.record.now) (take l.each-index l.each-items)

@@ -1,6 +1,0 @@
-use Rattle.std.proofs.Common.{take}
-use Rattle.dnsv_explain.specs.intervals.Holding.{IsHolding}
-use Rattle.dnsv_explain.proofs.interval.holding.Given as goal
-
-abbrev pub invariant-loop-times : goal.invariant-loop-times
-invariant-loop-times l = IsHolding (take l.times-index l.signatures) l.moment l.interval

@@ -1,5 +1,0 @@
-use Rattle.dnsv_explain.proofs.lemmas.derivations.DerivationLemmas.{derivation_follows}
-use Rattle.dnsv_explain.proofs.laws.derivations_follow.Goals as goal
-
-pub returns : goal.returns
-returns c = λ setting before lines subject is. derivation_follows setting before subject lines is

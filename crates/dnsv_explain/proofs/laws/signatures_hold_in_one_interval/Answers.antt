@@ -1,5 +1,0 @@
-use Rattle.dnsv_explain.proofs.lemmas.intervals.HoldingLemmas.{one_holding}
-use Rattle.dnsv_explain.proofs.laws.signatures_hold_in_one_interval.Goals as goal
-
-pub returns : goal.returns
-returns c = one_holding

@@ -1,7 +1,0 @@
-use Rattle.std.proofs.Common.{◌<◌}
-use Rattle.dnsv_explain.specs.Rising.{AreRisingTo}
-use Rattle.dnsv_explain.proofs.todo.are_rising.Given as goal
-
--- those so far rise
-abbrev pub invariant-loop-place : goal.invariant-loop-place
-invariant-loop-place l = (0 < l.place) × AreRisingTo l.entries l.place
