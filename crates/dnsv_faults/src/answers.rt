@@ -2,7 +2,7 @@
 ghost use Rattle.std.specs.Prelude.{◌≡◌, IfOk};
 ghost use Rattle.std.specs.Option.{option_map};
 ghost use Rattle.dnsv_verifier.specs.Table.{table_answer};
-ghost use Rattle.dnsv_faults.specs.Answers.AnswerSearch.{IsAskedOf, is_good_answer, key_answer};
+ghost use Rattle.dnsv_faults.specs.Answers.AnswerSearch.{IsAskedOf, key_answer};
 ghost use Rattle.dnsv_faults.specs.Answers.{IsKeyAnswer};
 
 use dnsv_canonical::{Rrset, signed_data};
@@ -50,17 +50,6 @@ pub fn answer_under(
     }
     a_pair_has_one_entry();
     key_answer(table.answer(&entry_over(rrsig, octets.as_slice(), key)))
-}
-
-/// Whether the answer is that the signature is good.
-pub fn is_good(answer: KeyAnswer) -> bool
-    ensures { result ≡ is_good_answer answer }
-{
-    match answer {
-        KeyAnswer::Good => true,
-        KeyAnswer::Bad => false,
-        KeyAnswer::Unanswered => false,
-    }
 }
 
 /// What the answer comes to.

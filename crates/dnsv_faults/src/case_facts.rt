@@ -1,11 +1,13 @@
 //! What facts are found in: a case, and its keys by what signatures name them by.
 ghost use Rattle.std.specs.Prelude.{◌≡◌, IfOk};
-ghost use Rattle.dnsv_faults.specs.Keys.Index.{AreIndexed};
+ghost use Rattle.dnsv_faults.specs.Keys.KeySearch.{AreNamedOf};
 ghost use Rattle.dnsv_verdict.specs.Case.{HasTrust};
 
 use crate::keys::index::KeyIndex;
+use crate::keys::placed::PlacedKey;
 use dnsv_canonical::Capture;
 use dnsv_chain::{Anchor, Trust};
+use dnsv_records::Rrsig;
 use dnsv_verdict::Case;
 use dnsv_verifier::Table;
 use std::alloc::{AllocError, Global};
@@ -69,10 +71,10 @@ impl<'a> CaseFacts<'a> {
         self.case.trust()
     }
 
-    /// The keys of the evidence by what signatures name them by.
-    pub(crate) fn keys(&self) -> &KeyIndex<'a>
-        ensures { AreIndexed self.now.rrsets result.now }
+    /// The keys that the signature names: those of its signer with its tag and its algorithm.
+    pub(crate) fn named_by(&self, rrsig: &Rrsig<'_>) -> &[PlacedKey<'a>]
+        ensures { AreNamedOf self.now.rrsets rrsig.now result.now }
     {
-        &self.keys
+        self.keys.named_by(rrsig)
     }
 }

@@ -7,10 +7,8 @@ pub mod standing;
 ghost use Rattle.std.specs.Prelude.{◌≡◌, ◌↔◌, IfOk, IsTrue, map};
 ghost use Rattle.std.specs.List.{AllByRecursion, enumerate_from};
 ghost use Rattle.std.specs.Str.{bytes_eq};
-ghost use Rattle.dnsv_names.specs.Name.{SameName};
 ghost use Rattle.dnsv_canonical.specs.Rrsets.{first_appearances};
 ghost use Rattle.dnsv_records.specs.Dnskey.{IsDnskey};
-ghost use Rattle.dnsv_faults.specs.Keys.Index.{IsMeantBySigner, IsNamedBySigner};
 ghost use Rattle.dnsv_faults.specs.Keys.{IsNamed, IsZoneKey};
 ghost use Rattle.dnsv_faults.specs.Keys.ZoneSearch.{AreKeysOf, IsOf};
 
@@ -63,27 +61,6 @@ pub fn is_named(key: &KeyRecord<'_>, rrsig: &Rrsig<'_>) -> bool
     ensures { IsTrue result ↔ IsNamed rrsig.now key.now }
 {
     key.key_tag().0 == rrsig.key_tag.0 && key.dnskey().algorithm.0 == rrsig.algorithm.0
-}
-
-/// Whether it does, and the key is one of its signer.
-pub fn is_named_by_signer(key: &KeyRecord<'_>, rrsig: &Rrsig<'_>) -> bool
-    ensures { IsTrue result ↔ IsNamedBySigner rrsig.now key.now }
-{
-    is_named(key, rrsig) && is_owner(key, rrsig)
-}
-
-/// Whether the key is one of the signature's signer, without regard to case (RFC 4343).
-fn is_owner(key: &KeyRecord<'_>, rrsig: &Rrsig<'_>) -> bool
-    ensures { IsTrue result ↔ SameName key.now.owner rrsig.now.signer }
-{
-    *key.owner() == rrsig.signer.to_name()
-}
-
-/// Whether it does, and a zone may sign with the key.
-pub fn is_meant(key: &KeyRecord<'_>, rrsig: &Rrsig<'_>) -> bool
-    ensures { IsTrue result ↔ IsMeantBySigner rrsig.now key.now }
-{
-    is_named_by_signer(key, rrsig) && is_zone_key(key)
 }
 
 /// Whether a zone may sign with the key (RFC 4034 2.1.1, 2.1.2).

@@ -3,18 +3,21 @@
 pub mod named;
 pub mod words;
 
-ghost use Rattle.std.specs.Prelude.{◌↔◌, Contains, IfOk, IsTrue};
+ghost use Rattle.std.specs.Prelude.{◌↔◌, Contains, IfOk, IsTrue, List};
+ghost use Rattle.dnsv_canonical.specs.Rrsets.{ReceivedRrset};
+ghost use Rattle.dnsv_records.specs.declared.rrsig.Rrsig.{Rrsig};
 ghost use Rattle.dnsv_chain.specs.Trusted.{IsSecured};
 ghost use Rattle.dnsv_verdict.specs.Case.{basis_by};
 ghost use Rattle.dnsv_faults.specs.Keys.{HasKeys, NamesKey, NamesZoneKey};
-ghost use Rattle.dnsv_faults.specs.Keys.KeySearch.{HasMeant, HasNamed};
+ghost use Rattle.dnsv_faults.specs.Keys.KeySearch.{AreNamedOf, HasZoneKey};
 ghost use Rattle.dnsv_faults.specs.Signatures.{AreSignatureFacts, IsSignatureAt};
 
 use crate::case_facts::CaseFacts;
+use crate::keys::is_zone_key;
 use crate::keys::placed::PlacedKey;
-use crate::keys::{is_meant, is_named_by_signer};
 use crate::signature::named::named_keys;
 use crate::signature::words::signature_faults;
+use crate::zone::known::has_rrset;
 use dnsv_canonical::{Rrset, SignatureNumber};
 use dnsv_mending::SignatureFacts;
 use dnsv_names::RecordType;
@@ -32,14 +35,15 @@ pub fn signature_facts(
     requires { IsSignatureAt rrset.now number.signature rrsig.now }
     ensures { IfOk result (AreSignatureFacts (basis_by facts.now) number.rrset rrset.now number.signature) }
 {
+    let named = facts.named_by(rrsig);
     Ok(SignatureFacts {
         number,
         signer: rrsig.signer.labels(),
         is_signed: is_signed(facts, number),
         faults: signature_faults(facts.table().moment(), rrset, rrsig),
-        key_missing: is_key_missing(facts, rrsig),
-        not_zone_key: has_no_zone_key(facts, rrsig),
-        keys: named_keys(alloc, facts, rrset, rrsig)?,
+        key_missing: is_key_missing(facts, rrsig, named),
+        not_zone_key: has_no_zone_key(named),
+        keys: named_keys(alloc, facts, rrset, rrsig, named)?,
     })
 }
 
@@ -59,54 +63,24 @@ pub fn is_among(numbers: &[usize], number: usize) -> bool
 }
 
 /// Whether the signer has keys, none of which the signature names.
-fn is_key_missing(facts: &CaseFacts<'_>, rrsig: &Rrsig<'_>) -> bool
+fn is_key_missing(facts: &CaseFacts<'_>, rrsig: &Rrsig<'_>, named: &[PlacedKey<'_>]) -> bool
+    requires { AreNamedOf facts.now.rrsets rrsig.now named.now }
     ensures { IsTrue result ↔ (HasKeys facts.now.rrsets rrsig.now.signer × (¬ NamesKey facts.now.rrsets rrsig.now)) }
 {
-    has_keys(facts, rrsig) && !names_key(facts, rrsig)
+    has_rrset(facts, &rrsig.signer.to_name(), RecordType::DNSKEY) && named.is_empty()
 }
 
-/// Whether the signer has keys.
-fn has_keys(facts: &CaseFacts<'_>, rrsig: &Rrsig<'_>) -> bool
-    ensures { IsTrue result ↔ HasKeys facts.now.rrsets rrsig.now.signer }
+/// Whether there are keys that the signature names, none of which a zone may sign with.
+fn has_no_zone_key(named: &[PlacedKey<'_>]) -> bool
+    ensures { (rrsets : List ReceivedRrset) (rrsig : Rrsig) → AreNamedOf rrsets rrsig named.now
+        → IsTrue result ↔ (NamesKey rrsets rrsig × (¬ NamesZoneKey rrsets rrsig)) }
 {
-    let numbers = facts
-        .capture()
-        .at(&rrsig.signer.to_name(), RecordType::DNSKEY);
-    !numbers.is_empty()
+    !named.is_empty() && !has_zone_key(named)
 }
 
-/// Whether the signature names some, none of which a zone may sign with.
-fn has_no_zone_key(facts: &CaseFacts<'_>, rrsig: &Rrsig<'_>) -> bool
-    ensures { IsTrue result ↔ (NamesKey facts.now.rrsets rrsig.now × (¬ NamesZoneKey facts.now.rrsets rrsig.now)) }
+/// Whether a zone may sign with one of the keys.
+fn has_zone_key(keys: &[PlacedKey<'_>]) -> bool
+    ensures { IsTrue result ↔ HasZoneKey keys.now }
 {
-    names_key(facts, rrsig) && !names_zone_key(facts, rrsig)
-}
-
-/// Whether it names a key of its signer.
-fn names_key(facts: &CaseFacts<'_>, rrsig: &Rrsig<'_>) -> bool
-    ensures { IsTrue result ↔ NamesKey facts.now.rrsets rrsig.now }
-{
-    has_named(facts.keys().named_by(rrsig), rrsig)
-}
-
-/// Whether it names one that a zone may sign with.
-fn names_zone_key(facts: &CaseFacts<'_>, rrsig: &Rrsig<'_>) -> bool
-    ensures { IsTrue result ↔ NamesZoneKey facts.now.rrsets rrsig.now }
-{
-    has_meant(facts.keys().named_by(rrsig), rrsig)
-}
-
-/// Whether it names one of the keys.
-fn has_named(keys: &[PlacedKey<'_>], rrsig: &Rrsig<'_>) -> bool
-    ensures { IsTrue result ↔ HasNamed keys.now rrsig.now }
-{
-    keys.iter()
-        .any(|placed| is_named_by_signer(placed.key(), rrsig))
-}
-
-/// Whether it names one that a zone may sign with.
-fn has_meant(keys: &[PlacedKey<'_>], rrsig: &Rrsig<'_>) -> bool
-    ensures { IsTrue result ↔ HasMeant keys.now rrsig.now }
-{
-    keys.iter().any(|placed| is_meant(placed.key(), rrsig))
+    keys.iter().any(|placed| is_zone_key(placed.key()))
 }

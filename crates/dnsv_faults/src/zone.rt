@@ -25,6 +25,9 @@ use dnsv_mending::ZoneFacts;
 use dnsv_names::{Name, RecordType};
 use std::alloc::{AllocError, Global};
 
+/// So many may vouch for the keys of a zone that each works out a digest for itself.
+const FEW_VOUCHERS: usize = 4;
+
 impl<'a> CaseFacts<'a> {
     /// What is so of the names at or above the name that is asked for, as zones: for each number of its labels, from none on.
     pub fn zone_facts(
@@ -54,7 +57,8 @@ fn facts_of_zone(
     ensures { IfOk result (λ found. (name : Labels) (t : ℕ) → (IsTrue is_known ↔ IsKnownZone (basis_by facts.now) name t zone.now)
         → AreFactsOfZone (basis_by facts.now) name t zone.now found) }
 {
-    let tagged = ZoneKeys::of(alloc, facts.capture(), zone)?;
+    let is_kept = has_many_vouchers(facts, zone);
+    let tagged = ZoneKeys::of(alloc, facts.capture(), zone, is_kept)?;
     let anchors = anchor_facts(alloc, facts, &tagged, zone)?;
     let ds = ds_facts(alloc, facts, &tagged, zone)?;
     let keyed = keyed_zone(alloc, facts, zone, &anchors, &ds)?;
@@ -67,6 +71,18 @@ fn facts_of_zone(
         anchors,
         ds,
     })
+}
+
+/// Whether so many may vouch for keys of the zone that the digests of its keys are worked out once for all.
+fn has_many_vouchers(facts: &CaseFacts<'_>, zone: &Name) -> bool {
+    let capture = facts.capture();
+    let mut count = facts.anchors().len();
+    for number in capture.at(zone, RecordType::DS) {
+        if let Some(rrset) = capture.rrset(*number) {
+            count = count.saturating_add(rrset.len());
+        }
+    }
+    count > FEW_VOUCHERS
 }
 
 /// Whether a trust anchor is at or above the zone.

@@ -13,10 +13,10 @@ use Rattle.dnsv_canonical.specs.Rrsets.{ReceivedRrset}
 use Rattle.dnsv_canonical.specs.declared.canonical_order.ReadRecord.{ReadRecord}
 use Rattle.dnsv_canonical.proofs.ListLemmas.{each_at}
 use Rattle.dnsv_canonical.proofs.OrderLemmas.{each_of}
-use Rattle.dnsv_chain.specs.Ds.{IsIgnored}
+use Rattle.dnsv_chain.specs.Ds.{GoesBefore, IsIgnored}
 use Rattle.dnsv_chain.specs.declared.anchor.Anchor.{Anchor}
-use Rattle.dnsv_digest.specs.DigestAlgorithm.{IsStronger, digest_algorithm_of}
-use Rattle.dnsv_digest.specs.declared.digest_algorithm.DigestAlgorithm.{DigestAlgorithm}
+use Rattle.dnsv_digest.specs.DigestAlgorithm.{digest_algorithm_of}
+use Rattle.dnsv_digest.specs.declared.digest_algorithm.DigestAlgorithm.TheVariants.{Sha1, Sha256, Sha384}
 use Rattle.dnsv_verdict.specs.Verdict.{Basis}
 use Rattle.dnsv_verdict.proofs.SearchLemmas.NumberLemmas.{IsOneAt, each_number}
 use Rattle.dnsv_lines.specs.declared.line.fault.zone.EntryNumber.TheVariants as number
@@ -156,23 +156,36 @@ ds_next basis zone keys numbers i d old new within are so_far adds =
 
 -- ---- digest types
 
-pub ignored_type : (records : List Ds) (ds : Ds) (weaker : DigestAlgorithm) (b : Bool) → digest_algorithm_of ds.digest_type.0 ≡ Some weaker
-    → (IsTrue b ↔ HasStronger records weaker) → IsTrue b ↔ IsIgnored records ds
-ignored_type records ds weaker b is test = (
+-- what goes before one digest type goes before the other by the same algorithm
+goes_too : (first a b : ℕ) → digest_algorithm_of a ≡ digest_algorithm_of b → GoesBefore first a → GoesBefore first b
+goes_too first a b same before = (before.0, before.1, before.2, sym same ∙ before.3, before.4)
+
+ignored_type : (records : List Ds) (ds : Ds) (number : ℕ) (b : Bool) → digest_algorithm_of ds.digest_type.0 ≡ digest_algorithm_of number
+    → (IsTrue b ↔ HasStronger records number) → IsTrue b ↔ IsIgnored records ds
+ignored_type records ds number b same test = (
   λ t. let has = test.0 t in record {
     other = has.ds;
     among = has.among;
-    before = (has.is.0, weaker, has.is.1, is, has.is.2);
+    before = goes_too has.ds.digest_type.0 number ds.digest_type.0 (sym same) has.is;
   },
-  λ ignored.
-      let before = ignored.before in
-      let same : before.1 ≡ weaker = cc (before.3, is) in
-      test.1 (record {
-        ds = ignored.other;
-        among = ignored.among;
-        is = (before.0, before.2, subst (λ (w : DigestAlgorithm). IsStronger before.0 w) same before.4);
-      }),
+  λ ignored. test.1 (record {
+    ds = ignored.other;
+    among = ignored.among;
+    is = goes_too ignored.other.digest_type.0 ds.digest_type.0 number same ignored.before;
+  }),
 )
+
+pub ignored_sha1 : (records : List Ds) (ds : Ds) (b : Bool) → digest_algorithm_of ds.digest_type.0 ≡ Some Sha1
+    → (IsTrue b ↔ HasStronger records 1) → IsTrue b ↔ IsIgnored records ds
+ignored_sha1 records ds b is test = ignored_type records ds 1 b is test
+
+pub ignored_sha256 : (records : List Ds) (ds : Ds) (b : Bool) → digest_algorithm_of ds.digest_type.0 ≡ Some Sha256
+    → (IsTrue b ↔ HasStronger records 2) → IsTrue b ↔ IsIgnored records ds
+ignored_sha256 records ds b is test = ignored_type records ds 2 b is test
+
+pub ignored_sha384 : (records : List Ds) (ds : Ds) (b : Bool) → digest_algorithm_of ds.digest_type.0 ≡ Some Sha384
+    → (IsTrue b ↔ HasStronger records 4) → IsTrue b ↔ IsIgnored records ds
+ignored_sha384 records ds b is test = ignored_type records ds 4 b is test
 
 pub no_type : (records : List Ds) (ds : Ds) → digest_algorithm_of ds.digest_type.0 ≡ None → IsTrue false ↔ IsIgnored records ds
 no_type records ds none = (

@@ -1,6 +1,6 @@
 -- The keys of all zones, gathered one zone after another, and those that a signature names.
-use Rattle.std.proofs.Common.{◌≡◌, ◌↔◌, ℕ, zero, suc, ◌+◌, ◌-◌, ◌<◌, ◌≤◌, ⊎_elim, List, [], ◌∷◌, ◌++◌, Some, length, map, get_or, refl, sym, ap, ◌∙◌, subst, arith, append-nil}
-use Rattle.std.proofs.lemmas.Bool.{cases_lt}
+use Rattle.std.proofs.Common.{◌≡◌, ◌↔◌, ℕ, zero, suc, ◌+◌, ◌-◌, ◌<◌, ◌≤◌, ◌==◌, Bool, true, false, not, ⊎_elim, List, [], ◌∷◌, ◌++◌, Some, length, map, get_or, refl, sym, ap, ◌∙◌, subst, arith, append-nil}
+use Rattle.std.proofs.lemmas.Bool.{cases_lt, false≢true}
 use Rattle.std.proofs.lemmas.Cmp.{nat_cmp_total, tied_itself}
 use Rattle.std.proofs.lemmas.List.Elements.{Contains-append_left, Contains-append_right}
 use Rattle.std.proofs.lemmas.List.Sorted.{Contains-permutation, IsPermutation-sym}
@@ -8,10 +8,11 @@ use Rattle.std.proofs.lemmas.Bool.Decides.{nat_tests}
 use Rattle.std.proofs.lemmas.Option.{slice_get-get_or}
 use Rattle.std.specs.Prelude.{Contains, IsPermutation, IsTrue, nat_eq, slice_get}
 use Rattle.std.specs.List.{AllByRecursion}
-use Rattle.std.specs.Ordering.{nat_cmp}
+use Rattle.std.specs.Ordering.{nat_cmp, ordering_then}
 use Rattle.std.specs.declared.cmp.Ordering.TheVariants.{Equal}
 use Rattle.dnsv_names.specs.Name.{Labels, SameName}
-use Rattle.dnsv_names.specs.Order.OrderLaws.{SameName_Equal}
+use Rattle.dnsv_names.specs.Order.{canonical_cmp}
+use Rattle.dnsv_names.specs.Order.OrderLaws.{SameName_Equal, canonical_Equal}
 use Rattle.dnsv_canonical.specs.Index.{numbers_at}
 use Rattle.dnsv_canonical.specs.Rrsets.{IsNumbered, ReceivedRrset}
 use Rattle.dnsv_canonical.proofs.OrderLemmas.{each_of}
@@ -23,9 +24,10 @@ use Rattle.dnsv_records.proofs.OneRecord.{one_dnskey}
 use Rattle.dnsv_verdict.proofs.SearchLemmas.NumberLemmas.{IsOneAt, each_number}
 use Rattle.dnsv_verifier.specs.Admissible.{DnskeyRecord}
 use Rattle.dnsv_verifier.specs.Asking.{key_name_cmp, name_of_key, named_by}
+use Rattle.dnsv_verifier.specs.EntryLaws.{octet_Equal, then_Equal}
 use Rattle.dnsv_faults.specs.Keys.Index.{AreIndexed, HasPlaced, HaveAllOf, IsNamedBySigner, IsPlaced, Placed}
 use Rattle.dnsv_faults.specs.Keys.{IsKeyPlaced, IsNamed, IsZoneKey, NamesKey, NamesZoneKey}
-use Rattle.dnsv_faults.specs.Keys.KeySearch.{HasMeant, HasNamed}
+use Rattle.dnsv_faults.specs.Keys.KeySearch.{AreNamedOf, HasZoneKey}
 use Rattle.dnsv_faults.specs.Keys.ZoneSearch.{AddsZone, AreKeysOf, IsFirstOfKeys}
 use Rattle.dnsv_faults.proofs.lemmas.ZoneKeyLemmas.{keys_all, keys_placed, no_key_placed, placed_same, same_number, same_numbers}
 
@@ -185,6 +187,19 @@ named_tied rrsig key is =
     let owners = SameName_Equal key.owner rrsig.signer is.owner in
     rw (tags, algorithms, owners) refl
 
+-- and a key that is tied to it is one
+pub tied_named : (rrsig : Rrsig) (key : DnskeyRecord) → key_name_cmp (name_of_key key) (named_by rrsig) ≡ Equal → IsNamedBySigner rrsig key
+tied_named rrsig key tied =
+    let owner = then_Equal (ordering_then (nat_cmp (key_tag_of key.rdata) rrsig.key_tag.0) (nat_cmp key.dnskey.algorithm.0 rrsig.algorithm.0)) (canonical_cmp key.owner rrsig.signer) tied in
+    let numbers = then_Equal (nat_cmp (key_tag_of key.rdata) rrsig.key_tag.0) (nat_cmp key.dnskey.algorithm.0 rrsig.algorithm.0) owner.0 in
+    record {
+      named = record {
+        tag = octet_Equal (key_tag_of key.rdata) rrsig.key_tag.0 numbers.0;
+        algorithm = octet_Equal key.dnskey.algorithm.0 rrsig.algorithm.0 numbers.1;
+      };
+      owner = canonical_Equal key.owner rrsig.signer owner.1;
+    }
+
 module _ (rrsets : List ReceivedRrset) (all : List Placed) (are : AreIndexed rrsets all) (rrsig : Rrsig) (found : List Placed)
     (among : (placed : Placed) → Contains found placed → Contains all placed)
     (every : (placed : Placed) → Contains all placed → IsNamedBySigner rrsig placed.key → Contains found placed) where
@@ -231,29 +246,77 @@ module _ (rrsets : List ReceivedRrset) (all : List Placed) (are : AreIndexed rrs
     zone_key = rw same is.zone_key;
   }
 
-  pub names_key : HasNamed found rrsig ↔ NamesKey rrsets rrsig
-  names_key = (
-    λ has. record {
-      place = has.placed.place;
-      key = has.placed.key;
-      placed = of_signer has.placed has.among has.named.owner;
-      named = has.named.named;
-    },
-    λ names. let is = found_as names.place names.key names.placed names.named in record { placed = is.placed; among = is.there; named = is.named },
-  )
+-- ---- what it names, by those that are found
 
-  pub names_zone_key : HasMeant found rrsig ↔ NamesZoneKey rrsets rrsig
-  names_zone_key = (
-    λ has. record {
-      place = has.placed.place;
-      key = has.placed.key;
-      placed = of_signer has.placed has.among has.meant.by_signer.owner;
-      named = has.meant.by_signer.named;
-      zone_key = has.meant.zone_key;
-    },
-    λ names. let is = found_as names.place names.key names.placed names.named in record {
-      placed = is.placed;
-      among = is.there;
-      meant = record { by_signer = is.named; zone_key = zone_key_too is.placed.key names.key is.dnskey names.zone_key };
-    },
+module _ (rrsets : List ReceivedRrset) (rrsig : Rrsig) (named : List Placed) (are : AreNamedOf rrsets rrsig named) where
+  its_key : (placed : Placed) → Contains named placed → NamesKey rrsets rrsig
+  its_key placed there = let its = are.each placed there in record {
+    place = placed.place;
+    key = placed.key;
+    placed = of_signer rrsets are.all are.indexed rrsig named are.among are.every placed there its.owner;
+    named = its.named;
+  }
+
+  key_found : (names : NamesKey rrsets rrsig) → IsFoundAs rrsets are.all are.indexed rrsig named are.among are.every names.place names.key
+  key_found names = found_as rrsets are.all are.indexed rrsig named are.among are.every names.place names.key names.placed names.named
+
+  by_count : (keys : List Placed) → keys ≡ named → (IsTrue (length keys == 0) ↔ (¬ NamesKey rrsets rrsig))
+  by_count [] same = (
+    λ yes names.
+        let never = subst (λ (each : List Placed). Contains each (key_found names).placed) (sym same) (key_found names).there in
+        absurd (omega (arith, never.1)),
+    λ none. refl,
   )
+  by_count (x ∷ keys) same =
+      let size : (length (x ∷ keys) == 0) ≡ false = grind (arith, nat_tests) in (
+        λ yes. absurd (false≢true (sym size ∙ yes)),
+        λ none. absurd (none (its_key x (subst (λ (each : List Placed). Contains each x) same (0, omega arith, refl)))),
+      )
+
+  some_count : (keys : List Placed) → keys ≡ named → (IsTrue (not (length keys == 0)) ↔ NamesKey rrsets rrsig)
+  some_count [] same = (
+    λ yes. absurd (false≢true yes),
+    λ names.
+        let never = subst (λ (each : List Placed). Contains each (key_found names).placed) (sym same) (key_found names).there in
+        absurd (omega (arith, never.1)),
+  )
+  some_count (x ∷ keys) same =
+      let size : (length (x ∷ keys) == 0) ≡ false = grind (arith, nat_tests) in (
+        λ yes. its_key x (subst (λ (each : List Placed). Contains each x) same (0, omega arith, refl)),
+        λ names. ap not size,
+      )
+
+pub names_none : (rrsets : List ReceivedRrset) (rrsig : Rrsig) (named : List Placed) (b : Bool) → AreNamedOf rrsets rrsig named
+    → b ≡ (length named == 0) → IsTrue b ↔ (¬ NamesKey rrsets rrsig)
+names_none rrsets rrsig named b are test =
+    subst (λ (t : Bool). IsTrue t ↔ (¬ NamesKey rrsets rrsig)) (sym test) (by_count rrsets rrsig named are named refl)
+
+pub names_some : (rrsets : List ReceivedRrset) (rrsig : Rrsig) (named : List Placed) (b : Bool) → AreNamedOf rrsets rrsig named
+    → b ≡ (length named == 0) → IsTrue (not b) ↔ NamesKey rrsets rrsig
+names_some rrsets rrsig named b are test =
+    subst (λ (t : Bool). IsTrue (not t) ↔ NamesKey rrsets rrsig) (sym test) (some_count rrsets rrsig named are named refl)
+
+pub names_zone : (rrsets : List ReceivedRrset) (rrsig : Rrsig) (named : List Placed) (b : Bool) → AreNamedOf rrsets rrsig named
+    → (IsTrue b ↔ HasZoneKey named) → IsTrue b ↔ NamesZoneKey rrsets rrsig
+names_zone rrsets rrsig named b are test = (
+  λ yes.
+      let has = test.0 yes in
+      let its = are.each has.placed has.among in record {
+        place = has.placed.place;
+        key = has.placed.key;
+        placed = of_signer rrsets are.all are.indexed rrsig named are.among are.every has.placed has.among its.owner;
+        named = its.named;
+        zone_key = has.is;
+      },
+  λ names.
+      let is = found_as rrsets are.all are.indexed rrsig named are.among are.every names.place names.key names.placed names.named in
+      test.1 (record {
+        placed = is.placed;
+        among = is.there;
+        is = zone_key_too rrsets are.all are.indexed rrsig named are.among are.every is.placed.key names.key is.dnskey names.zone_key;
+      }),
+)
+
+pub not_so : (b : Bool) → (IsTrue b → ⊥) → IsTrue (not b)
+not_so true never = absurd (never refl)
+not_so false never = refl

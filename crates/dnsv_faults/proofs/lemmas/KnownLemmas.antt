@@ -1,5 +1,5 @@
 -- Which zones are known: the speakers by their numbers of labels, and the zones one after another.
-use Rattle.std.proofs.Common.{◌≡◌, ◌↔◌, ◌⊎◌, ◌+◌, ◌-◌, ◌<◌, ◌≤◌, ◌==◌, ◌||◌, ℕ, Bool, true, false, not, inl, inr, ⊎_elim, List, [], ◌∷◌, ◌++◌, length, get_or, refl, sym, ap, ◌∙◌, subst, arith, IsTrue, length-append}
+use Rattle.std.proofs.Common.{◌≡◌, ◌≢◌, ◌↔◌, ◌⊎◌, ◌+◌, ◌-◌, ◌<◌, ◌≤◌, ◌==◌, ◌||◌, ℕ, Bool, true, false, not, inl, inr, ⊎_elim, List, [], ◌∷◌, ◌++◌, length, get_or, refl, sym, ap, ◌∙◌, subst, arith, IsTrue, length-append}
 use Rattle.std.proofs.Math.Seq.{get_or-append_seam}
 use Rattle.std.proofs.lemmas.Bool.{cases_lt, false≢true}
 use Rattle.std.proofs.lemmas.Bool.Decides.{nat_tests}
@@ -25,6 +25,7 @@ use Rattle.dnsv_verifier.specs.Admissible.{IsSignatureOf}
 use Rattle.dnsv_verifier.specs.Asking.{AddsJust, ComesOfSome}
 use Rattle.dnsv_faults.specs.KnownZones.KnownSearch.{AreKnownTo, AreSpoken, IsAbove, IsSignedFromAbove, IsSignerAbove, IsSpokenBy}
 use Rattle.dnsv_faults.specs.KnownZones.{AreKnownZones, HasOwnAnchor, HasRrset, IsFromAbove, IsKnownZone, IsSpeaker, IsSpeakerOf, MaySpeak}
+use Rattle.dnsv_faults.specs.Keys.{HasKeys}
 use Rattle.dnsv_faults.proofs.lemmas.IndexLemmas.{numbered_at}
 
 -- ---- above a name
@@ -237,3 +238,17 @@ all_known basis name t n known is so_far = record {
   count = so_far.count ∙ is;
   each = λ m within. so_far.each m (omega (arith, is, within));
 }
+
+-- an RRset of keys is there where there are keys
+pub has_keys : (rrsets : List ReceivedRrset) (zone : Labels) → HasRrset rrsets zone 48 ↔ HasKeys rrsets zone
+has_keys rrsets zone =
+    let numbers = numbers_at rrsets zone 48 in
+    let same = some_at rrsets zone 48 numbers refl (length numbers == 0) refl in (
+      λ has none.
+          let empty : not (length numbers == 0) ≡ false = ap (λ (ns : List ℕ). not (length ns == 0)) none in
+          false≢true (sym empty ∙ same.1 has),
+      λ keys. same.0 (some_numbers numbers keys),
+    ) where
+      some_numbers : (ns : List ℕ) → ns ≢ [] → IsTrue (not (length ns == 0))
+      some_numbers [] some = absurd (some refl)
+      some_numbers (n ∷ ns) some = let size : (length (n ∷ ns) == 0) ≡ false = grind (arith, nat_tests) in ap not size

@@ -18,8 +18,9 @@ use Rattle.dnsv_verifier.specs.Admissible.{DnskeyRecord}
 use Rattle.dnsv_verifier.specs.Asking.{GivesEach}
 use Rattle.dnsv_verdict.specs.Verdict.{Basis}
 use Rattle.dnsv_faults.specs.Answers.AnswerSearch.{ArePutInOrder, IsSaidOf}
-use Rattle.dnsv_faults.specs.Keys.Index.{AreIndexed, IsMeantBySigner, IsNamedBySigner, Placed}
-use Rattle.dnsv_faults.specs.Keys.{IsKeyPlaced}
+use Rattle.dnsv_faults.specs.Keys.Index.{Placed}
+use Rattle.dnsv_faults.specs.Keys.KeySearch.{AreNamedOf}
+use Rattle.dnsv_faults.specs.Keys.{IsKeyPlaced, IsZoneKey}
 use Rattle.dnsv_faults.specs.Signatures.{AreNamedKeys, IsNamedKey}
 use Rattle.dnsv_faults.proofs.lemmas.IndexLemmas.{IsFoundAs, found_as, of_signer, zone_key_too}
 use Rattle.dnsv_faults.proofs.lemmas.OrderLemmas.{sorted_map}
@@ -41,33 +42,29 @@ put_in_order {X} number old sorted new moved ordered is =
           (Contains-dedup_nat (map number sorted) (number x) (contains_map number sorted x (Contains-permutation old sorted x moved there)));
     }
 
-module _ (basis : Basis) (rrset : ReceivedRrset) (rrsig : Rrsig) (all found : List Placed) (are : AreIndexed basis.rrsets all)
-    (among : (placed : Placed) → Contains found placed → Contains all placed)
-    (every : (placed : Placed) → Contains all placed → IsNamedBySigner rrsig placed.key → Contains found placed) where
+module _ (basis : Basis) (rrset : ReceivedRrset) (rrsig : Rrsig) (found : List Placed) (are : AreNamedOf basis.rrsets rrsig found) where
   abbrev Said : Placed → NamedKey → Type 0
   Said = IsSaidOf basis.meaning basis.moment rrset rrsig
 
-  abbrev Meant : Placed → Type 0
-  Meant placed = IsMeantBySigner rrsig placed.key
+  abbrev Signs : Placed → Type 0
+  Signs placed = IsZoneKey placed.key
 
-  pub named_are : (meant put : List NamedKey) → GivesEach Said Meant found meant → ArePutInOrder place_of meant put → AreNamedKeys basis rrset rrsig put
-  named_are meant put gives order = record {
+  pub named_are : (signing put : List NamedKey) → GivesEach Said Signs found signing → ArePutInOrder place_of signing put → AreNamedKeys basis rrset rrsig put
+  named_are signing put gives order = record {
     rising = order.rising;
     each = each_member (IsNamedKey basis rrset rrsig) put (λ named there.
         let of_key = gives.only named (order.kept named there) in
         let placed = of_key.source in
-        let at = of_signer basis.rrsets all are rrsig found among every placed of_key.among of_key.is.meant.by_signer.owner in record {
+        let by_signer = are.each placed of_key.among in
+        let at = of_signer basis.rrsets are.all are.indexed rrsig found are.among are.every placed of_key.among by_signer.owner in record {
           key = placed.key;
           placed = subst (λ (n : ℕ). IsKeyPlaced basis.rrsets rrsig.signer n placed.key) (sym of_key.is.place) at;
-          meant = record { named = of_key.is.meant.by_signer.named; zone_key = of_key.is.meant.zone_key };
+          meant = record { named = by_signer.named; zone_key = of_key.is.zone_key };
           answered = of_key.is.answered;
         });
     all = λ place key is its.
-        let known = found_as basis.rrsets all are rrsig found among every place key is its.named in
-        let own : IsMeantBySigner rrsig known.placed.key = record {
-          by_signer = known.named;
-          zone_key = zone_key_too basis.rrsets all are rrsig found among every known.placed.key key known.dnskey its.zone_key;
-        } in
+        let known = found_as basis.rrsets are.all are.indexed rrsig found are.among are.every place key is its.named in
+        let own = zone_key_too basis.rrsets are.all are.indexed rrsig found are.among are.every known.placed.key key known.dnskey its.zone_key in
         let given = gives.all known.placed known.there own in
         let there = order.all given.0 given.1 in
         subst (λ (n : ℕ). Contains (map place_of put) n) (given.2.place ∙ known.place_is) there;

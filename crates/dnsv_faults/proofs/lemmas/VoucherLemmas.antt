@@ -1,21 +1,27 @@
 -- Which keys of a zone an anchor or a DS record matches, or why none.
-use Rattle.std.proofs.Common.{◌≡◌, ◌≤◌, ◌↔◌, ◌==◌, ℕ, Bool, true, false, inl, inr, List, [], ◌∷◌, Option, Some, None, length, get_or, refl, sym, ap, ◌∙◌, subst, arith, IsTrue}
+use Rattle.std.proofs.Common.{◌≡◌, ◌≤◌, ◌↔◌, ◌==◌, ℕ, Bool, true, false, inl, inr, List, [], ◌∷◌, ◌++◌, Option, Some, None, length, get_or, refl, sym, ap, ◌∙◌, subst, arith, IsTrue}
 use Rattle.std.proofs.lemmas.List.Kept.{Contains-dedup_nat, Contains-from_dedup}
 use Rattle.std.proofs.lemmas.List.Sorted.{Contains-permutation, IsPermutation-sym}
 use Rattle.std.proofs.lemmas.Map.Keys.{IsStrictlyIncreasing-dedup}
 use Rattle.std.specs.List.{dedup}
+use Rattle.std.specs.Option.{option_map}
 use Rattle.std.specs.List.Sorted.{IsStrictlyIncreasing}
 use Rattle.std.specs.Ordering.{nat_cmp}
 use Rattle.std.specs.Prelude.{Contains, IsPermutation, IsSorted}
 use lib.Dec.{eqb}
-use Rattle.dnsv_names.specs.Name.{Labels, SameName, lower_case}
+use Rattle.dnsv_names.specs.Name.{Labels, SameName, lower_case, wire}
 use Rattle.dnsv_names.specs.Octets.{number_at}
 use Rattle.dnsv_records.specs.Dnskey.{IsDnskey}
 use Rattle.dnsv_records.specs.Dnskey.KeyTag.{key_tag_of}
 use Rattle.dnsv_records.specs.declared.dnskey.Dnskey.{Dnskey}
+use Rattle.dnsv_records.specs.declared.ds.Ds.{Ds}
 use Rattle.dnsv_records.proofs.OneRecord.{one_dnskey}
 use Rattle.dnsv_canonical.specs.Rrsets.{ReceivedRrset}
-use Rattle.dnsv_lines.specs.declared.line.derivation.KeyName.{KeyName}
+use Rattle.dnsv_chain.specs.Ds.{HasDigestOf}
+use Rattle.dnsv_digest.specs.Digest.{ds_digest_of}
+use Rattle.dnsv_digest.specs.DigestAlgorithm.{digest_algorithm_of, hash_of}
+use Rattle.dnsv_digest.specs.declared.digest_algorithm.DigestAlgorithm.{DigestAlgorithm}
+use Rattle.dnsv_digest.specs.declared.digest_algorithm.DigestAlgorithm.TheVariants.{Sha1, Sha256, Sha384}
 use Rattle.dnsv_lines.specs.declared.line.fault.zone.EntryNumber.{EntryNumber}
 use Rattle.dnsv_lines.specs.declared.line.fault.zone.WhyEntry.{WhyEntry}
 use Rattle.dnsv_lines.specs.declared.line.fault.zone.WhyEntry.TheVariants as why
@@ -27,7 +33,7 @@ use Rattle.dnsv_faults.specs.Keys.Index.{IsPlaced, Placed}
 use Rattle.dnsv_faults.specs.Keys.{IsKeyPlaced}
 use Rattle.dnsv_faults.specs.Vouchers.{AreMatches, AreVoucherFacts, HasNoKey, HasSuchKey, HasTag, IsFirstOf, IsMatchOf, IsVoucherFault, IsWantedBy, Wanted, voucher_faults, wanted_key}
 use Rattle.dnsv_faults.specs.Vouchers.Wanted.{by_digest, whole_key}
-use Rattle.dnsv_faults.specs.Vouchers.VoucherSearch.{AreKeysOfZone, ArePlacesOf, HasAmong, IsKeyWord, IsPlaceOf, IsUnusableWord, tag_of}
+use Rattle.dnsv_faults.specs.Vouchers.VoucherSearch.{AreKeysOfZone, ArePlacesOf, HasAmong, IsKeptDigest, IsKeyWord, IsPlaceOf, IsUnusableWord, tag_of}
 use Rattle.dnsv_faults.specs.Keys.ZoneSearch.{AreKeysOf, IsOf}
 use Rattle.dnsv_faults.proofs.lemmas.ZoneKeyLemmas.{keys_all, keys_placed, placed_same}
 
@@ -38,6 +44,36 @@ algorithm_there (a ∷ []) long = absurd (omega (arith, long))
 algorithm_there (a ∷ b ∷ []) long = absurd (omega (arith, long))
 algorithm_there (a ∷ b ∷ c ∷ []) long = absurd (omega (arith, long))
 algorithm_there (a ∷ b ∷ c ∷ d ∷ rest) long = omega arith
+
+-- ---- digests that are kept
+
+kept_by : (n m : ℕ) (key : DnskeyRecord) (kept : Option (List ℕ)) → digest_algorithm_of n ≡ digest_algorithm_of m → IsKeptDigest n key kept
+    → IsKeptDigest m key kept
+kept_by n m key None same is = tt
+kept_by n m key (Some digest) same is =
+    ap (λ (a : Option DigestAlgorithm). option_map (λ (t : DigestAlgorithm). hash_of t (wire (lower_case key.owner) ++ key.rdata)) a) (sym same) ∙ is
+
+pub kept_itself : (n : ℕ) (key : DnskeyRecord) (kept : Option (List ℕ)) → kept ≡ ds_digest_of n key.owner key.rdata → IsKeptDigest n key kept
+kept_itself n key None is = tt
+kept_itself n key (Some digest) is = sym is
+
+pub kept_is : (ds : Ds) (key : DnskeyRecord) (kept : Option (List ℕ)) (digest : List ℕ) (b : Bool) → kept ≡ Some digest
+    → IsKeptDigest ds.digest_type.0 key kept → (IsTrue b ↔ (digest ≡ ds.digest)) → IsTrue b ↔ HasDigestOf ds key
+kept_is ds key None digest b is kept test = absurd (cc is)
+kept_is ds key (Some own) digest b is kept test =
+    let same : own ≡ digest = cc is in (
+      λ yes. kept ∙ ap (λ (octets : List ℕ). Some octets) (same ∙ test.0 yes),
+      λ has. let both : Some own ≡ Some ds.digest = sym kept ∙ has in let owns : own ≡ ds.digest = cc both in test.1 (sym same ∙ owns),
+    )
+
+pub kept_sha1 : (n : ℕ) (key : DnskeyRecord) (kept : Option (List ℕ)) → digest_algorithm_of n ≡ Some Sha1 → IsKeptDigest 1 key kept → IsKeptDigest n key kept
+kept_sha1 n key kept is = kept_by 1 n key kept (sym is)
+
+pub kept_sha256 : (n : ℕ) (key : DnskeyRecord) (kept : Option (List ℕ)) → digest_algorithm_of n ≡ Some Sha256 → IsKeptDigest 2 key kept → IsKeptDigest n key kept
+kept_sha256 n key kept is = kept_by 2 n key kept (sym is)
+
+pub kept_sha384 : (n : ℕ) (key : DnskeyRecord) (kept : Option (List ℕ)) → digest_algorithm_of n ≡ Some Sha384 → IsKeptDigest 4 key kept → IsKeptDigest n key kept
+kept_sha384 n key kept is = kept_by 4 n key kept (sym is)
 
 -- ---- what matches a key asks for it, and what asks for it asks for its tag
 

@@ -12,7 +12,8 @@ use Rattle.dnsv_mending.specs.declared.facts.signature.KeyAnswer.{KeyAnswer}
 use Rattle.dnsv_mending.specs.declared.facts.signature.KeyAnswer.TheVariants as said
 use Rattle.dnsv_mending.specs.declared.facts.signature.NamedKey.{NamedKey}
 use Rattle.dnsv_faults.specs.Answers.{IsKeyAnswer}
-use Rattle.dnsv_faults.specs.Keys.Index.{IsMeantBySigner, Placed}
+use Rattle.dnsv_faults.specs.Keys.Index.{Placed}
+use Rattle.dnsv_faults.specs.Keys.{IsZoneKey}
 
 -- what a verifier may be asked of: what the signature signs, where it can be verified at the moment
 abbrev pub IsAskedOf : ℕ → ReceivedRrset → Rrsig → Option (List ℕ) → Type 0
@@ -32,12 +33,12 @@ is_good_answer said.Good = true
 is_good_answer said.Bad = false
 is_good_answer said.Unanswered = false
 
--- the key that is placed is meant, and this is said of the signature under it
+-- a zone may sign with the key that is placed, and this is said of the signature under it
 pub record IsSaidOf
     (meaning : Entry → Answer) (moment : ℕ) (rrset : ReceivedRrset) (rrsig : Rrsig) (placed : Placed) (named : NamedKey)
     : Type 0 where
   pub place : named.key ≡ placed.place
-  pub meant : IsMeantBySigner rrsig placed.key
+  pub zone_key : IsZoneKey placed.key
   pub answered : IsKeyAnswer meaning moment rrset rrsig placed.key named.answer
 
 -- the new list has those of the old one by their numbers, of those with one number one

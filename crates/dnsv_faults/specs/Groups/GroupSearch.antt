@@ -8,9 +8,7 @@ use Rattle.dnsv_canonical.specs.Canonical.{IsCanonical}
 use Rattle.dnsv_canonical.specs.Rrsets.{IsNumbered, ReceivedRrset}
 use Rattle.dnsv_chain.specs.Anchor.{anchor_owner}
 use Rattle.dnsv_chain.specs.declared.anchor.Anchor.{Anchor}
-use Rattle.dnsv_digest.specs.DigestAlgorithm.{IsStronger, digest_algorithm_of}
-use Rattle.dnsv_digest.specs.declared.digest_algorithm.DigestAlgorithm.{DigestAlgorithm}
-use Rattle.dnsv_digest.specs.declared.digest_algorithm.DigestAlgorithm.TheVariants.{Sha1, Sha256, Sha384}
+use Rattle.dnsv_chain.specs.Ds.{GoesBefore}
 use Rattle.dnsv_verdict.specs.Verdict.{Basis}
 use Rattle.dnsv_verifier.specs.Asking.{ComesOfSome}
 use Rattle.dnsv_lines.specs.declared.line.fault.zone.EntryNumber.TheVariants as number
@@ -62,21 +60,17 @@ pub record AddsDs (basis : Basis) (keys : List Placed) (k : ℕ) (old new : List
 
 -- ---- digest types
 
--- the digest type of the record is supported, and stronger
-abbrev pub IsStrongerType : Ds → DigestAlgorithm → Type 0
-IsStrongerType ds weaker =
-    (stronger : DigestAlgorithm) × (digest_algorithm_of ds.digest_type.0 ≡ Some stronger) × IsStronger stronger weaker
-
--- that of one of the records is
-pub record HasStronger (records : List Ds) (weaker : DigestAlgorithm) : Type 0 where
+-- the digest type of one of the records goes before the one with the number
+pub record HasStronger (records : List Ds) (weaker : ℕ) : Type 0 where
   pub ds : Ds
   pub among : Contains records ds
-  pub is : IsStrongerType ds weaker
+  pub is : GoesBefore ds.digest_type.0 weaker
 
+-- SHA-1, SHA-256 and SHA-384 by their numbers
 pub record AreIgnoredTypes (records : List Ds) (ignored : IgnoredTypes) : Type 0 where
-  pub sha1 : IsTrue ignored.sha1 ↔ HasStronger records Sha1
-  pub sha256 : IsTrue ignored.sha256 ↔ HasStronger records Sha256
-  pub sha384 : IsTrue ignored.sha384 ↔ HasStronger records Sha384
+  pub sha1 : IsTrue ignored.sha1 ↔ HasStronger records 1
+  pub sha256 : IsTrue ignored.sha256 ↔ HasStronger records 2
+  pub sha384 : IsTrue ignored.sha384 ↔ HasStronger records 4
 
 -- ---- what they match
 

@@ -6,7 +6,7 @@ use Rattle.dnsv_records.specs.Dnskey.{IsDnskey}
 use Rattle.dnsv_records.specs.declared.rrsig.Rrsig.{Rrsig}
 use Rattle.dnsv_verifier.specs.Admissible.{DnskeyRecord}
 use Rattle.dnsv_verifier.specs.Asking.{KeyName, name_of_key}
-use Rattle.dnsv_faults.specs.Keys.{IsKeyPlaced, IsNamed, IsZoneKey}
+use Rattle.dnsv_faults.specs.Keys.{IsKeyPlaced, IsNamed}
 
 -- a key with its place among those of its owner
 pub record Placed : Type 0 where
@@ -41,8 +41,3 @@ pub record AreIndexed (rrsets : List ReceivedRrset) (all : List Placed) : Type 0
 pub record IsNamedBySigner (rrsig : Rrsig) (key : DnskeyRecord) : Type 0 where
   pub named : IsNamed rrsig key
   pub owner : SameName key.owner rrsig.signer
-
--- and a zone may sign with it
-pub record IsMeantBySigner (rrsig : Rrsig) (key : DnskeyRecord) : Type 0 where
-  pub by_signer : IsNamedBySigner rrsig key
-  pub zone_key : IsZoneKey key

@@ -1,16 +1,20 @@
--- Which of some keys a signature names. No public clause cites this module.
+-- Which keys a signature names. No public clause cites this module.
 use Rattle.std.specs.Prelude.{List, Contains}
+use Rattle.dnsv_canonical.specs.Rrsets.{ReceivedRrset}
 use Rattle.dnsv_records.specs.declared.rrsig.Rrsig.{Rrsig}
-use Rattle.dnsv_faults.specs.Keys.Index.{IsMeantBySigner, IsNamedBySigner, Placed}
+use Rattle.dnsv_faults.specs.Keys.Index.{AreIndexed, IsNamedBySigner, Placed}
+use Rattle.dnsv_faults.specs.Keys.{IsZoneKey}
 
--- one of them
-pub record HasNamed (keys : List Placed) (rrsig : Rrsig) : Type 0 where
+-- just those keys of the evidence that the signature names
+pub record AreNamedOf (rrsets : List ReceivedRrset) (rrsig : Rrsig) (named : List Placed) : Type 0 where
+  pub all : List Placed
+  pub indexed : AreIndexed rrsets all
+  pub among : (placed : Placed) → Contains named placed → Contains all placed
+  pub each : (placed : Placed) → Contains named placed → IsNamedBySigner rrsig placed.key
+  pub every : (placed : Placed) → Contains all placed → IsNamedBySigner rrsig placed.key → Contains named placed
+
+-- a zone may sign with one of the keys
+pub record HasZoneKey (keys : List Placed) : Type 0 where
   pub placed : Placed
   pub among : Contains keys placed
-  pub named : IsNamedBySigner rrsig placed.key
-
--- one of them that a zone may sign with
-pub record HasMeant (keys : List Placed) (rrsig : Rrsig) : Type 0 where
-  pub placed : Placed
-  pub among : Contains keys placed
-  pub meant : IsMeantBySigner rrsig placed.key
+  pub is : IsZoneKey placed.key

@@ -1,5 +1,5 @@
 -- How the keys that anchors and DS records match are looked for. No public clause cites this module.
-use Rattle.std.specs.Prelude.{◌≡◌, ◌↔◌, ◌<◌, ℕ, List, [], Option, Some, None, Contains, IsTrue}
+use Rattle.std.specs.Prelude.{◌≡◌, ◌↔◌, ◌<◌, ⊤, ℕ, List, [], Option, Some, None, Contains, IsTrue}
 use Rattle.std.specs.List.Sorted.{IsStrictlyIncreasing}
 use Rattle.dnsv_names.specs.Name.{Labels}
 use Rattle.dnsv_records.specs.Algorithm.{is_supported}
@@ -28,11 +28,16 @@ pub record AreKeysOfZone (rrsets : List ReceivedRrset) (zone : Labels) (keys : L
 abbrev pub tag_of : Placed → ℕ
 tag_of placed = key_tag_of placed.key.rdata
 
--- the key's digests by the digest types that are supported
+-- what is kept is the key's digest by the digest type
+abbrev pub IsKeptDigest : ℕ → DnskeyRecord → Option (List ℕ) → Type 0
+IsKeptDigest number key None = ⊤
+IsKeptDigest number key (Some digest) = ds_digest_of number key.owner key.rdata ≡ Some digest
+
+-- the key's digests by the digest types that are supported, as far as they are kept
 pub record AreDigestsOf (key : DnskeyRecord) (by_sha1 by_sha256 by_sha384 : Option (List ℕ)) : Type 0 where
-  pub sha1 : by_sha1 ≡ ds_digest_of 1 key.owner key.rdata
-  pub sha256 : by_sha256 ≡ ds_digest_of 2 key.owner key.rdata
-  pub sha384 : by_sha384 ≡ ds_digest_of 4 key.owner key.rdata
+  pub sha1 : IsKeptDigest 1 key by_sha1
+  pub sha256 : IsKeptDigest 2 key by_sha256
+  pub sha384 : IsKeptDigest 4 key by_sha384
 
 -- one of the keys is such
 pub record HasAmong (Such : DnskeyRecord → Type 0) (keys : List Placed) : Type 0 where

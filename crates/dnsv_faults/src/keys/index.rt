@@ -44,6 +44,7 @@ impl<'a> KeyIndex<'a> {
     /// The keys that the signature names: those of its signer with its tag and its algorithm.
     pub fn named_by(&self, rrsig: &Rrsig<'_>) -> &[PlacedKey<'a>]
         ensures among { (placed : Placed) → Contains result.now placed → Contains self.now placed }
+        ensures named { (placed : Placed) → Contains result.now placed → IsNamedBySigner rrsig.now placed.key }
         ensures all { (placed : Placed) → Contains self.now placed → IsNamedBySigner rrsig.now placed.key
             → Contains result.now placed }
     {

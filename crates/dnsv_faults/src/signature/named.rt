@@ -5,12 +5,13 @@ ghost use Rattle.dnsv_verdict.specs.Case.{basis_by};
 ghost use Rattle.dnsv_verifier.specs.Asking.{GivesEach, GivesMore};
 ghost use Rattle.dnsv_verifier.specs.Table.{table_answer};
 ghost use Rattle.dnsv_faults.specs.Answers.AnswerSearch.{ArePutInOrder, IsAskedOf, IsSaidOf};
-ghost use Rattle.dnsv_faults.specs.Keys.Index.{IsMeantBySigner};
+ghost use Rattle.dnsv_faults.specs.Keys.KeySearch.{AreNamedOf};
+ghost use Rattle.dnsv_faults.specs.Keys.{IsZoneKey};
 ghost use Rattle.dnsv_faults.specs.Signatures.{AreNamedKeys};
 
 use crate::answers::{answer_under, asked_octets};
 use crate::case_facts::CaseFacts;
-use crate::keys::is_meant;
+use crate::keys::is_zone_key;
 use crate::keys::placed::PlacedKey;
 use dnsv_canonical::Rrset;
 use dnsv_mending::NamedKey;
@@ -19,31 +20,26 @@ use dnsv_verifier::Table;
 use std::alloc::{AllocError, Global};
 
 /// The zone keys that the signature of the RRset names, each once and by its place among those of the signer, with the
-/// answer under it.
+/// answer under it: those of the keys that it names.
 pub fn named_keys(
     alloc: Global,
     facts: &CaseFacts<'_>,
     rrset: &Rrset<'_>,
     rrsig: &Rrsig<'_>,
+    named: &[PlacedKey<'_>],
 ) -> Result<Vec<NamedKey>, AllocError>
+    requires { AreNamedOf facts.now.rrsets rrsig.now named.now }
     ensures { IfOk result (λ keys. AreNamedKeys (basis_by facts.now) rrset.now rrsig.now keys.items) }
 {
     let table = facts.table();
     let octets = asked_octets(alloc, table.moment(), rrset, rrsig)?;
-    let mut named = meant_keys(
-        alloc,
-        table,
-        facts.keys().named_by(rrsig),
-        rrset,
-        rrsig,
-        &octets,
-    )?;
-    put_in_order(&mut named);
-    Ok(named)
+    let mut keys = answered_keys(alloc, table, named, rrset, rrsig, &octets)?;
+    put_in_order(&mut keys);
+    Ok(keys)
 }
 
-/// Those of the keys that are zone keys which the signature names.
-fn meant_keys(
+/// Those of the keys that a zone may sign with, with what the verifier says under each.
+fn answered_keys(
     alloc: Global,
     table: &Table<'_>,
     keys: &[PlacedKey<'_>],
@@ -53,17 +49,17 @@ fn meant_keys(
 ) -> Result<Vec<NamedKey>, AllocError>
     requires { IsAskedOf table.now.moment rrset.now rrsig.now (option_map (λ each. each.items) octets.now) }
     ensures { IfOk result (λ named. GivesEach (IsSaidOf (table_answer table.now) table.now.moment rrset.now rrsig.now)
-        (λ placed. IsMeantBySigner rrsig.now placed.key) keys.now named.items) }
+        (λ placed. IsZoneKey placed.key) keys.now named.items) }
 {
     let mut named = Vec::new(alloc);
     for placed in keys {
-        add_meant(table, placed, rrset, rrsig, octets, &mut named)?;
+        add_answered(table, placed, rrset, rrsig, octets, &mut named)?;
     }
     Ok(named)
 }
 
 /// Adds the key, if it is such a one.
-fn add_meant(
+fn add_answered(
     table: &Table<'_>,
     placed: &PlacedKey<'_>,
     rrset: &Rrset<'_>,
@@ -73,9 +69,9 @@ fn add_meant(
 ) -> Result<(), AllocError>
     requires { IsAskedOf table.now.moment rrset.now rrsig.now (option_map (λ each. each.items) octets.now) }
     ensures { OnOk result (GivesMore (IsSaidOf (table_answer table.now) table.now.moment rrset.now rrsig.now)
-        (λ each. IsMeantBySigner rrsig.now each.key) placed.now named.old.items named.new.items) }
+        (λ each. IsZoneKey each.key) placed.now named.old.items named.new.items) }
 {
-    if !is_meant(placed.key(), rrsig) {
+    if !is_zone_key(placed.key()) {
         return Ok(());
     }
     named.push(NamedKey {

@@ -62,8 +62,9 @@ fn has_unknown_algorithm(rrsig: &Rrsig<'_>) -> bool
 fn not_yet(moment: u64, rrsig: &Rrsig<'_>) -> Option<SignatureTimes>
     ensures { result ≡ not_yet moment rrsig.now }
 {
-    if seconds_since(rrsig.inception.0, moment) >= HALF {
-        Some(times(rrsig, seconds_left(rrsig.inception.0, moment)))
+    let inception = rrsig.inception.0 as u64;
+    if seconds_on(inception, moment) >= HALF {
+        Some(times(rrsig, seconds_on(moment, inception)))
     } else {
         None
     }
@@ -73,8 +74,9 @@ fn not_yet(moment: u64, rrsig: &Rrsig<'_>) -> Option<SignatureTimes>
 fn expired(moment: u64, rrsig: &Rrsig<'_>) -> Option<SignatureTimes>
     ensures { result ≡ expired moment rrsig.now }
 {
-    if seconds_left(rrsig.expiration.0, moment) >= HALF {
-        Some(times(rrsig, seconds_since(rrsig.expiration.0, moment)))
+    let expiration = rrsig.expiration.0 as u64;
+    if seconds_on(moment, expiration) >= HALF {
+        Some(times(rrsig, seconds_on(expiration, moment)))
     } else {
         None
     }
@@ -91,18 +93,9 @@ fn times(rrsig: &Rrsig<'_>, by: u32) -> SignatureTimes
     }
 }
 
-/// How many seconds the moment is behind the time, around the circle.
-fn seconds_since(time: u32, moment: u64) -> u32
-    ensures { result ≡ seconds_on time moment }
+/// How many seconds it is from one time on to the other, around the circle.
+fn seconds_on(from: u64, to: u64) -> u32
+    ensures { result ≡ seconds_on from to }
 {
-    let now = (moment % (1 << 32)) as u32;
-    now.wrapping_sub(time)
-}
-
-/// How many seconds the time is behind the moment, around the circle.
-fn seconds_left(time: u32, moment: u64) -> u32
-    ensures { result ≡ seconds_on moment time }
-{
-    let now = (moment % (1 << 32)) as u32;
-    time.wrapping_sub(now)
+    ((to % (1 << 32)) as u32).wrapping_sub((from % (1 << 32)) as u32)
 }

@@ -1,17 +1,16 @@
 //! Keys with their digests.
-ghost use Rattle.std.specs.Prelude.{◌≡◌, ◌↔◌, IsTrue, Some};
+ghost use Rattle.std.specs.Prelude.{◌≡◌, ◌↔◌, IsTrue};
 ghost use Rattle.dnsv_chain.specs.Ds.{HasDigestOf};
-ghost use Rattle.dnsv_digest.specs.Digest.{ds_digest_of};
-ghost use Rattle.dnsv_records.specs.Dnskey.KeyTag.{key_tag_of};
+ghost use Rattle.dnsv_faults.specs.Vouchers.VoucherSearch.{IsKeptDigest};
 
 use crate::keys::placed::PlacedKey;
 use dnsv_digest::{Digest, DigestAlgorithm, ds_digest};
-use dnsv_records::{Ds, KeyTag};
+use dnsv_records::Ds;
 use dnsv_verifier::KeyRecord;
 use std::marker::Model;
 
-/// A key with its place and with its digest by each digest type that is supported, worked out once for all DS records that
-/// may name it. It is seen as the key with its place.
+/// A key with its place and, where many may ask for them, with its digest by each digest type that is supported, worked out
+/// once for all. It is seen as the key with its place.
 #[derive(Drop)]
 pub struct DigestedKey<'a> {
     placed: PlacedKey<'a>,
@@ -32,13 +31,13 @@ impl<'a> Model for DigestedKey<'a> {
 }
 
 impl<'a> DigestedKey<'a> {
-    /// The key with its digests.
-    pub fn new(placed: PlacedKey<'a>) -> DigestedKey<'a>
+    /// The key, with its digests where they are to be kept.
+    pub fn new(placed: PlacedKey<'a>, is_kept: bool) -> DigestedKey<'a>
         ensures { result ≡ placed.entry }
     {
-        let sha1 = digest_of(1, placed.key());
-        let sha256 = digest_of(2, placed.key());
-        let sha384 = digest_of(4, placed.key());
+        let sha1 = kept_digest(is_kept, 1, placed.key());
+        let sha256 = kept_digest(is_kept, 2, placed.key());
+        let sha384 = kept_digest(is_kept, 4, placed.key());
         DigestedKey {
             placed,
             sha1,
@@ -61,38 +60,41 @@ impl<'a> DigestedKey<'a> {
         self.placed.key()
     }
 
-    /// Its key tag (RFC 4034 appendix B).
-    pub fn key_tag(&self) -> KeyTag
-        ensures { result.0 ≡ key_tag_of self.now.key.rdata }
-    {
-        self.placed.key().key_tag()
-    }
-
     /// Whether the DS record's digest is the key's (RFC 4034 5.1.4).
+    #[tactic(auto, using(crate::proofs::lemmas::VoucherLemmas::kept_sha1, crate::proofs::lemmas::VoucherLemmas::kept_sha256, crate::proofs::lemmas::VoucherLemmas::kept_sha384))]
     pub fn has_digest(&self, ds: &Ds<'_>) -> bool
         ensures { IsTrue result ↔ HasDigestOf ds.now self.now.key }
     {
         match DigestAlgorithm::from_number(ds.digest_type.0) {
-            Some(DigestAlgorithm::Sha1) => is_digest(&self.sha1, ds),
-            Some(DigestAlgorithm::Sha256) => is_digest(&self.sha256, ds),
-            Some(DigestAlgorithm::Sha384) => is_digest(&self.sha384, ds),
+            Some(DigestAlgorithm::Sha1) => is_digest(&self.sha1, ds, self.key()),
+            Some(DigestAlgorithm::Sha256) => is_digest(&self.sha256, ds, self.key()),
+            Some(DigestAlgorithm::Sha384) => is_digest(&self.sha384, ds, self.key()),
             None => false,
         }
     }
 }
 
-/// The key's digest by the digest type with the number.
-fn digest_of(digest_type: u8, key: &KeyRecord<'_>) -> Option<Digest>
-    ensures { result ≡ ds_digest_of digest_type key.now.owner key.now.rdata }
+/// The key's digest by the digest type with the number, where it is to be kept.
+#[tactic(auto, using(crate::proofs::lemmas::VoucherLemmas::kept_itself))]
+fn kept_digest(is_kept: bool, digest_type: u8, key: &KeyRecord<'_>) -> Option<Digest>
+    ensures { IsKeptDigest digest_type key.now result }
 {
+    if !is_kept {
+        return None;
+    }
     ds_digest(digest_type, key.owner(), key.rdata())
 }
 
-/// Whether the digest is there, and is the DS record's.
-fn is_digest(digest: &Option<Digest>, ds: &Ds<'_>) -> bool
-    ensures { IsTrue result ↔ (digest.now ≡ Some ds.now.digest) }
+/// Whether the DS record's digest is the key's, which is worked out where it isn't kept.
+#[tactic(auto, using(crate::proofs::lemmas::VoucherLemmas::kept_is))]
+fn is_digest(kept: &Option<Digest>, ds: &Ds<'_>, key: &KeyRecord<'_>) -> bool
+    requires { IsKeptDigest ds.now.digest_type.0 key.now kept.now }
+    ensures { IsTrue result ↔ HasDigestOf ds.now key.now }
 {
-    match digest {
+    if let Some(digest) = kept {
+        return digest.octets() == ds.digest.as_slice();
+    }
+    match ds_digest(ds.digest_type.0, key.owner(), key.rdata()) {
         Some(digest) => digest.octets() == ds.digest.as_slice(),
         None => false,
     }

@@ -33,17 +33,18 @@ impl<'a> Model for ZoneKeys<'a> {
 }
 
 impl<'a> ZoneKeys<'a> {
-    /// The keys of the zone.
+    /// The keys of the zone, with their digests where these are to be kept.
     pub fn of(
         alloc: Global,
         capture: &'a Capture<'a>,
         zone: &'a Name,
+        is_kept: bool,
     ) -> Result<ZoneKeys<'a>, AllocError>
         ensures { IfOk result (AreKeysOfZone capture.now.rrsets zone.now) }
     {
         let placed = zone_keys(alloc, capture, zone)?;
-        let mut keys = digested_keys(alloc, placed)?;
-        keys.sort_unstable_by(|a, b| a.key_tag().0.cmp(&b.key_tag().0));
+        let mut keys = digested_keys(alloc, placed, is_kept)?;
+        keys.sort_unstable_by(|a, b| a.key().key_tag().0.cmp(&b.key().key_tag().0));
         Ok(ZoneKeys { keys })
     }
 
@@ -53,9 +54,9 @@ impl<'a> ZoneKeys<'a> {
         ensures all { (placed : Placed) → Contains self.now placed → tag_of placed ≡ tag.0 → Contains result.now placed }
     {
         let keys = self.keys.as_slice();
-        let start = keys.partition_point(|key| key.key_tag().0 < tag.0);
+        let start = keys.partition_point(|each| each.key().key_tag().0 < tag.0);
         let keys = &keys[start..];
-        let count = keys.partition_point(|key| key.key_tag().0 <= tag.0);
+        let count = keys.partition_point(|each| each.key().key_tag().0 <= tag.0);
         &keys[..count]
     }
 }
@@ -64,12 +65,13 @@ impl<'a> ZoneKeys<'a> {
 fn digested_keys<'a>(
     alloc: Global,
     placed: Vec<PlacedKey<'a>>,
+    is_kept: bool,
 ) -> Result<Vec<DigestedKey<'a>>, AllocError>
     ensures { IfOk result (λ keys. keys.items ≡ placed.entry.items) }
 {
     let mut keys = Vec::with_capacity(alloc, placed.len())?;
     for each in placed {
-        keys.push(DigestedKey::new(each))?;
+        keys.push(DigestedKey::new(each, is_kept))?;
     }
     Ok(keys)
 }

@@ -84,7 +84,7 @@ fn has_own_anchor(facts: &CaseFacts<'_>, zone: &Name) -> bool
 }
 
 /// Whether an RRset of the type is at the zone.
-fn has_rrset(facts: &CaseFacts<'_>, zone: &Name, rtype: RecordType) -> bool
+pub fn has_rrset(facts: &CaseFacts<'_>, zone: &Name, rtype: RecordType) -> bool
     ensures { IsTrue result ↔ HasRrset facts.now.rrsets zone.now rtype.0 }
 {
     !facts.capture().at(zone, rtype).is_empty()

@@ -1,5 +1,5 @@
 //! Places of keys.
-ghost use Rattle.std.specs.Prelude.{◌≢◌, ◌↔◌, ℕ, Contains, IsTrue};
+ghost use Rattle.std.specs.Prelude.{◌↔◌, ℕ, Contains, IsTrue};
 ghost use Rattle.std.specs.List.Sorted.{IsStrictlyIncreasing};
 ghost use Rattle.dnsv_faults.specs.Dnskeys.PlaceSearch.{HasOther};
 
@@ -51,13 +51,6 @@ impl Places {
         if self.places.len() > 1 {
             return true;
         }
-        self.places.iter().any(|other| is_apart(*other, place))
+        self.places.iter().any(|other| *other != place)
     }
-}
-
-/// Whether the places are two.
-fn is_apart(one: usize, other: usize) -> bool
-    ensures { IsTrue result ↔ (one ≢ other) }
-{
-    one != other
 }

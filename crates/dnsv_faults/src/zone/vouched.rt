@@ -1,5 +1,5 @@
 //! Which keys of a zone anchors and DS records vouch for.
-ghost use Rattle.std.specs.Prelude.{◌≡◌, Contains, IfOk, OnOk};
+ghost use Rattle.std.specs.Prelude.{◌≡◌, IfOk, OnOk};
 ghost use Rattle.std.specs.List.{list_any};
 ghost use Rattle.dnsv_verifier.specs.Asking.{AddsJust, ComesOfSome};
 ghost use Rattle.dnsv_faults.specs.Groups.GroupSearch.{AreMatched, IsMatched, IsMatchedByDs};
@@ -27,17 +27,7 @@ fn add_matches(vouchers: &[VoucherFacts], places: &mut Vec<usize>) -> Result<(),
     ensures { OnOk result (AddsJust (ComesOfSome IsMatched vouchers.now) places.old.items places.new.items) }
 {
     for voucher in vouchers {
-        add_places(&voucher.matches, places)?;
-    }
-    Ok(())
-}
-
-/// Adds these places.
-fn add_places(more: &[usize], places: &mut Vec<usize>) -> Result<(), AllocError>
-    ensures { OnOk result (AddsJust (λ place. Contains more.now place) places.old.items places.new.items) }
-{
-    for place in more {
-        places.push(*place)?;
+        places.extend_from_slice(&voucher.matches)?;
     }
     Ok(())
 }

@@ -1,6 +1,7 @@
 -- Which keys of a zone are vouched for, and which DNSKEY RRsets that makes trusted.
-use Rattle.std.proofs.Common.{◌≡◌, ◌≢◌, ◌↔◌, ◌⊎◌, ◌+◌, ◌-◌, ◌<◌, ◌||◌, ℕ, zero, suc, Bool, true, false, inl, inr, ⊎_elim, List, [], ◌∷◌, Some, None, length, map, get_or, refl, sym, ap, ◌∙◌, subst, arith, IsTrue}
+use Rattle.std.proofs.Common.{◌≡◌, ◌≢◌, ◌↔◌, ◌⊎◌, ◌+◌, ◌-◌, ◌<◌, ◌||◌, ℕ, zero, suc, Bool, true, false, inl, inr, ⊎_elim, List, [], ◌∷◌, ◌++◌, Some, None, length, map, get_or, refl, sym, ap, ◌∙◌, subst, arith, IsTrue}
 use Rattle.std.proofs.lemmas.Bool.{false≢true}
+use Rattle.std.proofs.lemmas.List.Elements.{Contains-append_cases, Contains-append_left, Contains-append_right}
 use Rattle.std.proofs.lemmas.List.Sorted.{Contains-permutation, IsPermutation-sym}
 use Rattle.std.proofs.lemmas.Option.{get_or_from_slice_get, slice_get-get_or, slice_get_within}
 use Rattle.std.specs.Prelude.{Contains, IsPermutation, slice_get}
@@ -272,6 +273,14 @@ are_vouched basis zone anchors ds places are_anchors are_ds matched = record {
       (λ (has : HasAnchorMatch basis.anchors key). inl (anchor_there basis zone anchors ds are_anchors are_ds place key placed supported has))
       (λ (to : IsDelegatedTo basis key). inr (ds_there basis zone anchors ds are_anchors are_ds place key placed supported to))
       vouched);
+}
+
+-- a list that is put behind another adds what it has
+pub adds_joined : {X : Type 0} (old more : List X) → AddsJust (λ (x : X). Contains more x) old (old ++ more)
+adds_joined old more = record {
+  kept = λ x there. Contains-append_left old more x there;
+  added = λ x there. Contains-append_right old more x there;
+  only = λ x there. Contains-append_cases old more x there;
 }
 
 -- what is added for anchors, and then for DS RRsets

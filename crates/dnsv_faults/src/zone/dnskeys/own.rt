@@ -10,12 +10,13 @@ ghost use Rattle.dnsv_faults.specs.Dnskeys.DnskeySearch.{AreKeyRecords, AreKeysI
 ghost use Rattle.dnsv_faults.specs.Signatures.{IsSignatureAt};
 ghost use Rattle.dnsv_faults.specs.Vouchers.VoucherSearch.{ArePlacesOf};
 
-use crate::answers::{answer_under, asked_octets, is_good};
+use crate::answers::{answer_under, asked_octets};
 use crate::keys::placed::PlacedKey;
 use crate::zone::dnskeys::tagged::{OwnSignature, OwnSignatures};
 use crate::zone::keyed::{KeyedZone, find};
 use crate::zone::places::Places;
 use dnsv_canonical::Rrset;
+use dnsv_mending::KeyAnswer;
 use dnsv_records::Rrsig;
 use dnsv_verifier::Table;
 use std::alloc::{AllocError, Global};
@@ -79,7 +80,7 @@ fn good_places(
 {
     let table = keyed.facts.table();
     let mut places = Vec::new(alloc);
-    for named in keyed.facts.keys().named_by(rrsig) {
+    for named in keyed.facts.named_by(rrsig) {
         add_good(table, rrset, keys, rrsig, octets, named, &mut places)?;
     }
     Ok(Places::of(places))
@@ -122,5 +123,9 @@ fn is_good_under(
     requires { IsAskedOf table.now.moment rrset.now rrsig.now (option_map (λ each. each.items) octets.now) }
     ensures { IsTrue result ↔ IsGood (table_answer table.now) table.now.moment rrset.now rrsig.now placed.now.key }
 {
-    is_good(answer_under(table, rrset, rrsig, octets, placed.key()))
+    match answer_under(table, rrset, rrsig, octets, placed.key()) {
+        KeyAnswer::Good => true,
+        KeyAnswer::Bad => false,
+        KeyAnswer::Unanswered => false,
+    }
 }

@@ -4,7 +4,7 @@ ghost use Rattle.dnsv_chain.specs.Ds.{IsIgnored};
 ghost use Rattle.dnsv_records.specs.declared.ds.Ds.{Ds};
 ghost use Rattle.dnsv_verdict.specs.Case.{basis_by};
 ghost use Rattle.dnsv_faults.specs.Groups.{AreAllDsFacts};
-ghost use Rattle.dnsv_faults.specs.Groups.GroupSearch.{AddsDs, AreIgnoredTypes, AreRecordsKnown, HasStronger, IsDsNumber, IsStrongerType};
+ghost use Rattle.dnsv_faults.specs.Groups.GroupSearch.{AddsDs, AreIgnoredTypes, AreRecordsKnown, HasStronger, IsDsNumber};
 ghost use Rattle.dnsv_faults.specs.Vouchers.VoucherSearch.{AreKeysOfZone};
 
 use crate::case_facts::CaseFacts;
@@ -13,11 +13,12 @@ use crate::vouchers::asked::Asked;
 use crate::vouchers::voucher_facts;
 use crate::vouchers::zone_keys::ZoneKeys;
 use dnsv_canonical::{RecordNumber, Rrset, in_canonical_order};
+use dnsv_chain::goes_before;
 use dnsv_digest::DigestAlgorithm;
 use dnsv_lines::EntryNumber;
 use dnsv_mending::{DsFacts, VoucherFacts};
 use dnsv_names::{Name, RecordType};
-use dnsv_records::Ds;
+use dnsv_records::{DigestType, Ds};
 use std::alloc::{AllocError, Global};
 
 /// Which digest types are ignored in a DS RRset, since a record of it has a stronger one (RFC 4509 3).
@@ -93,7 +94,7 @@ fn record_facts(
 }
 
 /// Whether the record is ignored in the DS RRset with these ignored types.
-#[tactic(auto, using(crate::proofs::lemmas::GroupLemmas::ignored_type, crate::proofs::lemmas::GroupLemmas::no_type))]
+#[tactic(auto, using(crate::proofs::lemmas::GroupLemmas::ignored_sha1, crate::proofs::lemmas::GroupLemmas::ignored_sha256, crate::proofs::lemmas::GroupLemmas::ignored_sha384, crate::proofs::lemmas::GroupLemmas::no_type))]
 fn is_ignored(ignored: IgnoredTypes, ds: &Ds<'_>) -> bool
     ensures { (records : List Ds) → AreIgnoredTypes records ignored → IsTrue result ↔ IsIgnored records ds.now }
 {
@@ -110,25 +111,17 @@ fn ignored_types(records: &[Ds<'_>]) -> IgnoredTypes
     ensures { AreIgnoredTypes records.now result }
 {
     IgnoredTypes {
-        sha1: has_stronger(records, DigestAlgorithm::Sha1),
-        sha256: has_stronger(records, DigestAlgorithm::Sha256),
-        sha384: has_stronger(records, DigestAlgorithm::Sha384),
+        sha1: has_stronger(records, 1),
+        sha256: has_stronger(records, 2),
+        sha384: has_stronger(records, 4),
     }
 }
 
-/// Whether one of the records has a digest type that is supported and stronger.
-fn has_stronger(records: &[Ds<'_>], weaker: DigestAlgorithm) -> bool
+/// Whether the digest type of one of the records goes before the one with the number.
+fn has_stronger(records: &[Ds<'_>], weaker: u8) -> bool
     ensures { IsTrue result ↔ HasStronger records.now weaker }
 {
-    records.iter().any(|ds| is_stronger(ds, weaker))
-}
-
-/// Whether the record has.
-fn is_stronger(ds: &Ds<'_>, weaker: DigestAlgorithm) -> bool
-    ensures { IsTrue result ↔ IsStrongerType ds.now weaker }
-{
-    match DigestAlgorithm::from_number(ds.digest_type.0) {
-        Some(stronger) => stronger.is_stronger_than(weaker),
-        None => false,
-    }
+    records
+        .iter()
+        .any(|ds| goes_before(ds.digest_type, DigestType(weaker)))
 }

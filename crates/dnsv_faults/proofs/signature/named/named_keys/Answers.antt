@@ -3,7 +3,8 @@ use Rattle.dnsv_verdict.specs.Case.{basis_by}
 use Rattle.dnsv_verifier.specs.Asking.{GivesEach}
 use Rattle.dnsv_verifier.specs.Table.{TableContents, table_answer}
 use Rattle.dnsv_faults.specs.Answers.AnswerSearch.{IsSaidOf}
-use Rattle.dnsv_faults.specs.Keys.Index.{IsMeantBySigner, Placed}
+use Rattle.dnsv_faults.specs.Keys.Index.{Placed}
+use Rattle.dnsv_faults.specs.Keys.{IsZoneKey}
 use Rattle.dnsv_faults.proofs.lemmas.NamedLemmas.{named_are}
 use Rattle.dnsv_faults.proofs.signature.named.named_keys.Goals as goal
 
@@ -12,7 +13,7 @@ returns c =
     let rrset = c.args.rrset.now in
     let rrsig = c.args.rrsig.now in
     let Gives : TableContents → Type 0 =
-    λ table. GivesEach (IsSaidOf (table_answer table) table.moment rrset rrsig) (λ (placed : Placed). IsMeantBySigner rrsig placed.key)
-    c.named_by.result.now c.in_ok-named.named.items in
-    named_are (basis_by c.args.facts.now) rrset rrsig c.keys.result.now c.named_by.result.now c.keys.ensures c.named_by.ensures.among
-    c.named_by.ensures.all c.in_ok-named.named.items _ (subst Gives c.table-table.ensures c.in_ok-named.ensures) c.put_in_order.ensures
+    λ table. GivesEach (IsSaidOf (table_answer table) table.moment rrset rrsig) (λ (placed : Placed). IsZoneKey placed.key)
+    c.args.named.now c.in_ok-keys.keys.items in
+    named_are (basis_by c.args.facts.now) rrset rrsig c.args.named.now c.requires c.in_ok-keys.keys.items _
+    (subst Gives c.table-table.ensures c.in_ok-keys.ensures) c.put_in_order.ensures

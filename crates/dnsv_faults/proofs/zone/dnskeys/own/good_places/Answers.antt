@@ -45,8 +45,9 @@ returns c =
     let Gives : TableContents → Type 0 =
     λ t. GivesEach (IsFoundPlace keys (IsGood (table_answer t) t.moment rrset rrsig)) (HasFound keys (IsGood (table_answer t) t.moment rrset rrsig))
     c.named_by-named-items.result.now c.loop-named.places.items in
-    good_are (basis_in keyed) keyed.zone.now rrset keys c.requires.keys rrsig c.keys.result.now c.named_by-named-items.result.now c.keys.ensures
-    c.named_by-named-items.ensures.among c.named_by-named-items.ensures.all c.loop-named.places.items c.of.result
+    let named = c.named_by-named-items.ensures in
+    good_are (basis_in keyed) keyed.zone.now rrset keys c.requires.keys rrsig named.all c.named_by-named-items.result.now named.indexed
+    named.among named.every c.loop-named.places.items c.of.result
     (subst Gives c.table-table.ensures
     (each_all (IsFoundPlace keys Good) (HasFound keys Good) c.named_by-named-items.result.now c.loop-named.named-index _ c.loop-named-test.false c.loop-named.invariant))
     c.of.ensures.members c.of.ensures.rising

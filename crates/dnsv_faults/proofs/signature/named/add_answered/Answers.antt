@@ -6,20 +6,21 @@ use Rattle.dnsv_verifier.specs.Table.{table_answer}
 use Rattle.dnsv_verifier.proofs.NumberedLemmas.{gives_pushed}
 use Rattle.dnsv_faults.specs.Answers.AnswerSearch.{IsSaidOf}
 use Rattle.dnsv_faults.specs.Answers.{IsKeyAnswer}
-use Rattle.dnsv_faults.specs.Keys.Index.{IsMeantBySigner, Placed}
-use Rattle.dnsv_faults.proofs.signature.named.add_meant.Goals as goal
+use Rattle.dnsv_faults.specs.Keys.Index.{Placed}
+use Rattle.dnsv_faults.specs.Keys.{IsZoneKey}
+use Rattle.dnsv_faults.proofs.signature.named.add_answered.Goals as goal
 
 pub returns : goal.returns
 returns c =
     let table = c.args.table.now in
     let Said : Placed → NamedKey → Type 0 = IsSaidOf (table_answer table) table.moment c.args.rrset.now c.args.rrsig.now in
-    let Meant : Placed → Type 0 = λ placed. IsMeantBySigner c.args.rrsig.now placed.key in
+    let Signs : Placed → Type 0 = λ placed. IsZoneKey placed.key in
     let named : NamedKey = record { key = c.place.result; answer = c.answer_under.result } in
     let it : Said c.args.placed.now named = record {
       place = c.place.ensures;
-      meant = subst (λ (key : DnskeyRecord). IsMeantBySigner c.args.rrsig.now key) c.key.ensures (c.is_meant.ensures.0 c.if-not-is_meant.false);
+      zone_key = subst IsZoneKey c.key.ensures (c.is_zone_key.ensures.0 c.if-not-is_zone_key.false);
       answered = subst (λ (key : DnskeyRecord). IsKeyAnswer (table_answer table) table.moment c.args.rrset.now c.args.rrsig.now key c.answer_under.result)
           c.key-2.ensures c.answer_under.ensures;
     } in
-    subst (λ (new : List NamedKey). GivesMore Said Meant c.args.placed.now c.args.named.now.items new) (sym c.in_ok-push.ensures.items)
-    (gives_pushed Said Meant c.args.placed.now c.args.named.now.items named it)
+    subst (λ (new : List NamedKey). GivesMore Said Signs c.args.placed.now c.args.named.now.items new) (sym c.in_ok-push.ensures.items)
+    (gives_pushed Said Signs c.args.placed.now c.args.named.now.items named it)
