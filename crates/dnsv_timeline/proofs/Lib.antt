@@ -1,0 +1,9 @@
+pub mod CircleLemmas
+pub mod CoarserLemmas
+pub mod ExampleLemmas
+pub mod JoinLemmas
+pub mod LawLemmas
+pub mod OneTimeline
+pub mod PointLemmas
+pub mod StretchLemmas
+pub mod WindowLemmas

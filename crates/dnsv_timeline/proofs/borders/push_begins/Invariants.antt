@@ -1,0 +1,7 @@
+use Rattle.std.proofs.Common.{◌≡◌, ◌++◌, ◌-◌, map, take}
+use Rattle.dnsv_timeline.specs.Borders.{begins_at, not_valid_at}
+use Rattle.dnsv_timeline.proofs.borders.push_begins.Given as goal
+
+abbrev pub invariant-loop-signature : goal.invariant-loop-signature
+invariant-loop-signature l =
+    l.all.items ≡ l.fn.all.items ++ map (begins_at l.from) (not_valid_at (l.from - 1) (take l.signature-index l.by))

@@ -1,0 +1,7 @@
+use Rattle.dnsv_timeline.proofs.JoinLemmas.{IsJoinedTo}
+use Rattle.dnsv_timeline.proofs.timeline.joined.Given as goal
+
+-- the timeline up to the last point, its last stretch by itself
+abbrev pub invariant-loop-point : goal.invariant-loop-point
+invariant-loop-point g l =
+    IsJoinedTo (g.J.Judge.says l.judge) l.range.from l.range.to l.points l.point-index l.stretches.items l.last

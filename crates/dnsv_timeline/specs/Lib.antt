@@ -1,0 +1,7 @@
+pub mod Borders
+pub mod Examples
+pub mod Joined
+pub mod Points
+pub mod Range
+pub mod Timeline
+pub mod Window

@@ -1,0 +1,45 @@
+-- Timelines: what is said at each moment of a range, in as few stretches as there can be.
+use Rattle.std.specs.Prelude.{◌≡◌, ◌≢◌, ◌↔◌, ⊤, ℕ, ◌+◌, ◌≤◌, List, [], ◌∷◌, Contains}
+use Rattle.dnsv_timeline.specs.declared.stretch.Stretch.{Stretch}
+use Rattle.dnsv_timeline.specs.declared.times.Times.{Times}
+use Rattle.dnsv_timeline.specs.Points.{IsValidAt}
+
+-- the stretches follow one another without gap, from the first moment to before the last number
+abbrev pub AreWithoutGap : {S : Type 0} → ℕ → ℕ → List (Stretch S) → Type 0
+AreWithoutGap {S} from behind [] = from ≡ behind
+AreWithoutGap {S} from behind (stretch ∷ others) =
+    (stretch.from ≡ from) × (stretch.from ≤ stretch.to) × AreWithoutGap (stretch.to + 1) behind others
+
+-- each moment of the stretch has what it says
+abbrev pub Says : {S : Type 0} → (ℕ → S) → Stretch S → Type 0
+Says {S} said stretch = (moment : ℕ) → stretch.from ≤ moment → moment ≤ stretch.to → said moment ≡ stretch.said
+
+-- and so has each moment of each
+abbrev pub AreSaid : {S : Type 0} → (ℕ → S) → List (Stretch S) → Type 0
+AreSaid {S} said [] = ⊤
+AreSaid {S} said (stretch ∷ others) = Says said stretch × AreSaid said others
+
+-- the first doesn't say the same, nor does any the same as its neighbour
+abbrev pub DiffersFrom : {S : Type 0} → S → List (Stretch S) → Type 0
+DiffersFrom {S} said [] = ⊤
+DiffersFrom {S} said (stretch ∷ others) = (said ≢ stretch.said) × DiffersFrom stretch.said others
+
+-- no two neighbours say the same
+abbrev pub NeighboursDiffer : {S : Type 0} → List (Stretch S) → Type 0
+NeighboursDiffer {S} [] = ⊤
+NeighboursDiffer {S} (stretch ∷ others) = DiffersFrom stretch.said others
+
+-- the timeline from the first moment to the last, where this is said at each moment
+pub record IsTimelineOf {S : Type 0} (said : ℕ → S) (from to : ℕ) (stretches : List (Stretch S)) : Type 0 where
+  pub without_gap : AreWithoutGap from (to + 1) stretches
+  pub each : AreSaid said stretches
+  pub differ : NeighboursDiffer stretches
+
+-- the same signatures are valid at both moments
+abbrev pub AreSameValid : List Times → ℕ → ℕ → Type 0
+AreSameValid signatures moment other =
+    (times : Times) → Contains signatures times → IsValidAt times moment ↔ IsValidAt times other
+
+-- what is said depends on the moment through the validity of the signatures alone
+abbrev pub DependsOn : {S : Type 0} → (ℕ → S) → List Times → Type 0
+DependsOn {S} said signatures = (moment other : ℕ) → AreSameValid signatures moment other → said moment ≡ said other
