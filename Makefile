@@ -1,7 +1,7 @@
 # `all`, `try`, `test` and `wrong-bodies` need the kit's command `rt` on the path, and `test` the packages of `packages`
 # besides; `demo`, `examples`, `faults`, `pages`, `install` and `deb` take the program that is built, and build it where there
 # is none. `check` builds nothing.
-.PHONY: all try test check packages lint demo examples faults wrong-bodies test-tools pages install deb
+.PHONY: all try test check packages lint demo examples faults wrong-bodies test-tools pages pictures install deb
 
 program = crates/dnssec_check/out/dnssec_check
 rows = crates/dnsv_rows/out/dnsv_rows
@@ -77,7 +77,13 @@ pages: | $(program)
 	tools/pages --installed README.md dnssec_check
 	tools/pages --installed docs/INSTALL.md "To install program and tools"
 	tools/pages --installed docs/VERDICTS.md
+	tools/pages --installed docs/COMPACT.md
 	tools/pages --installed docs/EXPLANATION.md
+
+# The pictures that README.md shows, from the examples; needs chromium, fonts-liberation and pngquant besides what the page
+# of `dnssec_check-judge --html` needs, and no program.
+pictures:
+	$(PYTHON) tools/pictures
 
 # The program, the tools as dnssec_check-capture, -verify and -judge, their manual pages, the completions of bash, zsh and
 # fish, and the schema of what the program writes in JSON. A tool starts the package that lies beside it; `pip install .` installs the

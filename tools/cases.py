@@ -11,6 +11,7 @@ from dataclasses import dataclass
 EXAMPLES = pathlib.Path(__file__).resolve().parent.parent / "examples"
 LINE = re.compile(r"(\d+) (\S+(?: \S+)*)")
 FILES = ("--capture", "--anchors", "--statements", "--keys", "--macs", "--questions")
+FORMS = ("--all", "--compact")
 
 
 class WrongLine(ValueError):
@@ -36,7 +37,7 @@ class Example:
     @property
     def stem(self) -> str:
         """What the files are named by that have what it prints."""
-        return self.words[0] + ("-all" if "--all" in self.words else "")
+        return self.words[0] + "".join(form[1:] for form in FORMS if form in self.words)
 
     @property
     def name(self) -> str:

@@ -103,6 +103,7 @@ def guards() -> list[Guard]:
         of_page("README.md", "dnssec_check"),
         of_page("docs/INSTALL.md", "To install program and tools"),
         of_page("docs/VERDICTS.md"),
+        of_page("docs/COMPACT.md"),
         of_page("docs/EXPLANATION.md"),
         of_page("docs/AUDITING.md", packages=(*OF_TOOLS, "parallel")),
         of_page("docs/ODD.md"),

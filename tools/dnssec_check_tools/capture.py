@@ -1,15 +1,15 @@
 """Makes a capture file for dnssec_check from answers as people have them.
 
-A capture file has DNS messages, each behind its length in two octets, as TCP carries them (RFC 1035 4.2.2). The
+A capture file has DNS messages, each after its length in two octets, as TCP carries them (RFC 1035 4.2.2). The
 answers are taken in the order of the command line and of each file; `-` is the standard input. Of a file that is named
 alone the octets tell the kind: a packet capture, dnstap, the JSON of dnsviz or of RIPE Atlas, what dig prints, text in
 hex, else a stream. What gzip packed is unpacked, and what zstd packed where Python has a library for it, but for a file
 of --stream.
 
 A file of --stream has what a server sent over TCP, octet by octet. A file of --pcap is a pcap or a pcapng of DNS over
-UDP and TCP; segments of TCP are put in order, and those that were sent again are taken once. Behind a gap the messages
-are kept that begin with a segment and are whole. A file of --hex has a message a line; blanks and colons between octets
-are passed over, and so are lines that are empty or begin with `#` or `;`.
+UDP and TCP; segments of TCP are put in order, and those that were sent again are taken once. After a gap the messages
+are kept that begin with a segment and are whole. A file of --hex has a message a line; spaces and colons between octets
+are ignored, and so are lines that are empty or begin with `#` or `;`.
 
 A file of --tshark is any packet capture that tshark reads; tshark takes the messages out, and so also those of
 fragments and of every encapsulation that it knows. A file of --dnsviz is the output of `dnsviz probe`; of several
@@ -29,12 +29,12 @@ one line. Packets of other ports than those of --port, and of what isn't UDP or 
 and a line counts and names them. Last come the notes, of what costs a verdict: answers that are truncated and weren't
 asked again by TCP; signatures, or the DNSKEY records of a signer, that aren't there; and which answers are SERVFAIL, as
 a resolver that validates answers where a name is Bogus: with the flag CD (`delv +cd`) it hands out what it has. With
---quiet nothing but notes and refusals is told.
+--quiet only notes and refusals are printed.
 
 With --macs, what `dnssec_check check --macs` reads is written too: for each message of the capture file a line with the
 MAC of the request that it answers (TSIG, RFC 8945), in hex, or `-` where the request wasn't signed. The request is the
 last one before the answer with the same questions and the same identifier, else with an identifier that either TSIG
-record tells; in packets, of the same protocol, addresses and ports too. Messages of other files tell no connection: so
+record has; in packets, of the same protocol, addresses and ports too. Messages of other files have no connection: so
 name the file of what the client sent before that of what the server sent. An answer is dropped where its request isn't
 there.
 
@@ -107,7 +107,7 @@ def command_line() -> argparse.ArgumentParser:
     parser = parser_of(__doc__)
     parser.usage = "%(prog)s [OPTION ..] FILE .."
     parser.add_argument("--file", action=Source, help=argparse.SUPPRESS)
-    parser.add_argument("--stream", action=Source, metavar="FILE", help="messages, each behind its length")
+    parser.add_argument("--stream", action=Source, metavar="FILE", help="messages, each after its length")
     parser.add_argument("--pcap", action=Source, metavar="FILE", help="packets, as tcpdump and tshark write them")
     parser.add_argument("--hex", action=Source, metavar="FILE", help="a message a line")
     parser.add_argument("--tshark", action=Source, metavar="FILE", help="packets, as tshark reads them")
@@ -116,10 +116,10 @@ def command_line() -> argparse.ArgumentParser:
     parser.add_argument("--atlas", action=Source, metavar="FILE", help="results of RIPE Atlas")
     parser.add_argument("--dnstap", action=Source, metavar="FILE", help="a frame stream of dnstap")
     parser.add_argument("--port", action="append", type=port, metavar="N", help="a port of DNS; 53 where none is given")
-    parser.add_argument("--output", metavar="FILE", help="the capture file; else the standard output")
+    parser.add_argument("--output", metavar="FILE", help="the capture file; the standard output by default")
     parser.add_argument("--macs", metavar="FILE", help="also write the MACs of the requests, a line for each message")
     parser.add_argument("--split", metavar="FOLDER", help="write a capture for each question into a new folder")
-    parser.add_argument("--quiet", action="store_true", help="tell only what costs a verdict, and what is refused")
+    parser.add_argument("--quiet", action="store_true", help="print only what costs a verdict, and what is refused")
     parser.set_defaults(sources=[])
     return parser
 

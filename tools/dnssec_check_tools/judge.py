@@ -1,10 +1,10 @@
 """Judges questions by captured DNS messages, in one command: what dnssec_check lists is verified, and each is asked.
 
-Each WORD is a question, a capture or a folder. A question is NAME/TYPE, as www.example.com/AAAA: what is behind its
+Each WORD is a question, a capture or a folder. A question is NAME/TYPE, as www.example.com/AAAA: what follows its
 last `/` is a type, by mnemonic or by number, it doesn't begin with `/`, and there is no file of that name. Every other
 word is a capture file, or what dnssec_check-capture makes one of; `-` for the standard input; or a folder: its files
 that are called `capture` or end with `.cap`, and those of all folders in it. A missing last dot of a name is added; no
-other search is made. Behind `--` a word may begin with `-`.
+other search is made. After `--` a word may begin with `-`.
 
 Each question is put to each capture, at each moment; signatures are verified once for a capture. Where no question is
 given, each capture of a folder that `dnssec_check-capture --split` wrote is asked its own. With --every each capture is
@@ -13,12 +13,12 @@ files have the transfer of a zone (AXFR), which is asked for all that it has and
 
 Without options a line is printed for each question, with the verdict, until when the signatures that carry it are
 valid, and what the aliases on the way lead to, or what is refused and what to do. Below it, where it isn't secure,
-stands why: what fails first (FAIL) with its extended DNS error [EDE N], and behind that what only lacks since nobody
-asked; what the zone has beside what is wanted (HAS), what follows (THEN), and how far the chain holds (HOLDS); where
-something may be unsigned, why (WHY). --tsv has a first line with the columns: capture, moment (in seconds since 1970),
-name, type, status, verdict, evidence, until, reason, ede, reasons, odd; --jsonl has the values by these names. The
-verdict is the program's word, or `refused` or `fault`. What can't be shown is `\\xNN`. --html writes a page that loads
-nothing.
+stands why: what fails first (FAIL) with its extended DNS error [EDE N], and after that what is missing only since
+nobody asked; what the zone has beside what is wanted (HAS), what follows (THEN), and how far the chain holds (HOLDS);
+where something may be unsigned, why (WHY). --tsv has a first line with the columns: capture, moment (in seconds since
+1970), name, type, status, verdict, evidence, until, reason, ede, reasons, odd; --jsonl has the values by these names.
+The verdict is the program's word, or `refused` or `fault`. What can't be shown is `\\xNN`. --html writes a page that
+loads nothing.
 
 With --warn lines ODD say what is odd of what is proved, with the RFC that says so: an opinion that changes no verdict.
 The manual page has its kinds, by the words of the column odd, which --fail-on takes.

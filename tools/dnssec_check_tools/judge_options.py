@@ -31,12 +31,12 @@ def command_line(text: Optional[str]) -> argparse.ArgumentParser:
         help="`now`, seconds since 1970, 2026-11-22T12:00:00Z, or a day, 2026-11-22, for 0:00 in UTC; once for each "
         "moment; now by default",
     )
-    parser.add_argument("--skew", type=skew_of, default=0, metavar="SECONDS", help="say what differs so long around")
+    parser.add_argument("--skew", type=skew_of, default=0, metavar="SECONDS", help="say what differs so long around it")
     parser.add_argument(
         "--anchors",
         action="append",
         metavar="FILE",
-        help=f"lines DS and KEY, DS and DNSKEY records of a zone file, or IANA's XML; else {ROOT}",
+        help=f"lines DS and KEY, DS and DNSKEY records of a zone file, or IANA's XML; {ROOT} by default",
     )
     parser.add_argument("--keys", action="append", metavar="FILE", help="TSIG keys, as the program reads them")
     parser.add_argument("--macs", action="append", metavar="FILE", help="the MACs of the requests of one capture")
@@ -45,18 +45,18 @@ def command_line(text: Optional[str]) -> argparse.ArgumentParser:
         action="append",
         default=[],
         metavar="FILE",
-        help="a question a line, NAME/TYPE or NAME TYPE; what is behind # is passed over",
+        help="a question a line, NAME/TYPE or NAME TYPE; what follows # is ignored",
     )
     parser.add_argument(
         "--every", action="store_true", help="ask each capture for all that it has, and sum up; without questions"
     )
     parser.add_argument(
-        "--zone", action="store_true", help="ask of a zone whose transfer is in the files all that it has and denies"
+        "--zone", action="store_true", help="ask a zone, whose transfer is in the files, for all that it has and denies"
     )
     parser.add_argument(
         "--port", action="append", type=port, metavar="N", help="of --zone: a port of DNS in packets; 53"
     )
-    parser.add_argument("--tsv", action="store_true", help="a table, its fields parted by tabs")
+    parser.add_argument("--tsv", action="store_true", help="a table, its fields separated by tabs")
     parser.add_argument("--jsonl", action="store_true", help="an object of JSON for each question")
     parser.add_argument(
         "--resume",
@@ -75,7 +75,9 @@ def command_line(text: Optional[str]) -> argparse.ArgumentParser:
     add_budget(parser, "of a capture")
     add_budget_octets(parser, "of a capture")
     add_budget_questions(parser, "of a capture")
-    parser.add_argument("--jobs", type=whole_number, metavar="N", help="processes at once; else as many as processors")
+    parser.add_argument(
+        "--jobs", type=whole_number, metavar="N", help="processes at once; as many as processors by default"
+    )
     parser.add_argument("--scheduler", action="append", metavar="ADDRESS", help="the address of a Dask scheduler")
     parser.add_argument(
         "--wait",

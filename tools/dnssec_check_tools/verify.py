@@ -71,7 +71,7 @@ def main(words: List[str]) -> int:
     parser.add_argument(
         "files", nargs="*", default=["-"], metavar="FILE", help="the lines; the standard input by default"
     )
-    parser.add_argument("--from-check", action="store_true", help="pass over lines whose first word isn't `todo`")
+    parser.add_argument("--from-check", action="store_true", help="ignore lines whose first word isn't `todo`")
     add_budget(parser, "of all lines")
     options = parser.parse_args(words)
     clash = overwritten(["-"], options.files)

@@ -7,7 +7,7 @@ from pages import guarantees
 from tool import TOOLS
 
 ROOT = TOOLS.parent
-LINK = re.compile(r"\]\(([^)#:]+)(?:#[^)]*)?\)")
+LINK = re.compile(r"\]\(([^)#:]+)(?:#[^)]*)?\)|(?:src|srcset)=\"([^\":]+)\"")
 PATH = re.compile(r"`(specs/[\w/]+\.antt)`")
 NAME = re.compile(r"`(\w+\.antt)`")
 ITEM = re.compile(r"`([A-Za-z_][\w:]*)`")
@@ -31,8 +31,8 @@ def words_of_the_code():
 
 class Named(unittest.TestCase):
     def test_each_file_that_a_page_links_is_there(self):
-        lost = {(page.name, path) for page in pages() for path in LINK.findall(page.read_text())
-                if not (page.parent / path).exists()}
+        lost = {(page.name, path) for page in pages() for found in LINK.findall(page.read_text())
+                for path in filter(None, found) if not (page.parent / path).exists()}
         self.assertEqual(lost, set())
 
     def test_GUARANTEES_links_the_page_of_each_crate_with_its_sections(self):

@@ -222,7 +222,7 @@ class Ends(Judging):
                 done = subprocess.run([str(word) for word in (*JUDGE, *words, path)], stdin=given, capture_output=True,
                                       check=False, text=True)
             self.assertEqual((done.returncode, done.stderr), (1, ""))
-            self.assertIn(f"fault 210 the capture {path}: the file could be opened, and a read failed; ", done.stdout)
+            self.assertIn(f"fault 210 the capture {path}: the file could be opened, but not read; ", done.stdout)
 
     def test_a_folder_that_cannot_be_read_is_told_before_anything_is_judged(self):
         """One below so many that its path is too long, which is so for root too."""
