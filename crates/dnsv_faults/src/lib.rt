@@ -1,8 +1,8 @@
 //! What is so of the evidence where it proves nothing, as far as it costs something to mend: of signatures, of the keys that
 //! they name, and of zones.
 //!
-//! The facts are those of `dnsv_mending`, which finds by them the least that has to be mended. The program doesn't use this
-//! crate yet.
+//! The facts are those of `dnsv_mending`, which finds by them the least that has to be mended. `dnsv_reasons`
+//! reports that.
 #![tactic(auto)]
 
 pub use case_facts::CaseFacts;

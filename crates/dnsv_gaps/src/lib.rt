@@ -1,7 +1,7 @@
 //! What the evidence has that may answer a question or deny it, whether it is trusted or not, and what it lacks.
 //!
-//! The facts are those of `dnsv_remedies`, which finds by them the least that has to be mended. The program doesn't use this
-//! crate yet.
+//! The facts are those of `dnsv_remedies`, which finds by them the least that has to be mended. `dnsv_reasons`
+//! reports that.
 #![tactic(auto)]
 
 pub use asked::AskedQuestion;

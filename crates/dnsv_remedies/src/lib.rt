@@ -1,7 +1,7 @@
 //! The least that has to be mended, so that a question is answered, denied, or shown to be below an unsigned delegation.
 //!
 //! It is made of what has to be mended so that zones are trusted and RRsets signed (`dnsv_mending`), and of what records say
-//! of the question. Nothing finds that in the evidence yet, and the program doesn't use this crate.
+//! of the question, which `dnsv_gaps` finds in the evidence.
 #![tactic(auto)]
 
 pub use facts::answer::{AnswerSignature, CloserFacts, GoalFacts};

@@ -166,7 +166,8 @@ impl EntryFault {
     }
 }
 
-/// That a DNSKEY RRset has signatures, and none with the tag and the algorithm of this key in it.
+/// That a DNSKEY RRset has signatures, and none with the tag and the algorithm of this key in it, but such as are good under
+/// another key there.
 #[derive(Debug, Drop)]
 pub struct KeyWithoutSignature {
     pub zone: Name,
