@@ -16,7 +16,7 @@ pub record ReadsStream {T : Type 0} (IsFine : List ℕ → Type 0)
     (old new : Option (List ℕ)) (before after : ℕ) (result : Result T ReadError) : Type 0 where
   pub end : OnOk result (IsAtEnd new)
   -- nothing is read behind the piece in which a fault stands, nor after a read that failed
-  pub stops : StopsAtFault IsFine 65536 old new
+  pub stops : StopsAtFault IsFine 4096 old new
   pub stops_failed : IsErrOf result Read → StopsAtFault IsFine 0 old new
   -- the reader failed, at any reader: by the count, unless that began at its greatest value
   pub read : IsErrOf result Read → before < 2 ^ 64 - 1 → before < after

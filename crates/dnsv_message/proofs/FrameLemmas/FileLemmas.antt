@@ -84,7 +84,7 @@ none_counted before after same more = omega arith
 
 module _ {T : Type 0} (IsFine : List ℕ → Type 0) {old new : Option (List ℕ)} {before after : ℕ} where
   -- the stream ended
-  pub ReadsStream-ended : (x : T) → after ≡ before → IsAtEnd new → StopsAtFault IsFine 65536 old new → ReadsStream IsFine old new before after (Ok x)
+  pub ReadsStream-ended : (x : T) → after ≡ before → IsAtEnd new → StopsAtFault IsFine 4096 old new → ReadsStream IsFine old new before after (Ok x)
   ReadsStream-ended x same ended stopped = record {
     end = ended;
     stops = stopped;
@@ -94,7 +94,7 @@ module _ {T : Type 0} (IsFine : List ℕ → Type 0) {old new : Option (List ℕ
   }
 
   -- no read failed, and something else did
-  pub ReadsStream-fault : (error : ReadError) → (error ≡ Read → ⊥) → after ≡ before → StopsAtFault IsFine 65536 old new
+  pub ReadsStream-fault : (error : ReadError) → (error ≡ Read → ⊥) → after ≡ before → StopsAtFault IsFine 4096 old new
       → ReadsStream {T = T} IsFine old new before after (Err error)
   ReadsStream-fault error other same stopped = record {
     end = tt;
@@ -109,7 +109,7 @@ module _ {T : Type 0} (IsFine : List ℕ → Type 0) {old new : Option (List ℕ
       → ReadsStream {T = T} IsFine old new before after (Err Read)
   ReadsStream-failed now same grew stopped = record {
     end = tt;
-    stops = stops_within IsFine 65536 old new stopped;
+    stops = stops_within IsFine 4096 old new stopped;
     stops_failed = λ is. stopped;
     read = λ is not_full. failed_once before now after same grew not_full;
     failed = λ more. refl;

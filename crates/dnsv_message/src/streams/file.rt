@@ -14,7 +14,7 @@ use std::alloc::Global;
 use std::io::Read;
 
 /// How many octets are read at a time at most.
-pub(crate) const PIECE_LIMIT: usize = 65_536;
+pub(crate) const PIECE_LIMIT: usize = 4_096;
 
 /// All octets of a file.
 ///

@@ -14,8 +14,8 @@ pub const STREAM: &[u8] =
 \xc0\x0c\x00\x2e\x00\x01\x00\x00\x00\x05\x00\x1d\x00\x01\x0d\x02\x00\x00\x0e\x10\
 \x00\x00\x07\xd0\x00\x00\x03\xe8\x08\x0f\x07Example\x00\xaa\xbb";
 
-// How many octets of 1 are 760 messages of 257 octets. They fill three pieces and begin a fourth.
-pub const LONG_STREAM: usize = 196_840;
+// How many octets of 1 are 48 messages of 257 octets. They fill three pieces and begin a fourth.
+pub const LONG_STREAM: usize = 12_432;
 
 // Gives its octets a few at a time, and fails at one of its reads.
 #[derive(Drop)]

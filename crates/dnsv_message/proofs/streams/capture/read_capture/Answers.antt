@@ -67,7 +67,7 @@ returns-in_err-finish-clause-zero_length g c = λ is_it.
 pub returns-in_err-buffer-clause-stream : goal.returns-in_err-buffer-clause-stream
 returns-in_err-buffer-clause-stream g c =
     let p = err_from_is_err_and c.from_residual.result c.from_residual.ensures.1 in
-    rw p.1 (ReadsStream-fault HasNoFault p.0 (λ is. let same = p.2 in cc) refl (unread_frames_stop 65536 _))
+    rw p.1 (ReadsStream-fault HasNoFault p.0 (λ is. let same = p.2 in cc) refl (unread_frames_stop 4096 _))
 
 pub returns-in_err-count-clause-stream : goal.returns-in_err-count-clause-stream
 returns-in_err-count-clause-stream g c =
@@ -79,13 +79,13 @@ pub returns-in_err-place_whole-clause-stream : goal.returns-in_err-place_whole-c
 returns-in_err-place_whole-clause-stream g c =
     let p = err_from_is_err_and c.from_residual-in_err-place_whole.result c.from_residual-in_err-place_whole.ensures.1 in
     rw p.1 (ReadsStream-fault HasNoFault p.0 (λ is. let same = p.2 in piece_not_read c.in_err-place_whole.field-0.0 c.in_err-place_whole.ensures.only cc) (c.in_ok-count.ensures.failures ∙ c.loop-framer.invariant.none_failed)
-    (HasRead-stops_behind 65536 _ _ _ _ _ c.read_piece.new.piece c.loop-framer.left c.in_ok-count.count c.loop-framer.invariant.read c.loop-framer.invariant.not_zero
+    (HasRead-stops_behind 4096 _ _ _ _ _ c.read_piece.new.piece c.loop-framer.left c.in_ok-count.count c.loop-framer.invariant.read c.loop-framer.invariant.not_zero
     c.in_ok-count.ensures.bytes.0 (omega (arith, c.in_ok-count.ensures.bound.0)) (omega (arith, c.loop-framer.invariant.piece, c.read_piece.auto.piece))))
 
 pub returns-then-within-count-clause-stream : goal.returns-then-within-count-clause-stream
 returns-then-within-count-clause-stream g c =
     ReadsStream-fault HasNoFault _ (λ is. cc) (c.in_ok-count.ensures.failures ∙ c.loop-framer.invariant.none_failed)
-    (HasRead-stops_behind 65536 _ _ _ _ _ c.read_piece.new.piece c.loop-framer.left c.in_ok-count.count c.loop-framer.invariant.read c.loop-framer.invariant.not_zero
+    (HasRead-stops_behind 4096 _ _ _ _ _ c.read_piece.new.piece c.loop-framer.left c.in_ok-count.count c.loop-framer.invariant.read c.loop-framer.invariant.not_zero
     c.in_ok-count.ensures.bytes.0 (omega (arith, c.in_ok-count.ensures.bound.0)) (omega (arith, c.loop-framer.invariant.piece, c.read_piece.auto.piece)))
 
 pub returns-in_err-finish-clause-stream : goal.returns-in_err-finish-clause-stream
@@ -93,12 +93,12 @@ returns-in_err-finish-clause-stream g c =
     let p = err_from_is_err_and c.from_residual-in_err-finish.result c.from_residual-in_err-finish.ensures.1 in
     let torn = (torn_end _ _ c.loop-framer.invariant.no_fault c.in_err-finish.ensures).0 in
     rw p.1 (ReadsStream-fault HasNoFault p.0 (λ is. let same = p.2 in cc) (c.in_ok-count.ensures.failures ∙ c.loop-framer.invariant.none_failed)
-    (HasRead-stops_behind 65536 _ _ _ _ _ c.read_piece.new.piece c.loop-framer.left c.in_ok-count.count c.loop-framer.invariant.read c.loop-framer.invariant.not_zero
+    (HasRead-stops_behind 4096 _ _ _ _ _ c.read_piece.new.piece c.loop-framer.left c.in_ok-count.count c.loop-framer.invariant.read c.loop-framer.invariant.not_zero
     c.in_ok-count.ensures.bytes.0 (omega (arith, c.in_ok-count.ensures.bound.0)) (omega (arith, c.loop-framer.invariant.piece, c.read_piece.auto.piece))))
 
 pub returns-clause-stream : goal.returns-clause-stream
 returns-clause-stream g c =
     ReadsStream-ended HasNoFault _ (c.in_ok-count.ensures.failures ∙ c.loop-framer.invariant.none_failed)
     (c.in_ok-count.ensures.bytes.1 c.if-count-eq0.true (omega (arith, c.loop-framer.invariant.room, c.read_piece.auto.piece)))
-    (HasRead-stops_behind 65536 _ _ _ _ _ c.read_piece.new.piece c.loop-framer.left c.in_ok-count.count c.loop-framer.invariant.read c.loop-framer.invariant.not_zero
+    (HasRead-stops_behind 4096 _ _ _ _ _ c.read_piece.new.piece c.loop-framer.left c.in_ok-count.count c.loop-framer.invariant.read c.loop-framer.invariant.not_zero
     c.in_ok-count.ensures.bytes.0 (omega (arith, c.in_ok-count.ensures.bound.0)) (omega (arith, c.loop-framer.invariant.piece, c.read_piece.auto.piece)))

@@ -7,7 +7,7 @@ use Rattle.dnsv_message.proofs.streams.capture.read_capture.Given as goal
 abbrev pub invariant-loop-framer : goal.invariant-loop-framer
 invariant-loop-framer g l = record {
   room : 0 < length l.piece;
-  piece : length l.piece ≤ 65536;
+  piece : length l.piece ≤ 4096;
   none_failed : l.reader.failures ≡ l.fn.reader.failures;
   read : HasRead (g.R.Read.remaining l.fn.reader.inner) (g.R.Read.remaining l.reader.inner) (octets_at_each l.messages.items) l.framer.rest l.left;
   no_fault : l.framer.fault ≡ None;

@@ -37,7 +37,7 @@ returns-clause-octets g c =
 pub returns-in_err-buffer-clause-stream : goal.returns-in_err-buffer-clause-stream
 returns-in_err-buffer-clause-stream g c =
     let p = err_from_is_err_and c.from_residual.result c.from_residual.ensures.1 in
-    rw p.1 (ReadsStream-fault (λ octets. length octets ≤ FILE_LIMIT) p.0 (λ is. let same = p.2 in cc) refl (unread_octets_stop FILE_LIMIT 65536 _))
+    rw p.1 (ReadsStream-fault (λ octets. length octets ≤ FILE_LIMIT) p.0 (λ is. let same = p.2 in cc) refl (unread_octets_stop FILE_LIMIT 4096 _))
 
 pub returns-in_err-count-clause-stream : goal.returns-in_err-count-clause-stream
 returns-in_err-count-clause-stream g c =
@@ -48,19 +48,19 @@ returns-in_err-count-clause-stream g c =
 pub returns-then-count-len-clause-stream : goal.returns-then-count-len-clause-stream
 returns-then-count-len-clause-stream g c =
     ReadsStream-fault (λ octets. length octets ≤ FILE_LIMIT) _ (λ is. cc) (c.in_ok-count.ensures.failures ∙ c.loop-octets.invariant.none_failed)
-    (stops_behind (λ octets. length octets ≤ FILE_LIMIT) 65536 _ _ _ c.loop-octets.octets.items c.read_piece.new.piece c.in_ok-count.count c.loop-octets.invariant.within
+    (stops_behind (λ octets. length octets ≤ FILE_LIMIT) 4096 _ _ _ c.loop-octets.octets.items c.read_piece.new.piece c.in_ok-count.count c.loop-octets.invariant.within
     c.loop-octets.invariant.read c.in_ok-count.ensures.bytes.0 (omega (arith, c.in_ok-count.ensures.bound.0)) (omega (arith, c.loop-octets.invariant.piece, c.read_piece.auto.piece)))
 
 pub returns-in_err-extend_from_slice-clause-stream : goal.returns-in_err-extend_from_slice-clause-stream
 returns-in_err-extend_from_slice-clause-stream g c =
     let p = err_from_is_err_and c.from_residual-in_err-extend_from_slice.result c.from_residual-in_err-extend_from_slice.ensures.1 in
     rw p.1 (ReadsStream-fault (λ octets. length octets ≤ FILE_LIMIT) p.0 (λ is. let same = p.2 in cc) (c.in_ok-count.ensures.failures ∙ c.loop-octets.invariant.none_failed)
-    (stops_behind (λ octets. length octets ≤ FILE_LIMIT) 65536 _ _ _ c.loop-octets.octets.items c.read_piece.new.piece c.in_ok-count.count c.loop-octets.invariant.within
+    (stops_behind (λ octets. length octets ≤ FILE_LIMIT) 4096 _ _ _ c.loop-octets.octets.items c.read_piece.new.piece c.in_ok-count.count c.loop-octets.invariant.within
     c.loop-octets.invariant.read c.in_ok-count.ensures.bytes.0 (omega (arith, c.in_ok-count.ensures.bound.0)) (omega (arith, c.loop-octets.invariant.piece, c.read_piece.auto.piece))))
 
 pub returns-clause-stream : goal.returns-clause-stream
 returns-clause-stream g c =
     ReadsStream-ended (λ octets. length octets ≤ FILE_LIMIT) _ (c.in_ok-count.ensures.failures ∙ c.loop-octets.invariant.none_failed)
     (c.in_ok-count.ensures.bytes.1 c.if-count-eq0.true (omega (arith, c.loop-octets.invariant.room, c.read_piece.auto.piece)))
-    (stops_behind (λ octets. length octets ≤ FILE_LIMIT) 65536 _ _ _ c.loop-octets.octets.items c.read_piece.new.piece c.in_ok-count.count c.loop-octets.invariant.within
+    (stops_behind (λ octets. length octets ≤ FILE_LIMIT) 4096 _ _ _ c.loop-octets.octets.items c.read_piece.new.piece c.in_ok-count.count c.loop-octets.invariant.within
     c.loop-octets.invariant.read c.in_ok-count.ensures.bytes.0 (omega (arith, c.in_ok-count.ensures.bound.0)) (omega (arith, c.loop-octets.invariant.piece, c.read_piece.auto.piece)))

@@ -7,7 +7,7 @@ use Rattle.dnsv_message.proofs.streams.file.read_all.Given as goal
 abbrev pub invariant-loop-octets : goal.invariant-loop-octets
 invariant-loop-octets g l = record {
   room : 0 < length l.piece;
-  piece : length l.piece ≤ 65536;
+  piece : length l.piece ≤ 4096;
   none_failed : l.reader.failures ≡ l.fn.reader.failures;
   read : Consumes (g.R.Read.remaining l.fn.reader.inner) (g.R.Read.remaining l.reader.inner) l.octets.items;
   within : length l.octets.items ≤ FILE_LIMIT;
