@@ -37,7 +37,7 @@ impl Answers {
     /// and the last of a range; each other line is `good`, `bad` or `-`. Empty lines and lines that begin with `#` are
     /// passed over, but counted.
     ///
-    /// The first line with a fault counts. It is told whatever memory there is; a file without lines is at fault too.
+    /// The first line with a fault counts. It is reported whatever memory there is; a file without lines is at fault too.
     pub fn parse(alloc: Global, text: &[u8]) -> Result<Answers, AnswersError>
         // What is read is what the file says.
         ensures found { IfOk result (AreAnswersOf text.now) }

@@ -1,4 +1,4 @@
-//! The digest by which a capture is told.
+//! The digest that says which capture is meant.
 ghost use Rattle.std.specs.Prelude.{◌≡◌, ◌++◌, List, ℕ, flat_map};
 ghost use Rattle.std.specs.List.{AllByRecursion};
 ghost use Rattle.sha2.specs.Hashers.{Holds256};

@@ -5,8 +5,8 @@ ghost use Rattle.dnsv_answers.specs.AnswersError.{answers_error_code};
 use std::alloc::{AllocError, AllocFailed};
 use thiserror::Error;
 
-/// What keeps a text from being the answers to a list. Each has a number that stays, and a fault tells its line, the
-/// file's first being 1, where there is one.
+/// What keeps a text from being the answers to a list. Each has a number that stays, and a fault names its line, the file's
+/// first being 1, where there is one.
 #[derive(Clone, Copy, Debug, PartialEq, Eq, Error)]
 pub enum AnswersError {
     /// 90: memory was refused.

@@ -133,9 +133,9 @@ impl<'b> Capture<'b> {
         }
     }
 
-    /// Adds a message. It is refused for the first of these that holds, and the capture then stays as it was:
-    /// it is a query, it was cut to fit, a record can't be read, the capture would pass a limit. For the first two no
-    /// memory is needed, so they are told whether or not any is left.
+    /// Adds a message. It is refused for the first of these that holds, and the capture then stays as it was: it is a query,
+    /// it was cut to fit, a record can't be read, the capture would pass a limit. For the first two no memory is needed, so
+    /// they are reported whether or not any is left.
     pub fn add(&mut self, message: &Message<'b>) -> Result<(), CaptureError>
         ensures added { OnOk result (self.new ≡ with_message self.old message.now) }
         ensures whole { OnOk result (IsWhole message.now) }

@@ -170,9 +170,9 @@ pub fn canonical_rrset(alloc: Global, rrset: &Rrset<'_>) -> Result<Vec<Vec<u8>>,
     copies(alloc, sorted.as_slice())
 }
 
-/// The octets that the signature signs over the RRset (RFC 4034 3.1.8.1, 6.2, 6.3; RFC 4035 5.3.2): the RRSIG's
-/// RDATA without the signature, and each record once in canonical form and order, with the original TTL and the
-/// owner that Labels tells. `None` where Labels is above the owner's count of labels.
+/// The octets that the signature signs over the RRset (RFC 4034 3.1.8.1, 6.2, 6.3; RFC 4035 5.3.2): the RRSIG's RDATA
+/// without the signature, and each record once in canonical form and order, with the original TTL and the owner that Labels
+/// gives. `None` where Labels is above the owner's count of labels.
 pub fn signed_data(
     alloc: Global,
     rrset: &Rrset<'_>,

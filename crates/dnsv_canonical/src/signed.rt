@@ -33,9 +33,9 @@ impl SigningRoom {
     }
 }
 
-/// Makes the octets that the signature signs over an RRset (RFC 4034 3.1.8.1, 6.2, 6.3; RFC 4035 5.3.2): the RRSIG's
-/// RDATA without the signature, and each record once in canonical form and order, with the original TTL and the
-/// owner that Labels tells. The answer is whether it signs any: none where Labels is above the owner's count of labels.
+/// Makes the octets that the signature signs over an RRset (RFC 4034 3.1.8.1, 6.2, 6.3; RFC 4035 5.3.2): the RRSIG's RDATA
+/// without the signature, and each record once in canonical form and order, with the original TTL and the owner that Labels
+/// gives. The answer is whether it signs any: none where Labels is above the owner's count of labels.
 ///
 /// `received` has the RDATA of the RRset's records without compression, their names as they are spelled.
 pub fn make_signed_octets(

@@ -91,9 +91,9 @@ impl<'b> Anchors<'b> {
     /// flags, protocol and algorithm, and the key in base64 with padding. One space stands between two fields, and
     /// numbers are decimal. Empty lines and lines that begin with `#` are passed over, but counted.
     ///
-    /// The first line with a fault counts: `Syntax` where it is no anchor, else `TooMany` where 64 anchors, repeats
-    /// among them, stand before it. Want of memory is told only where the first line says an anchor, so a file that is
-    /// empty or of comments alone is always read.
+    /// The first line with a fault counts: `Syntax` where it is no anchor, else `TooMany` where 64 anchors, repeats among
+    /// them, stand before it. Want of memory is reported only where the first line says an anchor, so a file that is empty
+    /// or of comments alone is always read.
     pub fn parse(alloc: Global, bump: &'b Bump, text: &[u8]) -> Result<Anchors<'b>, AnchorsError>
         // What is read is what the file says.
         ensures anchors { IfOk result (AreAnchorsOf text.now) }

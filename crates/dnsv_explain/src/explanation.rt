@@ -62,9 +62,9 @@ impl Explanation {
 }
 
 /// The verdict on a question, as `validate` gives it, and why it stands: what holds for each link of the way and for the
-/// verdict at the last name, and where the RRsets stand. Of a verdict that needs no more answers it is told how long the
-/// signatures hold that show it, of one that depends on answers what may be hoped, and of Bogus and Indeterminate first
-/// what fails, with the keys that this is a matter of, and then how far trust holds.
+/// verdict at the last name, and where the RRsets stand. Of a verdict that needs no more answers it is reported how long the
+/// signatures hold that show it, of one that depends on answers what may be hoped, and of Bogus and Indeterminate first what
+/// fails, with the keys that this is a matter of, and then how far trust holds.
 pub fn explain<'a, V: Verifier>(
     alloc: Global,
     bump: &'a Bump,

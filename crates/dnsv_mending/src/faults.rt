@@ -1,4 +1,4 @@
-//! What is told of a signature.
+//! What is reported of a signature.
 ghost use Rattle.std.specs.Prelude.{◌≡◌, ◌++◌, ◌∷◌, [], IfOk, OnOk};
 ghost use Rattle.dnsv_mending.specs.Faults.{answer_lines, consequence, expired_lines, fault_lines, lines_under, not_yet_lines, or_else, self_lines, signature_lines, unnamed_lines, when};
 
@@ -145,7 +145,7 @@ fn consequence(is_trusted: bool, number: SignatureNumber) -> Told
     }
 }
 
-/// What is told of a signature that names no zone key of its signer.
+/// What is reported of a signature that names no zone key of its signer.
 pub fn unnamed_lines(alloc: Global, signature: &SignatureFacts) -> Result<Vec<Told>, AllocError>
     ensures { IfOk result (λ lines. lines.items ≡ unnamed_lines signature.now) }
 {
@@ -154,7 +154,7 @@ pub fn unnamed_lines(alloc: Global, signature: &SignatureFacts) -> Result<Vec<To
     Ok(lines)
 }
 
-/// What is told of a signature under a zone key of its signer.
+/// What is reported of a signature under a zone key of its signer.
 pub fn lines_under(
     alloc: Global,
     is_trusted: bool,
@@ -169,7 +169,7 @@ pub fn lines_under(
     Ok(lines)
 }
 
-/// What is told of a signature of a DNSKEY RRset, as one by a key in it.
+/// What is reported of a signature of a DNSKEY RRset, as one by a key in it.
 pub fn self_lines(
     alloc: Global,
     key: &HeldKey,

@@ -280,7 +280,7 @@ fn offer_fitting(
     )
 }
 
-/// What is told of it where it matches no key.
+/// What is reported of it where it matches no key.
 fn voucher_fault(voucher: &VoucherFacts) -> Option<Told>
     ensures { result ≡ voucher_fault voucher.now }
 {

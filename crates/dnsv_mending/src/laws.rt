@@ -43,7 +43,7 @@ pub fn what_is_kept_is_a_single_way()
 {}
 
 /// A law: of a zone of which no DNSKEY RRset is trusted, and of an RRset of which no signature is kept as good, a reason is
-/// told, where what is kept is whole.
+/// reported, where what is kept is whole.
 pub fn what_is_not_trusted_has_a_reason()
     ensures zone { (zones : List ZoneFacts) (n : ℕ) (z : ZoneFacts) (level : Leveled) (m : Mended) → IsClosed zones → slice_get zones n ≡ Some z
         → slice_get (levels_of true zones) n ≡ Some level → level.zone ≡ Some m → is_zone_trusted z ≡ false → HasReason m }
@@ -59,7 +59,7 @@ pub fn what_costs_nothing_is_trusted()
         → cheapest (rrset_ways (levels_of true zones) above r) ≡ Some m → m.price ≡ none → IsSignedRrset r }
 {}
 
-/// A law: where all lines that are told of a zone are granted, it is trusted, and so is an RRset signed.
+/// A law: where all lines that are reported of a zone are granted, it is trusted, and so is an RRset signed.
 pub fn what_is_told_is_enough()
     ensures zone { (zones : List ZoneFacts) (n : ℕ) (level : Leveled) (m : Mended) (granted : List Told)
         → slice_get (levels_of true zones) n ≡ Some level → level.zone ≡ Some m → AreGranted granted m.chain → AreGranted granted m.own
@@ -77,9 +77,9 @@ pub fn who_grants_nothing_has_what_is_trusted()
         → IsSignedRrset r }
 {}
 
-/// A law: what is told of four zones with a break. A key that is rolled over too early doesn't sign; one too late is missing; of
-/// a standby key beside one whose signature is over, the signature is told; and where all signatures are over, that of the
-/// DNSKEY RRset comes before the answer's.
+/// A law: what is reported of four zones with a break. A key that is rolled over too early doesn't sign; one too late is
+/// missing; of a standby key beside one whose signature is over, the signature is reported; and where all signatures are
+/// over, that of the DNSKEY RRset comes before the answer's.
 pub fn the_break_is_told()
     ensures early { (heap : Global) → zone_lines (early heap) 3 ≡ told.NotSelfSigned (record_at 3 3) ∷ [] }
     ensures late { (heap : Global) → zone_lines (late heap) 3 ≡ told.Entry entry.KeyMissing (number.Ds (record_at 2 1)) ∷ [] }

@@ -1,7 +1,7 @@
 //! The least that has to be mended, so that a zone is trusted and an RRset signed.
 //!
-//! What has to be mended on a way costs as many faults of each class as there are, and is told from the root down. Of some
-//! ways the cheapest is kept. `dnsv_faults` finds the ways in the evidence.
+//! What has to be mended on a way costs as many faults of each class as there are, and is reported from the root down. Of
+//! some ways the cheapest is kept. `dnsv_faults` finds the ways in the evidence.
 #![tactic(auto)]
 
 pub use facts::keys::{DnskeyFacts, HeldKey, SelfSignature, VoucherFacts};

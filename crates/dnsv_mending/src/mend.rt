@@ -9,14 +9,14 @@ use crate::price::{Class, Price};
 use crate::told::Told;
 use std::alloc::{AllocError, Global};
 
-/// What has to be mended so that something stands: what that costs, and what is told of it.
+/// What has to be mended so that something stands: what that costs, and what is reported of it.
 #[derive(Debug, Drop)]
 pub struct Mend {
     /// How many faults of each class there are.
     pub price: Price,
-    /// What is told of all that it stands on, from the root down.
+    /// What is reported of all that it stands on, from the root down.
     pub chain: Vec<Told>,
-    /// What is told of the thing itself.
+    /// What is reported of the thing itself.
     pub own: Vec<Told>,
 }
 
@@ -32,7 +32,7 @@ impl Mend {
         }
     }
 
-    /// That of one fault, which is told.
+    /// That of one fault, which is reported.
     pub fn fault(alloc: Global, told: Told) -> Result<Mend, AllocError>
         ensures { IfOk result (λ m. seen m ≡ mend.fault told) }
     {
@@ -41,7 +41,7 @@ impl Mend {
         Ok(made)
     }
 
-    /// That of some faults, each of which is told.
+    /// That of some faults, each of which is reported.
     pub fn telling(alloc: Global, lines: Vec<Told>) -> Mend
         ensures { seen result ≡ mend.telling lines.items }
     {
@@ -52,7 +52,7 @@ impl Mend {
         }
     }
 
-    /// Adds one fault, which is told.
+    /// Adds one fault, which is reported.
     pub fn add(&mut self, told: Told) -> Result<(), AllocError>
         ensures { OnOk result (seen self.new ≡ mend.both (seen self.old) (mend.fault told)) }
     {
@@ -61,7 +61,7 @@ impl Mend {
         Ok(())
     }
 
-    /// Adds one fault of the class of which nothing is told.
+    /// Adds one fault of the class of which nothing is reported.
     pub fn add_untold(&mut self, class: Class)
         ensures { seen self.new ≡ mend.both (seen self.old) (mend.untold class) }
     {

@@ -1,4 +1,4 @@
-//! What is told of what fails.
+//! What is reported of what fails.
 ghost use Rattle.std.specs.Prelude.{◌≡◌};
 ghost use Rattle.dnsv_mending.specs.Told.{cost, entry_cost, signature_cost};
 
@@ -6,7 +6,7 @@ use crate::price::{Class, Price};
 use dnsv_canonical::{RecordNumber, SignatureNumber};
 use dnsv_lines::{EntryNumber, WhyEntry, WhySignature, WhyZone};
 
-/// What a line says that is told, by the numbers of what it speaks of: anchors, RRsets, records and signatures have
+/// What a line says that is reported, by the numbers of what it speaks of: anchors, RRsets, records and signatures have
 /// those of the evidence, and a zone, which is at or above the name that is asked for, that of its labels.
 #[derive(Clone, Copy, Debug)]
 pub enum Told {

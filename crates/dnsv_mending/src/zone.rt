@@ -218,7 +218,7 @@ fn offer_anchored(
     offer_ds(alloc, keys, &standing.chains, &zone.ds, best)
 }
 
-/// What is told of it where no anchor and no DS record fits a key in it, though there are some.
+/// What is reported of it where no anchor and no DS record fits a key in it, though there are some.
 fn not_vouched(zone: &ZoneFacts, rrset: &DnskeyFacts) -> Option<Told>
     ensures { result ≡ not_vouched zone.now rrset.now }
 {

@@ -1,4 +1,4 @@
-//! The line that tells a fault. It takes no memory, so that the want of it is told too.
+//! The line that reports a fault. It takes no memory, so that the want of it is reported too.
 ghost use Rattle.std.specs.Prelude.{◌≡◌, ◌<◌, ◌≤◌, ◌+◌, ◌++◌, codes, decimal, length};
 ghost use Rattle.arrayvec.specs.ArrayString.{array_string_len};
 ghost use Rattle.dnsv_program.specs.Status.{fault_line, fault_text, file_word, numbered, place_text};
@@ -11,7 +11,7 @@ use itoa::Buffer;
 pub type FaultLine = ArrayString<128>;
 
 impl Fault {
-    /// The line that tells the fault, with its newline: `fault N`, `fault N FILE`, or `refused N` and the place.
+    /// The line that reports the fault, with its newline: `fault N`, `fault N FILE`, or `refused N` and the place.
     pub fn line(&self) -> FaultLine
         ensures { result.bytes ≡ fault_line self.now }
     {

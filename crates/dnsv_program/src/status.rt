@@ -124,7 +124,7 @@ pub enum Refusal {
 }
 
 impl Refusal {
-    /// The number by which the refusal is told: that of the layer below, where it is that layer's.
+    /// The number by which the refusal is reported: that of the layer below, where it is that layer's.
     pub fn number(&self) -> u16
         ensures { result ≡ refusal_number self.now }
     {
@@ -184,7 +184,7 @@ pub enum Fault {
 }
 
 impl Fault {
-    /// The number by which the fault is told.
+    /// The number by which the fault is reported.
     pub fn number(&self) -> u16
         ensures { result ≡ fault_number self.now }
     {

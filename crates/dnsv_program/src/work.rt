@@ -108,7 +108,7 @@ pub fn run<R: Read, W: Write>(
     }
 }
 
-/// How many questions are told, and for which moment, where the request asks them.
+/// How many questions are reported, and for which moment, where the request asks them.
 fn many_asked(request: &Request) -> Option<(Telling, Moment)>
     ensures { MatchOption result (¬ AsksMany request.now) (λ found. IsManyAsked request.now found.0.format found.0.why
         found.1) }

@@ -5,7 +5,7 @@ ghost use Rattle.dnsv_questions.specs.QuestionsError.{questions_error_code};
 use std::alloc::{AllocError, AllocFailed};
 use thiserror::Error;
 
-/// What keeps a text from being a file of questions. Each has a number that stays, and a fault tells its line, the file's
+/// What keeps a text from being a file of questions. Each has a number that stays, and a fault names its line, the file's
 /// first being 1.
 #[derive(Clone, Copy, Debug, PartialEq, Eq, Error)]
 pub enum QuestionsError {

@@ -35,8 +35,8 @@ impl Questions {
     /// `#` are passed over, but counted. Whether the type can be asked at the name is no matter of the file.
     ///
     /// The first line with a fault counts: `Syntax` where it is no question, else `TooMany` where 1,048,576 questions,
-    /// repeats among them, stand before it. A fault is told whatever memory there is. Want of memory is told only where
-    /// the first line is a question, so a file that is empty or of comments alone is always read.
+    /// repeats among them, stand before it. A fault is reported whatever memory there is. Want of memory is reported only
+    /// where the first line is a question, so a file that is empty or of comments alone is always read.
     pub fn parse(alloc: Global, text: &[u8]) -> Result<Questions, QuestionsError>
         // What is read is what the file asks.
         ensures found { IfOk result (AreQuestionsOf text.now) }

@@ -40,7 +40,7 @@ fn anchor_entry(anchors: &[Anchor<'_>], number: usize) -> Result<Option<Entry>, 
     Ok(Some(told_anchor(number, anchor)?))
 }
 
-/// The trust anchor, which has the number, as it is told.
+/// The trust anchor, which has the number, as it is reported.
 fn told_anchor(number: usize, anchor: &Anchor<'_>) -> Result<Entry, AllocError>
     ensures { IfOk result (λ entry. entry ≡ anchor_entry number anchor.now) }
 {
@@ -84,7 +84,7 @@ fn ds_entry(
     Ok(Some(told_ds(number, rrset, found.record)?))
 }
 
-/// The DS record, which has the number, as it is told.
+/// The DS record, which has the number, as it is reported.
 fn told_ds(number: RecordNumber, rrset: &Rrset<'_>, ds: &Ds<'_>) -> Result<Entry, AllocError>
     ensures { IfOk result (λ entry. entry ≡ ds_entry number rrset.now ds.now) }
 {

@@ -47,7 +47,7 @@ pub fn failures<'s, 'a>(
     Ok(lines)
 }
 
-/// What is told of the question, by numbers.
+/// What is reported of the question, by numbers.
 fn told<'s, 'a>(
     alloc: Global,
     case: &'s Case<'a>,
@@ -68,7 +68,7 @@ fn told<'s, 'a>(
     Ok(lines)
 }
 
-/// What is told of the question, by the least that has to be mended.
+/// What is reported of the question, by the least that has to be mended.
 fn told_by(
     alloc: Global,
     question: &QuestionFacts,
@@ -79,7 +79,7 @@ fn told_by(
     lines_told(alloc, question, remedy.as_ref())
 }
 
-/// The lines that say what is told of the question.
+/// The lines that say what is reported of the question.
 fn lines_of(
     alloc: Global,
     question: &AskedQuestion<'_, '_>,

@@ -1,4 +1,5 @@
-//! What fails, as lines: what is told of a question by numbers, with the names, the keys and the records that these are of.
+//! What fails, as lines: what is reported of a question by numbers, with the names, the keys and the records that these are
+//! of.
 #![tactic(auto)]
 
 pub use failing::failures;

@@ -1,4 +1,4 @@
-//! The lines of what is told of a question.
+//! The lines of what is reported of a question.
 ghost use Rattle.std.specs.Prelude.{◌≡◌, IfOk, MatchOption, OnOk};
 ghost use Rattle.dnsv_lines.specs.declared.line.Line.{Line};
 ghost use Rattle.dnsv_remedies.specs.declared.said.Said.TheVariants as said;
@@ -16,7 +16,7 @@ use dnsv_lines::{Line, Reason, SourceFault, WhySource};
 use dnsv_remedies::{AskedName, Said, SourceNumber};
 use std::alloc::{AllocError, Global};
 
-/// The lines that say what is told, in that order. `named` are the sources of each known zone.
+/// The lines that say what is reported, in that order. `named` are the sources of each known zone.
 pub fn said_lines(
     alloc: Global,
     question: &AskedQuestion<'_, '_>,
@@ -33,7 +33,7 @@ pub fn said_lines(
     Ok(lines)
 }
 
-/// Adds the line that says what is told, if the evidence has what it speaks of.
+/// Adds the line that says what is reported, if the evidence has what it speaks of.
 fn add_line(
     alloc: Global,
     question: &AskedQuestion<'_, '_>,
@@ -50,7 +50,7 @@ fn add_line(
     Ok(())
 }
 
-/// The line that says what is told, if the evidence has what it speaks of.
+/// The line that says what is reported, if the evidence has what it speaks of.
 fn said_line(
     alloc: Global,
     question: &AskedQuestion<'_, '_>,

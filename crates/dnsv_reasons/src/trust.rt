@@ -19,7 +19,7 @@ use dnsv_lines::{
 use dnsv_mending::Told;
 use std::alloc::{AllocError, Global};
 
-/// The line that says what is told, if the evidence has what it speaks of.
+/// The line that says what is reported, if the evidence has what it speaks of.
 pub fn trust_line(
     alloc: Global,
     question: &AskedQuestion<'_, '_>,

@@ -1,4 +1,4 @@
-//! Laws of what has to be mended for a question, and of what is told of it.
+//! Laws of what has to be mended for a question, and of what is reported of it.
 ghost use Rattle.std.specs.Prelude.{◌≡◌, List, [], ◌∷◌, Option, Some, None, true, false};
 ghost use Rattle.std.specs.List.{AllByRecursion, list_any};
 ghost use Rattle.std.specs.declared.alloc.Global.{Global};
@@ -36,8 +36,8 @@ pub fn what_is_told_of_is_the_first_of_the_least()
     ensures none { (levels : List Leveled) (q : QuestionFacts) → question_remedy levels q ≡ None → question_ways levels q ≡ [] }
 {}
 
-/// A law: of a question that nothing answers or denies, and that isn't below an unsigned delegation, a reason is told, where
-/// what is kept is whole; and where facts name only what is there, there always is something to be told.
+/// A law: of a question that nothing answers or denies, and that isn't below an unsigned delegation, a reason is reported,
+/// where what is kept is whole; and where facts name only what is there, there always is something to be reported.
 pub fn a_question_that_nothing_proves_has_a_reason()
     ensures of_what_is_found { (zones : List ZoneFacts) (q : QuestionFacts) (m : Remedied) → IsClosed zones → IsWholeQuestion zones q
         → q.is_anchored ≡ true → question_remedy (levels_of true zones) q ≡ Some m → (IsProved zones q → ⊥)
@@ -60,7 +60,7 @@ pub fn lines_that_say_the_same_are_equal()
     ensures itself { (a : Said) → is_same a a ≡ true }
 {}
 
-/// A law: no line is told twice; and where the name has an anchor at or above it, each line is told, and no other.
+/// A law: no line is reported twice; and where the name has an anchor at or above it, each line is reported, and no other.
 pub fn each_line_is_told_once()
     ensures once { (q : QuestionFacts) (m : Option Remedied) → IsNowhereTwice (lines_told q m) }
     ensures each { (q : QuestionFacts) (m : Option Remedied) (line : Said) → q.is_anchored ≡ true → IsAmong line (all_lines q m)
@@ -69,15 +69,15 @@ pub fn each_line_is_told_once()
         → IsAmong line (all_lines q m) }
 {}
 
-/// A law: where no anchor is at or above the name, that is told first, and nothing that only follows from what fails.
+/// A law: where no anchor is at or above the name, that is reported first, and nothing that only follows from what fails.
 pub fn a_missing_anchor_is_told_first()
     ensures first { (q : QuestionFacts) (m : Option Remedied) → q.is_anchored ≡ false → BeginsWith (no_anchor q) (lines_told q m) }
     ensures reasons { (q : QuestionFacts) (m : Option Remedied) → q.is_anchored ≡ false
         → AllByRecursion (λ line. is_reason line ≡ true) (lines_told q m) }
 {}
 
-/// A law: what is told of answers with a break. Signatures were stripped; all of a zone are over, and its DNSKEY RRset's comes
-/// first; a wildcard's answer lacks the record that covers the name; there is no anchor; a DNAME RRset is above.
+/// A law: what is reported of answers with a break. Signatures were stripped; all of a zone are over, and its DNSKEY RRset's
+/// comes first; a wildcard's answer lacks the record that covers the name; there is no anchor; a DNAME RRset is above.
 pub fn what_answers_lack_is_told()
     ensures stripped { (heap : Global) → question_lines (below heap) (stripped heap) ≡ said.Trust (told.Unsigned 2) ∷ [] }
     ensures over { (heap : Global) → question_lines (expired heap) (over_answer heap)
@@ -88,9 +88,9 @@ pub fn what_answers_lack_is_told()
     ensures synthesized { (heap : Global) → question_lines (below heap) (synthesized heap) ≡ said.Dname (dname_at 2 2) ∷ [] }
 {}
 
-/// A law: what is told of denials with a break. They are of another name; nothing covers the next closer name or the wildcard;
-/// their record is one of a delegation, or holds DNAME, above the name; it is over; it is over and another zone's than the one that
-/// should speak, which lacks more; and it has too many iterations.
+/// A law: what is reported of denials with a break. They are of another name; nothing covers the next closer name or the
+/// wildcard; their record is one of a delegation, or holds DNAME, above the name; it is over; it is over and another zone's
+/// than the one that should speak, which lacks more; and it has too many iterations.
 pub fn what_denials_lack_is_told()
     ensures of_another { (heap : Global) → question_lines (below heap) (of_another heap)
         ≡ said.Source (why.CoverMissing role.NextCloser) source (name.At 2) ∷ said.Source why.MatchMissing source (name.At 2)
@@ -110,9 +110,9 @@ pub fn what_denials_lack_is_told()
         ≡ said.Nsec3 (nsec3.Iterations (record { 0 = 501 })) (record_at 2 1) ∷ said.DenialUnproved 1 ∷ [] }
 {}
 
-/// A law: what is told below an unsigned delegation whose proof is over is that proof, and not that nothing below it is signed;
-/// so it is where opt-out covers it, and nothing shows its parent. Where the zone says that there is no delegation, what is
-/// told is that the answer has no signatures.
+/// A law: what is reported below an unsigned delegation whose proof is over is that proof, and not that nothing below it is
+/// signed; so it is where opt-out covers it, and nothing shows its parent. Where the zone says that there is no delegation,
+/// what is reported is that the answer has no signatures.
 pub fn what_an_unsigned_delegation_lacks_is_told()
     ensures unshown { (heap : Global) → question_lines (below heap) (unshown_cut heap)
         ≡ said.Source why.EncloserMissing source (name.At 2) ∷ said.DsUnproved (cut_at 2 1) ∷ [] }

@@ -14,14 +14,14 @@ use dnsv_mending::{Class, Mend, Price, Told};
 use std::alloc::{AllocError, Global};
 
 /// What has to be mended so that a question is answered, denied, or shown to be below an unsigned delegation: what that
-/// costs, and what is told of it.
+/// costs, and what is reported of it.
 #[derive(Debug, Drop)]
 pub struct Remedy {
     /// How many faults of each class there are.
     pub price: Price,
-    /// What is told of all that it stands on, from the root down.
+    /// What is reported of all that it stands on, from the root down.
     pub chain: Vec<Said>,
-    /// What is told of the thing itself.
+    /// What is reported of the thing itself.
     pub own: Vec<Said>,
     /// Whether a part of a proof is missing.
     pub lacks: bool,
@@ -51,7 +51,7 @@ pub fn whole(alloc: Global, mend: &Mend) -> Result<Remedy, AllocError>
     })
 }
 
-/// What is told of zones and signatures.
+/// What is reported of zones and signatures.
 #[tactic(auto, using(crate::proofs::Lists::made_next))]
 fn lines_of(alloc: Global, told: &[Told]) -> Result<Vec<Said>, AllocError>
     ensures { IfOk result (λ lines. lines.items ≡ map said.Trust told.now) }
@@ -63,7 +63,7 @@ fn lines_of(alloc: Global, told: &[Told]) -> Result<Vec<Said>, AllocError>
     Ok(lines)
 }
 
-/// That of a fault, which is told.
+/// That of a fault, which is reported.
 pub fn fault(alloc: Global, class: Class, line: Said) -> Result<Remedy, AllocError>
     ensures { IfOk result (λ m. seen m ≡ remedies.fault class line) }
 {
@@ -72,7 +72,7 @@ pub fn fault(alloc: Global, class: Class, line: Said) -> Result<Remedy, AllocErr
     Ok(made)
 }
 
-/// That of a fault of which nothing is told.
+/// That of a fault of which nothing is reported.
 pub fn untold(alloc: Global, class: Class) -> Remedy
     ensures { seen result ≡ remedies.untold class }
 {

@@ -1,4 +1,4 @@
-//! What is told of a question that nothing answers.
+//! What is reported of a question that nothing answers.
 ghost use Rattle.std.specs.Prelude.{◌≡◌};
 ghost use Rattle.dnsv_mending.specs.Reasons as trust;
 ghost use Rattle.dnsv_remedies.specs.Said.{is_reason};
@@ -9,7 +9,7 @@ use dnsv_canonical::{RecordNumber, SignatureNumber};
 use dnsv_lines::{WhyNsec3, WhySource};
 use dnsv_mending::Told;
 
-/// What a line says that is told, by the numbers of what it speaks of: RRsets, records and signatures have those of the
+/// What a line says that is reported, by the numbers of what it speaks of: RRsets, records and signatures have those of the
 /// evidence, and a name at or above the name that is asked for has that of its labels.
 #[derive(Clone, Copy, Debug)]
 pub enum Said {

@@ -96,7 +96,7 @@ fn closed_remedy(
     both(alloc, &given, &absent)
 }
 
-/// What is told of it.
+/// What is reported of it.
 fn closed_line(source: SourceNumber, closed: &ClosedFacts) -> Said
     ensures { result ≡ closed_line source closed.now }
 {
@@ -129,7 +129,7 @@ fn at_remedy(
     }
 }
 
-/// What is told of records that don't deny the type.
+/// What is reported of records that don't deny the type.
 #[tactic(auto, using(crate::proofs::Lists::made_next), unfolding(crate::specs::Sources::held_line))]
 fn held_lines(
     alloc: Global,

@@ -1,4 +1,4 @@
-//! What is told of a question that nothing answers.
+//! What is reported of a question that nothing answers.
 ghost use Rattle.std.specs.Prelude.{◌≡◌, ◌++◌, [], ◌∷◌, IfOk, OnOk, map};
 ghost use Rattle.std.specs.Option.{option_map};
 ghost use Rattle.dnsv_remedies.specs.Question.{all_lines, dname_line, is_said, lines_told, no_anchor, once_from, reasons_from, with_line, with_reason};
@@ -12,9 +12,9 @@ use dnsv_lines::WhyZone;
 use dnsv_mending::Told;
 use std::alloc::{AllocError, Global};
 
-/// What is told of the question, by the least that has to be mended: the chain, the DNAME RRsets above the name, and what is
-/// told of the thing itself, each line once. Where no trust anchor is at or above the name, that is told first, and what
-/// follows from it isn't.
+/// What is reported of the question, by the least that has to be mended: the chain, the DNAME RRsets above the name, and
+/// what is reported of the thing itself, each line once. Where no trust anchor is at or above the name, that is reported
+/// first, and what follows from it isn't.
 pub fn lines_told(
     alloc: Global,
     question: &QuestionFacts,
@@ -58,7 +58,7 @@ fn all_lines(
     Ok(lines)
 }
 
-/// What is told of DNAME RRsets above the name.
+/// What is reported of DNAME RRsets above the name.
 #[tactic(auto, using(crate::proofs::Lists::made_next), unfolding(crate::specs::Question::dname_line))]
 fn dname_lines(alloc: Global, dnames: &[DnameFacts]) -> Result<Vec<Said>, AllocError>
     ensures { IfOk result (λ lines. lines.items ≡ map dname_line dnames.now) }

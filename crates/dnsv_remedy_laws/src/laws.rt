@@ -8,7 +8,7 @@ ghost use Rattle.dnsv_remedies.specs.declared.facts.question.QuestionFacts.{Ques
 ghost use Rattle.dnsv_remedy_laws.specs.AlikeQuestions.{AreAlikeQuestions};
 ghost use Rattle.dnsv_remedy_laws.specs.AlikeZones.{AreAlikeZones};
 
-/// A law: of facts that are alike the same is told.
+/// A law: of facts that are alike the same is reported.
 pub fn facts_that_are_alike_tell_the_same()
     ensures { (zones others : List ZoneFacts) (a b : QuestionFacts) → AllZip AreAlikeZones zones others → AreAlikeQuestions a b
         → lines_told a (question_remedy (levels_of a.is_anchored zones) a) ≡ lines_told b (question_remedy (levels_of b.is_anchored others) b) }

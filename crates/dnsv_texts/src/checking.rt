@@ -37,7 +37,7 @@ pub fn question_word(why: bool) -> &'static str
 /// The text of a report, and of why its verdict stands, where the lines are given that say it: in lines, or in JSON. The
 /// error is that memory ran out.
 ///
-/// Where numbers are given, entries that are still to be checked aren't told whole: the first has the first of these
+/// Where numbers are given, entries that are still to be checked aren't reported whole: the first has the first of these
 /// numbers, and lines that speak of one tell that.
 pub fn check_text(
     alloc: Global,

@@ -1,4 +1,4 @@
-//! The texts of the program: what is told of messages, of signatures, of what is to be checked, and of a verdict, in
+//! The texts of the program: what is reported of messages, of signatures, of what is to be checked, and of a verdict, in
 //! lines or in JSON.
 //!
 //! Nothing is decided here: each text is that of the values that are given.

@@ -10,8 +10,8 @@ use dnsv_verdict::Verdict;
 use dnsv_verifier::Entries;
 use std::alloc::AllocError;
 
-/// Adds what carries the verdict: its lines, or in JSON its members behind others. Entries that are still to be checked
-/// are told where they are to be told whole.
+/// Adds what carries the verdict: its lines, or in JSON its members behind others. Entries that are still to be checked are
+/// reported where they are to be reported whole.
 pub fn push_reason(
     text: &mut String,
     format: Format,
@@ -76,7 +76,7 @@ fn push_cut(text: &mut String, format: Format, cut: &Name) -> Result<(), AllocEr
     }
 }
 
-/// Adds the entries that are still to be checked, where they are to be told whole.
+/// Adds the entries that are still to be checked, where they are to be reported whole.
 fn push_entries(
     text: &mut String,
     format: Format,

@@ -1,4 +1,4 @@
-//! What is told of a question that has no verdict, where it is one of many.
+//! What is reported of a question that has no verdict, where it is one of many.
 ghost use Rattle.std.specs.Prelude.{◌≡◌, ◌++◌, IfOk, string_bytes};
 ghost use Rattle.dnsv_texts.specs.Refused as specs;
 

@@ -8,7 +8,7 @@ ghost use Rattle.dnsv_timeline.specs.Timeline.{AreSameValid, IsTimelineOf};
 ghost use Rattle.dnsv_timeline.specs.declared.stretch.Stretch.{Stretch};
 ghost use Rattle.dnsv_timeline.specs.declared.times.Times.{Times};
 
-/// A law of timelines: there is exactly one, where it can be told whether two say the same.
+/// A law of timelines: there is exactly one, where it can be decided whether two say the same.
 pub fn there_is_one_timeline<S>()
     ensures one { (said : ℕ → S) (from to : ℕ) (stretches others : List (Stretch S))
         → IsTimelineOf said from to stretches → IsTimelineOf said from to others → stretches ≡ others }
@@ -16,8 +16,8 @@ pub fn there_is_one_timeline<S>()
         → (stretches : List (Stretch S)) × IsTimelineOf said from to stretches }
 {}
 
-/// A law of timelines: what passes a test at each moment is what passes it in each stretch. So a question that is
-/// refused alike throughout is told by the stretches.
+/// A law of timelines: what passes a test at each moment is what passes it in each stretch. So a question that is refused
+/// alike throughout is seen from the stretches.
 pub fn what_holds_throughout<S>()
     ensures { (said : ℕ → S) (test : S → Bool) (from to : ℕ) (stretches : List (Stretch S))
         → IsTimelineOf said from to stretches
@@ -25,7 +25,7 @@ pub fn what_holds_throughout<S>()
         ↔ ((moment : ℕ) → from ≤ moment → moment ≤ to → test (said moment) ≡ true)) }
 {}
 
-/// A law of timelines: where kinds are told alone, each stretch begins where one of the whole timeline does, and has its
+/// A law of timelines: where kinds are reported alone, each stretch begins where one of the whole timeline does, and has its
 /// kind. So it is the whole timeline, with neighbours of one kind joined.
 pub fn kinds_begin_where_stretches_do<S, K>()
     ensures { (said : ℕ → S) (kind : S → K) (from to : ℕ) (stretches : List (Stretch S)) (kinds : List (Stretch K))

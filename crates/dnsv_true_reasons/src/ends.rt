@@ -1,4 +1,4 @@
-//! Each signer that is told as untrusted has a line that says why.
+//! Each signer that is reported as untrusted has a line that says why.
 ghost use Rattle.std.specs.Prelude.{List, Contains};
 ghost use Rattle.std.specs.List.{AllByRecursion};
 ghost use Rattle.dnsv_canonical.specs.Rdata.{IsWellFormed};
@@ -10,8 +10,8 @@ ghost use Rattle.dnsv_reasons.specs.Failures.{AreFailures};
 ghost use Rattle.dnsv_true_reasons.specs.Ends.{IsExplained};
 ghost use Rattle.dnsv_verdict.specs.Verdict.{HasAnchor};
 
-/// A law: each signer that is told as untrusted isn't trusted, and a reason is told of it or of a zone above it. Where no anchor
-/// is at or above the name, none is told.
+/// A law: each signer that is reported as untrusted isn't trusted, and a reason is reported of it or of a zone above it.
+/// Where no anchor is at or above the name, none is reported.
 pub fn untrusted_signers_have_a_reason()
     ensures explained { (a : Asking) (lines : List Line) → AllByRecursion IsWellFormed a.basis.rrsets
         → AreFailures a lines → (untrusted : UntrustedSigner) → Contains lines (line.Follows untrusted)

@@ -1,5 +1,5 @@
-//! Laws of the reasons that are told of a question: each is true, there is one where nothing is proved, and each signer that isn't
-//! trusted has one.
+//! Laws of the reasons that are reported of a question: each is true, there is one where nothing is proved, and each signer
+//! that isn't trusted has one.
 #![tactic(auto)]
 
 pub use ends::untrusted_signers_have_a_reason;

@@ -1,4 +1,4 @@
-//! Each reason that is told is true.
+//! Each reason that is reported is true.
 ghost use Rattle.std.specs.Prelude.{List, Contains};
 ghost use Rattle.dnsv_gaps.specs.Asking.{Asking};
 ghost use Rattle.dnsv_lines.specs.declared.line.Line.{Line};
@@ -28,7 +28,7 @@ ghost use Rattle.dnsv_true_reasons.specs.truth.Sources.{IsTrueOfNsec3, IsTrueOfS
 ghost use Rattle.dnsv_true_reasons.specs.truth.Zones.{IsZoneTrue};
 ghost use Rattle.dnsv_verdict.specs.Verdict.{IsSettledBy};
 
-/// A law: what is told of zones, of their keys, of trust anchors and DS records, and of signatures is so.
+/// A law: what is reported of zones, of their keys, of trust anchors and DS records, and of signatures is so.
 pub fn reasons_of_trust_are_true()
     ensures zones { (a : Asking) (lines : List Line) (fault : ZoneFault) → IsCaptured a → AreFailures a lines
         → Contains lines (line.Reason (reason.Zone fault)) → IsZoneTrue a.basis fault.zone fault.why }
@@ -44,8 +44,8 @@ pub fn reasons_of_trust_are_true()
         → Contains lines (line.Reason (reason.Signature fault)) → IsTrueOfSignature a.basis fault }
 {}
 
-/// A law: what is told of a question, of its answers and of its denials is so. That denials prove nothing, or that nothing proves
-/// an unsigned delegation, is so where the evidence doesn't settle the question.
+/// A law: what is reported of a question, of its answers and of its denials is so. That denials prove nothing, or that
+/// nothing proves an unsigned delegation, is so where the evidence doesn't settle the question.
 pub fn reasons_of_questions_are_true()
     ensures closers { (a : Asking) (lines : List Line) (closer : CloserName) → AreFailures a lines
         → Contains lines (line.Reason (reason.NoCloser closer)) → IsTrueOfCloser a closer }

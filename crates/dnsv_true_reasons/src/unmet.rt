@@ -1,4 +1,4 @@
-//! Of a question that nothing proves something fails, and a reason is told.
+//! Of a question that nothing proves something fails, and a reason is reported.
 ghost use Rattle.std.specs.Prelude.{List, Contains};
 ghost use Rattle.std.specs.List.{AllByRecursion};
 ghost use Rattle.dnsv_canonical.specs.Rdata.{IsWellFormed};
@@ -26,14 +26,14 @@ pub fn what_is_found_of_questions_is_whole()
         → AreQuestionFacts a q → IsQuestionInPlace zones q }
 {}
 
-/// A law: where an anchor is at or above the name, and nothing that is found of messages proves the question, a reason is told
-/// of what fails.
+/// A law: where an anchor is at or above the name, and nothing that is found of messages proves the question, a reason is
+/// reported of what fails.
 pub fn unproved_questions_fail_for_a_reason()
     ensures { (a : Asking) (lines : List Line) → AllByRecursion IsWellFormed a.basis.rrsets → HasAnchor a.basis.anchors a.name
         → IsUnproved a → AreFailures a lines → (reason : Reason) × Contains lines (line.Reason reason) }
 {}
 
-/// A law: of a Bogus question nothing that is found is a proof, so a reason is told of what fails.
+/// A law: of a Bogus question nothing that is found is a proof, so a reason is reported of what fails.
 pub fn bogus_questions_fail_for_a_reason()
     ensures unproved { (a : Asking) → IsVerdictAt a.basis a.name a.rtype Verdict.Bogus → IsUnproved a }
     ensures reason { (a : Asking) (lines : List Line) → AllByRecursion IsWellFormed a.basis.rrsets

@@ -33,13 +33,13 @@ pub enum TsigError {
     /// The MAC is only a beginning of the right one.
     #[error("the MAC is truncated")]
     TruncatedMac,
-    /// The signer tells an error.
+    /// The signer reports an error.
     #[error("the signer tells an error")]
     PeerError,
 }
 
 impl TsigError {
-    /// The number by which a person is told of the error.
+    /// The number by which the error is reported.
     pub fn code(&self) -> u16
         ensures { result ≡ tsig_error_code self.now }
     {
@@ -78,7 +78,7 @@ impl From<AllocError> for TsigError {
     }
 }
 
-/// Why a text is no file of keys. Each but want of memory tells the line, the first having the number 1.
+/// Why a text is no file of keys. Each but want of memory names the line, the first having the number 1.
 #[derive(Clone, Copy, Debug, PartialEq, Eq, Error)]
 pub enum KeyFileError {
     #[error("out of memory")]
@@ -92,7 +92,7 @@ pub enum KeyFileError {
 }
 
 impl KeyFileError {
-    /// The number by which a person is told of the error.
+    /// The number by which the error is reported.
     pub fn code(&self) -> u16
         ensures { result ≡ key_file_error_code self.now }
     {

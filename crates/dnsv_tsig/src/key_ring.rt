@@ -91,9 +91,9 @@ impl KeyRing {
     /// Reads a file of keys: a line each, the name and then the key in base64 with padding, with one space
     /// between them. Empty lines and lines that begin with `#` are passed over, but counted.
     ///
-    /// The error is that of the first line that is refused: it is no key's (`Syntax`), or an equal name stood
-    /// before (`DuplicateKey`). Want of memory is told only where the first line is a key's, so a file that is empty or
-    /// of comments alone is always read.
+    /// The error is that of the first line that is refused: it is no key's (`Syntax`), or an equal name stood before
+    /// (`DuplicateKey`). Want of memory is reported only where the first line is a key's, so a file that is empty or of
+    /// comments alone is always read.
     pub fn parse(alloc: Global, text: &[u8]) -> Result<KeyRing, KeyFileError>
         ensures ring { IfOk result (IsRingOf text.now) }
         ensures fault { IfErr result (λ error. (error ≡ KeyFileError.OutOfMemory) ⊎ IsKeyFault text.now error) }

@@ -56,10 +56,10 @@ impl<'b> Opened<'b> {
 /// inside, which is placed in the arena. `now` is the moment in seconds since 1970, and `request_mac` the MAC of the
 /// request that was answered, where it had one.
 ///
-/// The error is that of the first of these tests that fails. The octets are a message (`Unreadable`). It has a TSIG
-/// record (`NoTsig`), which is formed as it has to be (`Form`). The ring has its key, and the algorithm is
-/// `hmac-sha256.` (`BadKey`). The MAC is the right one or a beginning of it (`BadMac`). The moment is within the
-/// signature's time (`BadTime`). The MAC is whole (`TruncatedMac`). The signer tells no error (`PeerError`).
+/// The error is that of the first of these tests that fails. The octets are a message (`Unreadable`). It has a TSIG record
+/// (`NoTsig`), which is formed as it has to be (`Form`). The ring has its key, and the algorithm is `hmac-sha256.`
+/// (`BadKey`). The MAC is the right one or a beginning of it (`BadMac`). The moment is within the signature's time
+/// (`BadTime`). The MAC is whole (`TruncatedMac`). The signer reports no error (`PeerError`).
 pub fn open<'b>(
     alloc: Global,
     octets: &[u8],

@@ -67,11 +67,11 @@ impl<'a> Judged<'a> {
 /// the moment, in seconds since 1970, under the verifier's answers (RFC 4035 4.3, 5). It is that at the last name of the
 /// way over secure aliases (RFC 1034 3.6.2), which begins at the name.
 ///
-/// `BadQuestion` where the type can't be asked at the name, or at the target of an alias; `AliasTargets` where an alias
-/// has no one target, `AliasLoop` where its target is a name of the way, `TooManyLinks` where it would be the ninth
-/// link. Of these the first is told, in the order 704, 702, 703, 701 at each alias. The verifier is asked once for each
-/// distinct entry that may be verified at the moment, and not again; each name of the way is hashed once with each
-/// iterations and salt, whatever the verdict. What the verifier is asked lies in the arena.
+/// `BadQuestion` where the type can't be asked at the name, or at the target of an alias; `AliasTargets` where an alias has
+/// no one target, `AliasLoop` where its target is a name of the way, `TooManyLinks` where it would be the ninth link. Of
+/// these the first is reported, in the order 704, 702, 703, 701 at each alias. The verifier is asked once for each distinct
+/// entry that may be verified at the moment, and not again; each name of the way is hashed once with each iterations and
+/// salt, whatever the verdict. What the verifier is asked lies in the arena.
 pub fn validate<'a, V: Verifier>(
     alloc: Global,
     bump: &'a Bump,

@@ -97,9 +97,9 @@ impl Statements {
     /// Reads a file of statements. Each line that counts is `good` or `bad`, the number of an algorithm, and the
     /// key, the signed data and the signature in hex digits, `-` where one has no octets.
     ///
-    /// The first line with a fault counts: `Syntax` where it is no statement, else `Contradiction` where it calls
-    /// an entry good that an earlier line called bad, or the other way round. A plain repeat is none. Want of memory
-    /// is told only where the first line is a statement, so a file that is empty or of comments alone is always read.
+    /// The first line with a fault counts: `Syntax` where it is no statement, else `Contradiction` where it calls an entry
+    /// good that an earlier line called bad, or the other way round. A plain repeat is none. Want of memory is reported only
+    /// where the first line is a statement, so a file that is empty or of comments alone is always read.
     pub fn parse(alloc: Global, text: &[u8]) -> Result<Statements, StatementsError>
         // What is listed is what the file says.
         ensures found { IfOk result (λ listed. (statements : List (Entry × Word))

@@ -12,8 +12,8 @@ use dnsv_message::{Class, Message};
 use dnsv_names::RecordType;
 use dnsv_records::{Dnskey, Ds, Nsec, Nsec3, Rrsig};
 
-/// Whether all of the message's DNSSEC records of class IN can be read: else `BadRdata` tells the first that can't,
-/// by its number through the three sections, from 1 on.
+/// Whether all of the message's DNSSEC records of class IN can be read: else `BadRdata` names the first that can't, by its
+/// number through the three sections, from 1 on.
 pub fn check_rdata(message: &Message<'_>, sections: &Sections<'_>) -> Result<(), CaptureError>
     requires answer { sections.now.answer.items ≡ message.now.answer }
     requires authority { sections.now.authority.items ≡ message.now.authority }

@@ -31,7 +31,7 @@ impl<'a> ChainRecords<'a> {
         record_number(place, self)
     }
 
-    /// The types that the record at the place tells of.
+    /// The types that the record at the place lists.
     pub fn types(&self, place: usize) -> &'a TypeBitmap<'a>
         requires { place < record_count self.now }
         ensures { IsTypesAt self.now place (λ t. set.contains result.now t) }
@@ -43,7 +43,7 @@ impl<'a> ChainRecords<'a> {
     }
 }
 
-/// The types that the NSEC record at the place tells of.
+/// The types that the NSEC record at the place lists.
 fn nsec_types<'a>(place: usize, entries: &[NsecEntry<'a>]) -> &'a TypeBitmap<'a>
     requires { place < length entries.now }
     ensures { IsSaidAt (λ entry. (read_entry entry).types ≡ (λ t. set.contains result.now t)) entries.now place }
@@ -52,7 +52,7 @@ fn nsec_types<'a>(place: usize, entries: &[NsecEntry<'a>]) -> &'a TypeBitmap<'a>
     &nsec.types
 }
 
-/// The types that the NSEC3 record at the place tells of.
+/// The types that the NSEC3 record at the place lists.
 fn nsec3_types<'a>(place: usize, entries: &[Nsec3Entry<'a>]) -> &'a TypeBitmap<'a>
     requires { place < length entries.now }
     ensures { IsSaidAt (λ entry. (read_nsec3 entry).types ≡ (λ t. set.contains result.now t)) entries.now place }

@@ -47,7 +47,7 @@ fn add_part(
     Ok(())
 }
 
-/// How the part is told.
+/// How the part is reported.
 fn part_line(evidence: &Evidence<'_>, question: &Name, part: ProofPart) -> Result<Part, AllocError>
     requires { IsPartFit evidence.now.rrsets question.now part }
     ensures { IfOk result (IsPartLine evidence.now.rrsets question.now part) }

@@ -28,7 +28,7 @@ pub fn add_proof(lines: &mut Vec<Line>, name: &Name, shown: &ShownDenial) -> Res
     Ok(())
 }
 
-/// How the denial of the name, which has the form, is told.
+/// How the denial of the name, which has the form, is reported.
 fn proof_line(form: Form, name: &Name, shown: &ShownDenial) -> Result<Proof, AllocError>
     requires { FitsEncloser name.now (form_encloser shown.now.form) }
     ensures { IfOk result (IsProofLine form name.now shown.now) }

@@ -121,7 +121,7 @@ fn earlier<'a>(first: Option<Signer<'a>>, found: Option<Signer<'a>>) -> Option<S
 }
 
 /// The lowest key of the signature over the octets in the DNSKEY RRset of its signer, which has the number `k`. A key that
-/// an earlier one has needn't be told.
+/// an earlier one has needn't be reported.
 fn lowest_in<'a>(
     alloc: Global,
     evidence: &Evidence<'_>,

@@ -1,4 +1,4 @@
-//! Names of a way, with what their lines are told by.
+//! Names of a way, with what their lines are reported by.
 ghost use Rattle.std.specs.Prelude.{◌≡◌, [], IfOk};
 ghost use Rattle.std.specs.Option.{option_map_or};
 ghost use Rattle.dnsv_verdict.specs.Report.{hashed_in};

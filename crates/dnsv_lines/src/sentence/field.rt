@@ -9,7 +9,7 @@ use std::fmt;
 /// What a field says.
 #[derive(Clone, Copy)]
 pub enum Value<'a> {
-    /// A name, which is told in lower case.
+    /// A name, which is reported in lower case.
     Name(&'a Name),
     /// A number, in decimal.
     Number(u64),

@@ -39,7 +39,7 @@ pub fn anchors_in<'b, R: Read>(
     anchors_of(alloc, bump, &octets)
 }
 
-/// The trust anchors of a text; the fault is that of its first line at fault. It is told, unless memory was refused to a
+/// The trust anchors of a text; the fault is that of its first line at fault. It is reported, unless memory was refused to a
 /// line before it.
 fn anchors_of<'b>(alloc: Global, bump: &'b Bump, text: &[u8]) -> Result<Anchors<'b>, Fault>
     ensures said { IfOk result (λ value. length text.now ≤ file_limit → HasAnchors text.now value) }

@@ -26,7 +26,7 @@ pub trait FromText: Drop + Sized {
     /// The text begins with a line that takes memory.
     ghost begins: { List ℕ → Type 0 };
 
-    /// What the text says; the fault is that of its first line at fault. It is told, unless memory was refused to a line
+    /// What the text says; the fault is that of its first line at fault. It is reported, unless memory was refused to a line
     /// before it.
     fn from_text(alloc: Global, text: &[u8]) -> Result<Self, Fault>
         ensures said { IfOk result (λ value. length text.now ≤ file_limit → says text.now value) }

@@ -51,7 +51,7 @@ impl FromText for RequestMacs {
 }
 
 /// The MACs of the text, of one request after another, `None` for one that had none. The fault is that of its first line
-/// that is neither 64 hex digits nor `-`; it is told, unless memory was refused to a line before it.
+/// that is neither 64 hex digits nor `-`; it is reported, unless memory was refused to a line before it.
 fn macs_of(alloc: Global, text: &[u8]) -> Result<Vec<Option<RequestMac>>, Fault>
     ensures macs { IfOk result (λ macs. length text.now ≤ file_limit → HasMacs text.now macs.items) }
     ensures fault { IfErr result (IsFaultOf (AreMacsRefused text.now)) }

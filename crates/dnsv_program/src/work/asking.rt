@@ -1,4 +1,4 @@
-//! The work of `check` and of `explain` over a file of questions: each is judged by one case, and told before the next.
+//! The work of `check` and of `explain` over a file of questions: each is judged by one case, and reported before the next.
 ghost use Rattle.std.specs.Prelude.{◌≡◌, ◌⊎◌, ◌<◌, ℕ, Err, IfErr, IfOk, List, string_bytes, take};
 ghost use Rattle.std.specs.Io.KnownBytes.{Appends};
 ghost use Rattle.dnsv_message.specs.Streams.Counted.{inner_of, failures_of, AppendsBeginning};
@@ -30,8 +30,8 @@ use dnsv_verdict::VerdictError;
 use std::alloc::{AllocError, Global};
 use std::io::{Read, Write};
 
-/// Each question of the file is judged in its order, and what is told of it written, so that at most one text is kept. A
-/// question that is refused by itself is told so, and the next is judged.
+/// Each question of the file is judged in its order, and what is reported of it written, so that at most one text is kept. A
+/// question that is refused by itself is reported so, and the next is judged.
 ///
 /// The answer is the greatest status of all. The fault is the first in the order of the work: of the questions, and then
 /// of the files that they are judged by. Where memory runs out behind that, or a write fails, the output has the whole
@@ -75,7 +75,7 @@ pub fn check_each<R: Read, W: Write>(
     )
 }
 
-/// Each question is judged by one case, and what is told of it written.
+/// Each question is judged by one case, and what is reported of it written.
 fn answer_all<W: Write>(
     alloc: Global,
     bump: &Bump,
@@ -122,7 +122,7 @@ fn answer_all<W: Write>(
     )
 }
 
-/// What is told of each question is written, one behind the other.
+/// What is reported of each question is written, one behind the other.
 fn tell_each<W: Write>(
     alloc: Global,
     judge: &mut Judging<'_>,
@@ -157,7 +157,7 @@ fn tell_each<W: Write>(
     Ok(end)
 }
 
-/// What is told of the question is written.
+/// What is reported of the question is written.
 fn tell_one<W: Write>(
     alloc: Global,
     judge: &mut Judging<'_>,

@@ -30,7 +30,7 @@ use dnsv_verdict::{Case, OpenCase, Report, Verdict, VerdictError};
 use dnsv_verifier::Verifier;
 use std::alloc::{AllocError, Global};
 
-/// How a verdict is told.
+/// How a verdict is reported.
 #[derive(Clone, Copy)]
 pub struct Telling {
     /// How the text is written.
@@ -184,7 +184,7 @@ fn lines_of(why: &Option<Explanation>) -> Option<&[Line]>
     }
 }
 
-/// The fault by which it is told that a question has no verdict. It has no place.
+/// The fault by which it is reported that a question has no verdict. It has no place.
 pub fn verdict_fault(error: VerdictError) -> Fault
     ensures told { result ≡ specs.verdict_fault error }
     ensures number { fault_number result ≡ verdict_error_code error }

@@ -53,9 +53,9 @@ impl<'a> OpenCase<'a> {
         &self.case
     }
 
-    /// The verdict on the question of a name and a type, as `Case::judge` gives it. A name that was asked before may not
-    /// be hashed again: the report tells the digests that it takes all the same. The case stays, also where the question
-    /// is refused or memory is.
+    /// The verdict on the question of a name and a type, as `Case::judge` gives it. A name that was asked before may not be
+    /// hashed again: the report counts the digests that it takes all the same. The case stays, also where the question is
+    /// refused or memory is.
     pub fn judge(
         &mut self,
         alloc: Global,

@@ -37,7 +37,7 @@ pub(crate) fn add(
     list(rising, tree, entry, word, line.number())
 }
 
-/// Lists an entry of the line of this number by its word. Where it is listed by the other one, that is told; memory is
+/// Lists an entry of the line of this number by its word. Where it is listed by the other one, that is reported; memory is
 /// asked for only where it isn't listed.
 fn list(
     rising: &mut Vec<(PackedEntry, Word)>,

@@ -25,7 +25,7 @@ pub fn way_by_anchor(evidence: &Evidence<'_>, set: &KeySet<'_>) -> Option<FoundW
     None
 }
 
-/// How the anchor, which has the number, is told.
+/// How the anchor, which has the number, is reported.
 fn voucher_of(number: usize, anchor: &Anchor<'_>) -> Voucher
     ensures { IsVoucherOf number anchor.now result }
 {
