@@ -103,8 +103,8 @@ class Samples(unittest.TestCase):
             "HAS shop.example.test. DNSKEY: key 29000 (ECDSAP256SHA256, ZONE SEP) signs the keys; "
             "neither an anchor nor a DS matches it",
             "THEN www.shop.example.test. A: signed by key 45316 of shop.example.test., which isn't trusted",
-            "HOLDS shop.example.test. DS: signed by example.test.; the chain holds down to here, from anchor 1 of "
-            "example.test. on"])
+            "HOLDS shop.example.test. DS: signed by example.test.; the chain holds down to here, beginning with "
+            "anchor 1 (example.test.)"])
 
     def test_an_anchor_that_is_another_key_of_the_same_tag(self):
         reason = {"line": "reason", "word": "key-missing", "ede": 9, "zone": "b.", "anchor": 1, "tag": 9, "algorithm": 13}
