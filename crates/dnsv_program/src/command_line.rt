@@ -62,8 +62,8 @@ impl CommandLineError {
             CommandLineError::NotText
             | CommandLineError::Misused(_)
             | CommandLineError::Unclear
-            | CommandLineError::TwoLists
-            | CommandLineError::BothKnown => 2,
+            | CommandLineError::BothKnown
+            | CommandLineError::TwoLists => 2,
         }
     }
 }
