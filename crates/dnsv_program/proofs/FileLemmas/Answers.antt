@@ -1,11 +1,14 @@
 -- A text of answers says one list of them, or has one fault.
 use Rattle.std.proofs.Common.{◌≡◌, ◌⊎◌, ◌<◌, ℕ, List, Option, Some, None, Result, Err, inl, inr, refl, sym, ap, subst, ◌∙◌, arith, length, slice_get}
+use Rattle.std.proofs.lemmas.List.{append-nil}
 use Rattle.std.proofs.lemmas.Option.{slice_get_past}
+use Rattle.std.specs.List.{AllByRecursion, flat_map}
 use Rattle.std.specs.Prelude.{IfErr}
 use Rattle.sha2.specs.Sha256.{sha256}
+use Rattle.dnsv_message.specs.Streams.Frames.{IsCapture, IsFramed, frame}
 use Rattle.dnsv_canonical.specs.Rrsets.{ReceivedRrset}
 use Rattle.dnsv_verifier.specs.Asked.{IsNumberAsked}
-use Rattle.dnsv_answers.specs.AnswerFile.{AnswersContents, AreAnswersOf, AreMiscounted, AreOfOther, BeginsWithHeading, IsFaultOf}
+use Rattle.dnsv_answers.specs.AnswerFile.{AnswersContents, AreAnswersOf, AreMiscounted, AreOf, AreOfOther, BeginsWithHeading, IsFaultOf}
 use Rattle.dnsv_answers.specs.declared.error.AnswersError.{AnswersError}
 use Rattle.dnsv_answers.specs.declared.error.AnswersError.TheVariants as answers
 use Rattle.dnsv_answers.specs.declared.said.SaidAnswer.{SaidAnswer}
@@ -59,25 +62,28 @@ refused_as (answers.Count line) (fault.TooLong file) is why place tells = absurd
 refused_as (answers.Count line) (fault.OpenFailed file) is why place tells = absurd is
 refused_as (answers.Count line) fault.WriteFailed is why place tells = absurd is
 
--- what the error holds of is what the fault is a refusal for
+-- what holds of an error is what the fault that tells it is a refusal for
+abbrev TellsSome : (AnswersError → Type 0) → Refusal → Place → Type 0
+TellsSome P why place = (first : AnswersError) × P first × TellsAnswersError first why place
+
 pub refused_for : (P : AnswersError → Type 0) (error : AnswersError) (found : Fault) → IsAnswersFault error found → (error ≡ answers.OutOfMemory) ⊎ P error
     → IsFaultFor (λ why place. (first : AnswersError) × P first × TellsAnswersError first why place) found
-refused_for P answers.OutOfMemory found tells is = subst (IsFaultFor _) (sym tells) tt
-refused_for P (answers.Syntax line) (fault.Refused a p) tells (inl is) = cc
+refused_for P answers.OutOfMemory found tells is = subst (IsFaultFor (TellsSome P)) (sym tells) tt
+refused_for P (answers.Syntax line) (fault.Refused a p) tells (inl is) = absurd (cc)
 refused_for P (answers.Syntax line) (fault.Refused a p) tells (inr is) = (answers.Syntax line, is, tells)
 refused_for P (answers.Syntax line) fault.OutOfMemory tells is = absurd tells
 refused_for P (answers.Syntax line) (fault.ReadFailed file) tells is = absurd tells
 refused_for P (answers.Syntax line) (fault.TooLong file) tells is = absurd tells
 refused_for P (answers.Syntax line) (fault.OpenFailed file) tells is = absurd tells
 refused_for P (answers.Syntax line) fault.WriteFailed tells is = absurd tells
-refused_for P (answers.OtherList line) (fault.Refused a p) tells (inl is) = cc
+refused_for P (answers.OtherList line) (fault.Refused a p) tells (inl is) = absurd (cc)
 refused_for P (answers.OtherList line) (fault.Refused a p) tells (inr is) = (answers.OtherList line, is, tells)
 refused_for P (answers.OtherList line) fault.OutOfMemory tells is = absurd tells
 refused_for P (answers.OtherList line) (fault.ReadFailed file) tells is = absurd tells
 refused_for P (answers.OtherList line) (fault.TooLong file) tells is = absurd tells
 refused_for P (answers.OtherList line) (fault.OpenFailed file) tells is = absurd tells
 refused_for P (answers.OtherList line) fault.WriteFailed tells is = absurd tells
-refused_for P (answers.Count line) (fault.Refused a p) tells (inl is) = cc
+refused_for P (answers.Count line) (fault.Refused a p) tells (inl is) = absurd (cc)
 refused_for P (answers.Count line) (fault.Refused a p) tells (inr is) = (answers.Count line, is, tells)
 refused_for P (answers.Count line) fault.OutOfMemory tells is = absurd tells
 refused_for P (answers.Count line) (fault.ReadFailed file) tells is = absurd tells
@@ -197,3 +203,33 @@ other_before capture moment text contents has (fault.ReadFailed file) bad = absu
 other_before capture moment text contents has (fault.TooLong file) bad = absurd bad
 other_before capture moment text contents has (fault.OpenFailed file) bad = absurd bad
 other_before capture moment text contents has fault.WriteFailed bad = absurd bad
+
+-- ---- the capture that they are said of
+
+-- the digest of a capture's frames is that of its octets
+pub digest_of : (capture : List ℕ) (frames : List (List ℕ)) (digest : List ℕ) → IsCapture capture frames
+    → (AllByRecursion IsFramed frames → digest ≡ sha256 (flat_map frame frames)) → digest ≡ sha256 capture
+digest_of capture frames digest framed told =
+    told framed.frames.each ∙ ap (λ (octets : List ℕ). sha256 octets) (sym (framed.frames.whole ∙ append-nil (flat_map frame frames)))
+
+pub said_for : (capture : List ℕ) (moment seconds : ℕ) (digest : List ℕ) (contents : AnswersContents) → digest ≡ sha256 capture → seconds ≡ moment
+    → AreOf contents.heading digest seconds → AreFor capture moment contents
+said_for capture moment seconds digest contents is at are =
+    subst (λ (m : ℕ). AreOf contents.heading (sha256 capture) m) at (subst (λ (d : List ℕ). AreOf contents.heading d seconds) is are)
+
+-- what is told of answers to another list
+pub other_told : (capture : List ℕ) (moment seconds : ℕ) (digest : List ℕ) (contents : AnswersContents) → digest ≡ sha256 capture → seconds ≡ moment
+    → (error : AnswersError) (found : Fault) → AreOfOther contents digest seconds error → IsAnswersFault error found → IsRefusalOf (AreForOther capture moment contents) found
+other_told capture moment seconds digest contents is at error found other tells =
+    go found (subst (λ (each : AnswersError). IsAnswersFault each found) other.is tells)
+  where
+    there : AreOfOther contents (sha256 capture) moment (answers.OtherList contents.line)
+    there = record { other = λ are. other.other (subst (λ (d : List ℕ). AreOf contents.heading d seconds) (sym is) (subst (λ (m : ℕ). AreOf contents.heading (sha256 capture) m) (sym at) are)); is = refl }
+
+    go : (found : Fault) → IsAnswersFault (answers.OtherList contents.line) found → IsRefusalOf (AreForOther capture moment contents) found
+    go (fault.Refused why place) tells = (answers.OtherList contents.line, there, tells)
+    go fault.OutOfMemory tells = absurd tells
+    go (fault.ReadFailed file) tells = absurd tells
+    go (fault.TooLong file) tells = absurd tells
+    go (fault.OpenFailed file) tells = absurd tells
+    go fault.WriteFailed tells = absurd tells

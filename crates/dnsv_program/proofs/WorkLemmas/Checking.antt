@@ -104,8 +104,8 @@ pub all_checked : (format : Format) (why : Bool) (name : Labels) (rtype moment :
     → IfOk result (λ outcome. IsJudged format why numbers (basis_of rrsets anchors moment meaning) name rtype outcome.status (string_bytes outcome.text))
     → IfOk result (λ outcome. IsCheck format why name rtype moment files outcome.status (string_bytes outcome.text))
 all_checked format why name rtype moment files are (Err told) judged = tt
-all_checked format why name rtype moment files are (Ok outcome) judged = record {
+all_checked format why name rtype moment files {numbers = numbers} are (Ok outcome) judged = record {
   given = are.given;
   judged = subst (λ (each : Option (List ℕ)). IsJudged format why each (basis_in are.given) name rtype outcome.status (string_bytes outcome.text)) are.told
-      (subst (λ (basis : Basis). IsJudged format why _ basis name rtype outcome.status (string_bytes outcome.text)) are.is judged);
+      (subst (λ (basis : Basis). IsJudged format why numbers basis name rtype outcome.status (string_bytes outcome.text)) are.is judged);
 }

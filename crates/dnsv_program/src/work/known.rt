@@ -1,5 +1,5 @@
 //! The case that questions are judged by, under what is known of signatures.
-ghost use Rattle.std.specs.Prelude.{◌≡◌, ℕ, IfErr, IfOk, None, Some, map};
+ghost use Rattle.std.specs.Prelude.{◌≡◌, ◌∷◌, ◌++◌, [], ℕ, IfErr, IfOk, OnOk, Some, map};
 ghost use Rattle.std.specs.Option.{option_map};
 ghost use Rattle.dnsv_answers.specs.AnswerFile.{answers_in};
 ghost use Rattle.dnsv_answers.specs.Answered.{IsAnsweredTable};
@@ -68,11 +68,19 @@ fn open_places(alloc: Global, said: &[SaidAnswer]) -> Result<Vec<usize>, AllocEr
 {
     let mut numbers = Vec::new(alloc);
     for (index, each) in said.iter().enumerate() {
-        if each.answer == Answer::Unknown {
-            numbers.push(index + 1)?;
-        }
+        push_open(&mut numbers, index + 1, each.answer)?;
     }
     Ok(numbers)
+}
+
+/// Adds the number of the answer, where that leaves an entry open.
+fn push_open(numbers: &mut Vec<usize>, number: usize, answer: Answer) -> Result<(), AllocError>
+    ensures { OnOk result (numbers.new.items ≡ numbers.old.items ++ open_numbers number (answer ∷ [])) }
+{
+    match answer {
+        Answer::Unknown => Ok(numbers.push(number)?),
+        Answer::Valid | Answer::Invalid => Ok(()),
+    }
 }
 
 /// A case, and the numbers by which the entries that are still to be checked are reported.

@@ -41,7 +41,7 @@ returns-in_err-said-clause-faults g c =
     (has_evidence c.in_ok-opening.opening _ c.in_ok-framed.framed.held c.in_ok-framed.ensures.evidence)
     (λ octets is. (c.in_ok-anchors.anchors, c.in_ok-anchors.ensures.said octets is)) c.in_ok-anchors.ensures.reads
     (λ files are. c.in_err-said.ensures.faults files.capture files.statements files.answers
-    (rw (← c.deref.ensures.value) (framed_by c.in_ok-framed.framed.frames.items are.capture c.in_ok-framed.ensures.frames)) are.statements are.answers)
+    (rw c.deref.ensures.value (framed_by c.in_ok-framed.framed.frames.items are.capture c.in_ok-framed.ensures.frames)) are.statements are.answers)
     c.in_err-said.ensures.statements_reads c.in_err-said.ensures.answers_reads c.in_err-said.ensures.about)
 
 pub returns-clause-faults : goal.returns-clause-faults
@@ -57,7 +57,7 @@ returns-clause-given g c = λ files are.
     c.in_ok-said.said are.capture c.in_ok-framed.ensures.evidence
     (c.in_ok-anchors.ensures.said files.anchors are.anchors)
     (c.in_ok-said.ensures.said files.capture files.statements files.answers
-    (rw (← c.deref.ensures.value) (framed_by c.in_ok-framed.framed.frames.items are.capture c.in_ok-framed.ensures.frames)) are.statements are.answers)
+    (rw c.deref.ensures.value (framed_by c.in_ok-framed.framed.frames.items are.capture c.in_ok-framed.ensures.frames)) are.statements are.answers)
 
 pub returns-in_err-opening-clause-reached : goal.returns-in_err-opening-clause-reached
 returns-in_err-opening-clause-reached g c = λ files are.
