@@ -17,7 +17,7 @@ use Rattle.dnsv_program.specs.Files.Capture.{Holds, NewEvidence}
 use Rattle.dnsv_program.specs.Opening.Given.{IsOpeningOf}
 use Rattle.dnsv_program.specs.Run.{IsFirstFaultOfFiles}
 use Rattle.dnsv_program.specs.Work.Checking.{AreGivenBy, AreReadFrom, IsCheck, IsJudged, basis_in}
-use Rattle.dnsv_program.specs.Work.Known.{AreMiscountedIn, IsFaultOfKnown, IsKnown, IsKnownBy, IsSaidBy}
+use Rattle.dnsv_program.specs.Work.Known.{AreMiscountedIn, Ground, IsFaultOfKnown, IsKnown, IsKnownBy, IsSaidBy}
 use Rattle.dnsv_program.specs.declared.work.given.Said.{Said}
 use Rattle.dnsv_program.specs.declared.work.given.Said.TheVariants as said
 use Rattle.dnsv_program.specs.declared.status.Fault.TheVariants as fault
@@ -99,13 +99,16 @@ module _ (moment : ℕ) (files : Files) {rrsets : List ReceivedRrset} {anchors :
       (unknown_by files.capture moment rrsets files.statements files.answers said why place read.says bad))))
 
 -- what is judged by what the files say is judged over them
-pub all_checked : (format : Format) (why : Bool) (name : Labels) (rtype moment : ℕ) (files : Files) {rrsets : List ReceivedRrset} {anchors : List Anchor}
-    {meaning : Entry → Answer} {numbers : Option (List ℕ)} → AreGivenBy moment files rrsets anchors meaning numbers → (result : Result Outcome Fault)
-    → IfOk result (λ outcome. IsJudged format why numbers (basis_of rrsets anchors moment meaning) name rtype outcome.status (string_bytes outcome.text))
+pub all_checked : (format : Format) (why : Bool) (name : Labels) (rtype moment : ℕ) (files : Files) {rrsets : List ReceivedRrset} {anchors : List Anchor} {said : Said}
+    → AreReadFrom moment files rrsets anchors said → (result : Result Outcome Fault)
+    → IfOk result (λ outcome. (ground : Ground moment rrsets said)
+    × IsJudged format why ground.numbers (basis_of rrsets anchors moment ground.meaning) name rtype outcome.status (string_bytes outcome.text))
     → IfOk result (λ outcome. IsCheck format why name rtype moment files outcome.status (string_bytes outcome.text))
-all_checked format why name rtype moment files are (Err told) judged = tt
-all_checked format why name rtype moment files {numbers = numbers} are (Ok outcome) judged = record {
-  given = are.given;
-  judged = subst (λ (each : Option (List ℕ)). IsJudged format why each (basis_in are.given) name rtype outcome.status (string_bytes outcome.text)) are.told
-      (subst (λ (basis : Basis). IsJudged format why numbers basis name rtype outcome.status (string_bytes outcome.text)) are.is judged);
-}
+all_checked format why name rtype moment files read (Err told) judged = tt
+all_checked format why name rtype moment files read (Ok outcome) judged =
+    let ground = judged.0 in
+    let are = all_given moment files read ground.meaning ground.numbers ground.knows in record {
+      given = are.given;
+      judged = subst (λ (each : Option (List ℕ)). IsJudged format why each (basis_in are.given) name rtype outcome.status (string_bytes outcome.text)) are.told
+          (subst (λ (basis : Basis). IsJudged format why ground.numbers basis name rtype outcome.status (string_bytes outcome.text)) are.is judged.1);
+    }

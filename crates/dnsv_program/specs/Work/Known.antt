@@ -66,6 +66,12 @@ abbrev pub IsKnown : ℕ → List ReceivedRrset → Said → (Entry → Answer) 
 IsKnown moment rrsets (said.Statements listed) meaning numbers = (meaning ≡ listed_answer listed) × (numbers ≡ None)
 IsKnown moment rrsets (said.Answers contents) meaning numbers = AreMeant moment rrsets contents meaning numbers
 
+-- the same, with what is known
+pub record Ground (moment : ℕ) (rrsets : List ReceivedRrset) (said : Said) : Type 0 where
+  pub meaning : Entry → Answer
+  pub numbers : Option (List ℕ)
+  pub knows : IsKnown moment rrsets said meaning numbers
+
 -- and that isn't known because there are more or fewer answers than entries, which are refused so
 abbrev pub AreMiscountedIn : ℕ → List ReceivedRrset → Said → Refusal → Place → Type 0
 AreMiscountedIn moment rrsets (said.Statements listed) why place = ⊥

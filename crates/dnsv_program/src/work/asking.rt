@@ -4,20 +4,22 @@ ghost use Rattle.std.specs.Io.KnownBytes.{Appends};
 ghost use Rattle.dnsv_message.specs.Streams.Counted.{inner_of, failures_of, AppendsBeginning};
 ghost use Rattle.dnsv_canonical.specs.Question as asked;
 ghost use Rattle.dnsv_verdict.specs.Case.{IsCaseOf};
-ghost use Rattle.dnsv_verdict.specs.Verdict.{Basis};
+ghost use Rattle.dnsv_verdict.specs.Verdict.{Basis, basis_of};
 ghost use Rattle.dnsv_verdict.specs.Way.{IsRefusal};
 ghost use Rattle.dnsv_program.specs.Files.Faults.{OfFailedRead, TellsFaults};
 ghost use Rattle.dnsv_program.specs.Files.Questions.{HasQuestions};
 ghost use Rattle.dnsv_program.specs.Files.{AreTold, Files, octets_or_none};
 ghost use Rattle.dnsv_program.specs.Run.{IsFirstFaultOfEach, IsReachedByEach};
 ghost use Rattle.dnsv_program.specs.Work.Asking.{AreAnswered, AreAnswers, AreFirstAnswered, IsAnswer, IsRefusedOne};
+ghost use Rattle.dnsv_program.specs.Told.{IsFaultOf};
 ghost use Rattle.dnsv_program.specs.Work.Judging.{case_of, tells_why};
+ghost use Rattle.dnsv_program.specs.Work.Known.{AreMiscountedIn, Ground};
 ghost use Rattle.dnsv_program.specs.declared.status.Status.{Status};
 
 use crate::command_line::moment::Moment;
 use crate::files::text::text_in;
 use crate::status::{Fault, InputFile, Status};
-use crate::work::given::given_in;
+use crate::work::given::{Given, given_in};
 use crate::work::judging::{Asked, Judging, Telling, outcome_by, verdict_fault};
 use crate::work::known::{OpenNumbers, open_case};
 use crate::work::{Inputs, Outcome};
@@ -64,7 +66,49 @@ pub fn check_each<R: Read, W: Write>(
 {
     let questions: Questions = text_in(alloc, InputFile::Questions, &mut inputs.questions)?;
     let given = given_in(alloc, moment, inputs, bump)?;
-    let mut opened = open_case(alloc, bump, telling.why, moment, &given)?;
+    answer_all(
+        alloc,
+        bump,
+        telling,
+        moment,
+        &given,
+        questions.as_slice(),
+        output,
+    )
+}
+
+/// Each question is judged by one case, and what is reported of it written.
+fn answer_all<W: Write>(
+    alloc: Global,
+    bump: &Bump,
+    telling: Telling,
+    moment: Moment,
+    given: &Given<'_>,
+    questions: &[StoredQuestion],
+    output: &mut Counted<W>,
+) -> Result<Status, Fault>
+    ensures done { IfOk result (λ end. (ground : Ground moment given.now.held.rrsets given.now.said) × (text : List ℕ)
+        × AreAnswers telling.format telling.why ground.numbers (basis_of given.now.held.rrsets given.now.anchors moment
+        ground.meaning) questions.now end text
+        × Appends (W.contents (inner_of output.old)) (W.contents (inner_of output.new)) text) }
+    ensures only { IfErr result (λ fault. IsFaultOf (AreMiscountedIn moment given.now.held.rrsets given.now.said) fault
+        ⊎ (fault ≡ Fault.WriteFailed)) }
+    ensures write { result ≡ Err Fault.WriteFailed
+        → failures_of output.old < u64.MAX → failures_of output.old < failures_of output.new }
+    ensures begun { result ≡ Err Fault.WriteFailed → (ground : Ground moment given.now.held.rrsets given.now.said)
+        × (count : ℕ) × (end : Status) × (text : List ℕ)
+        × AreAnswers telling.format telling.why ground.numbers (basis_of given.now.held.rrsets given.now.anchors moment
+        ground.meaning) (take count questions.now) end text
+        × AppendsBeginning (W.contents (inner_of output.old)) (W.contents (inner_of output.new)) text }
+    ensures whole { result ≡ Err Fault.OutOfMemory → (output.new ≡ output.old)
+        ⊎ ((ground : Ground moment given.now.held.rrsets given.now.said) × (count : ℕ) × (end : Status) × (text : List ℕ)
+        × AreAnswers telling.format telling.why ground.numbers (basis_of given.now.held.rrsets given.now.anchors moment
+        ground.meaning) (take count questions.now) end text
+        × Appends (W.contents (inner_of output.old)) (W.contents (inner_of output.new)) text) }
+    ensures untouched { IfErr result (λ fault. (fault ≡ Fault.WriteFailed → ⊥) → (fault ≡ Fault.OutOfMemory → ⊥)
+        → output.new ≡ output.old) }
+{
+    let mut opened = open_case(alloc, bump, telling.why, moment, given)?;
     tell_each(
         alloc,
         &mut opened.judging,
@@ -72,7 +116,7 @@ pub fn check_each<R: Read, W: Write>(
         moment,
         given.held.rrsets(),
         &opened.numbers,
-        questions.as_slice(),
+        questions,
         output,
     )
 }
