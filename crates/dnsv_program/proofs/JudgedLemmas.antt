@@ -28,9 +28,15 @@ use Rattle.dnsv_program.specs.declared.status.InputFile.{InputFile}
 use Rattle.dnsv_program.specs.declared.status.InputFile.TheVariants.{Questions}
 use Rattle.dnsv_program.specs.Work.Checking.{AreGivenBy, IsJudged, IsStopped, IsWhy, verdict_fault, verdict_status}
 use Rattle.dnsv_program.specs.Files.Faults.{OfFailedRead, OfOctets, TellsFaults, TellsFaultsBeside}
-use Rattle.dnsv_program.specs.Files.{AreTold, Files, given_failures}
+use Rattle.dnsv_program.specs.Files.{AreTold, AreToldBeside, Files, given_failures}
 use Rattle.dnsv_program.specs.Run.{IsFirstFaultOfFiles, IsFirstFaultOfName}
-use Rattle.dnsv_program.proofs.FileLemmas.Faults.{IsOther, reads_after, reads_untouched}
+use Rattle.dnsv_program.proofs.FileLemmas.Faults.{IsOther, reads_after, reads_untouched, refused_behind, with_questions}
+use Rattle.dnsv_program.proofs.ReachedLemmas.{refused_reached, refused_unwritten}
+use Rattle.dnsv_program.specs.Told.{IsFaultOf}
+use Rattle.dnsv_program.specs.declared.status.Place.{Place}
+use Rattle.dnsv_program.specs.declared.status.Refusal.{Refusal}
+use Rattle.dnsv_program.specs.Work.Known.{Ground}
+use Rattle.dnsv_program.specs.declared.work.given.Said.{Said}
 
 -- it tells no failed read
 verdict_fault_reads : (error : VerdictError) (file : InputFile) → IsOther file (verdict_fault error)
@@ -117,9 +123,37 @@ all_judged {before = before} {after = after} name rtype moment Refused x result 
       (unjudged_other Refused Questions result only);
 }
 
+-- they are taken, and what they say is refused, or the question is judged or refused
+module _ {G : Type 0} (P : Refusal → Place → Type 0) (Refused : G → VerdictError → Type 0) where
+  abbrev pub IsUngiven : Fault → Type 0
+  IsUngiven told = IsFaultOf P told ⊎ ((ground : G) × (error : VerdictError) × Refused ground error × (told ≡ verdict_fault error))
+
+  pub ungiven_read : {U : Type 0} (Of : InputFile → Type 0) (result : Result U Fault) → IfErr result IsUngiven → IfErr result (OfFailedRead Of)
+  ungiven_read Of (Ok x) only = tt
+  ungiven_read Of (Err told) (inl bad) = refused_reached P Of told bad
+  ungiven_read Of (Err told) (inr refused) = subst (OfFailedRead Of) (sym refused.3) (verdict_fault_read Of refused.1)
+
+  pub ungiven_writes : {U : Type 0} (result : Result U Fault) → IfErr result IsUngiven → IfErr result (λ told. told ≡ fault.WriteFailed → ⊥)
+  ungiven_writes (Ok x) only = tt
+  ungiven_writes (Err told) (inl bad) = refused_unwritten P told bad
+  ungiven_writes (Err told) (inr refused) = λ is. verdict_fault_writes refused.1 (sym refused.3 ∙ is)
+
+  pub given_or_refused : {R S U : Type 0} {remaining : R → Option (List ℕ)} {before after : Inputs R} (name : Labels) (rtype moment : ℕ) (x : S)
+      (result : Result U Fault) → TellsFaultsBeside {T = S} (IsFirstFaultOfFiles moment) remaining before after (Ok x) → after.questions ≡ before.questions
+      → ((files : Files) → AreToldBeside remaining before files → (why : Refusal) (place : Place) → P why place → IsFirstFaultOfFiles moment files (fault.Refused why place))
+      → ((ground : G) (files : Files) (error : VerdictError) → AreTold remaining before files → Refused ground error → IsStopped name rtype moment files (verdict_fault error))
+      → IfErr result IsUngiven → TellsFaults {T = U} (IsFirstFaultOfName name rtype moment) remaining before after result
+  given_or_refused name rtype moment x (Ok y) tells same first stopped only =
+      all_judged name rtype moment (λ error. ⊥) x (Ok y) tells same (λ files error are bad. absurd bad) tt
+  given_or_refused name rtype moment x (Err told) tells same first stopped (inl bad) =
+      with_questions (IsFirstFaultOfFiles moment) (IsFirstFaultOfName name rtype moment) (Err told) (λ files fault holds. inl holds) same
+      (refused_behind (IsFirstFaultOfFiles moment) x told P tells first bad)
+  given_or_refused name rtype moment x (Err told) tells same first stopped (inr refused) =
+      all_judged name rtype moment (Refused refused.0) x (Err told) tells same (stopped refused.0) (inr (refused.1, refused.2, refused.3))
+
 -- a question over files that were all taken is refused on its way
 pub stopped_there : (name : Labels) (rtype moment : ℕ) (files : Files) {rrsets : List ReceivedRrset} {anchors : List Anchor} {meaning : Entry → Answer}
-    → AreGivenBy moment files rrsets anchors meaning → (error : VerdictError) → IsRefusedFor (basis_of rrsets anchors moment meaning) name rtype error
+    {numbers : Option (List ℕ)} → AreGivenBy moment files rrsets anchors meaning numbers → (error : VerdictError) → IsRefusedFor (basis_of rrsets anchors moment meaning) name rtype error
     → IsStopped name rtype moment files (verdict_fault error)
 stopped_there name rtype moment files are error refused = record {
   given = are.given;
@@ -153,41 +187,60 @@ verdict_unrefused (verdicts.Pending entries) same = cc
 verdict_unrefused verdicts.Bogus same = cc
 verdict_unrefused verdicts.Indeterminate same = cc
 
-pub judged_unrefused : {E : Type 0} (format : Format) (why : Bool) (basis : Basis) (name : Labels) (rtype : ℕ) (result : Result Outcome E)
-    → IfOk result (λ outcome. IsJudged format why basis name rtype outcome.status (string_bytes outcome.text))
+pub judged_unrefused : {E : Type 0} (format : Format) (why : Bool) (name : Labels) (rtype moment : ℕ) (rrsets : List ReceivedRrset) (anchors : List Anchor) (said : Said)
+    (result : Result Outcome E)
+    → IfOk result (λ outcome. (ground : Ground moment rrsets said)
+    × IsJudged format why ground.numbers (basis_of rrsets anchors moment ground.meaning) name rtype outcome.status (string_bytes outcome.text))
     → IfOk result (λ outcome. outcome.status ≡ status.Refused → ⊥)
-judged_unrefused format why basis name rtype (Ok outcome) judged = λ same. verdict_unrefused judged.report.verdict (sym judged.ends ∙ same)
-judged_unrefused format why basis name rtype (Err told) judged = tt
+judged_unrefused format why name rtype moment rrsets anchors said (Ok outcome) judged = λ same. verdict_unrefused judged.1.report.verdict (sym judged.1.ends ∙ same)
+judged_unrefused format why name rtype moment rrsets anchors said (Err told) judged = tt
 
 -- ---- a report as an answer
 
-module _ (format : Format) (why : Bool) (basis : Basis) (asked : Asked) (name : Labels) (rtype moment : ℕ) (rrsets : List ReceivedRrset)
+module _ (format : Format) (why : Bool) (numbers : Option (List ℕ)) (basis : Basis) (asked : Asked) (name : Labels) (rtype moment : ℕ) (rrsets : List ReceivedRrset)
     (report : Report) (told : Option (List Line)) where
   pub answered_so : {E : Type 0} (result : Result Outcome E) → name ≡ asked.name → rtype ≡ asked.rtype → rrsets ≡ basis.rrsets → basis.moment ≡ moment
       → IsQuestion name rtype → IsVerdictOf basis name rtype report.links report.last report.verdict → IsWhy why basis rtype report told
       → IfOk result (λ outcome. outcome.status ≡ verdict_status report.verdict)
       → IfOk result (λ outcome. string_bytes outcome.text
-      ≡ check_text format name rtype moment (status_code outcome.status) rrsets report.links report.verdict told None)
-      → IfOk result (λ outcome. IsAnswer format why basis asked outcome.status (string_bytes outcome.text))
+      ≡ check_text format name rtype moment (status_code outcome.status) rrsets report.links report.verdict told numbers)
+      → IfOk result (λ outcome. IsAnswer format why numbers basis asked outcome.status (string_bytes outcome.text))
   answered_so (Err fault) names types same at may verdict is_told ends lines = tt
   answered_so (Ok outcome) names types same at may verdict is_told ends lines =
-      let judged : IsJudged format why basis name rtype outcome.status (string_bytes outcome.text) = record {
+      let judged : IsJudged format why numbers basis name rtype outcome.status (string_bytes outcome.text) = record {
         report = report;
         is_verdict = verdict;
         told = told;
         is_told = is_told;
         ends = ends;
         lines = lines
-            ∙ (λ i. check_text format name rtype (sym at i) (status_code outcome.status) (same i) report.links report.verdict told None);
+            ∙ (λ i. check_text format name rtype (sym at i) (status_code outcome.status) (same i) report.links report.verdict told numbers);
       } in
-      subst (λ (t : ℕ). IsAnswer format why basis (record { name = asked.name; rtype = t }) outcome.status (string_bytes outcome.text)) types
-      (subst (λ (n : Labels). IsAnswer format why basis (record { name = n; rtype = rtype }) outcome.status (string_bytes outcome.text)) names (inl (may, judged)))
+      subst (λ (t : ℕ). IsAnswer format why numbers basis (record { name = asked.name; rtype = t }) outcome.status (string_bytes outcome.text)) types
+      (subst (λ (n : Labels). IsAnswer format why numbers basis (record { name = n; rtype = rtype }) outcome.status (string_bytes outcome.text)) names (inl (may, judged)))
 
-pub refused_so : {E : Type 0} (format : Format) (why : Bool) (basis : Basis) (asked : Asked) (name : Labels) (rtype : ℕ) (result : Result Outcome E)
+pub refused_so : {E : Type 0} (format : Format) (why : Bool) (numbers : Option (List ℕ)) (basis : Basis) (asked : Asked) (name : Labels) (rtype : ℕ) (result : Result Outcome E)
     → name ≡ asked.name → rtype ≡ asked.rtype
     → IfOk result (λ outcome. IsRefusedOne format why basis (record { name = name; rtype = rtype }) outcome.status (string_bytes outcome.text))
-    → IfOk result (λ outcome. IsAnswer format why basis asked outcome.status (string_bytes outcome.text))
-refused_so format why basis asked name rtype (Err fault) names types told = tt
-refused_so format why basis asked name rtype (Ok outcome) names types told =
-    subst (λ (t : ℕ). IsAnswer format why basis (record { name = asked.name; rtype = t }) outcome.status (string_bytes outcome.text)) types
-    (subst (λ (n : Labels). IsAnswer format why basis (record { name = n; rtype = rtype }) outcome.status (string_bytes outcome.text)) names (inr told))
+    → IfOk result (λ outcome. IsAnswer format why numbers basis asked outcome.status (string_bytes outcome.text))
+refused_so format why numbers basis asked name rtype (Err fault) names types told = tt
+refused_so format why numbers basis asked name rtype (Ok outcome) names types told =
+    subst (λ (t : ℕ). IsAnswer format why numbers basis (record { name = asked.name; rtype = t }) outcome.status (string_bytes outcome.text)) types
+    (subst (λ (n : Labels). IsAnswer format why numbers basis (record { name = n; rtype = rtype }) outcome.status (string_bytes outcome.text)) names (inr told))
+
+-- what is judged by a case is judged by what is known
+module _ (name : Labels) (rtype moment : ℕ) (rrsets : List ReceivedRrset) (anchors : List Anchor) (said : Said) (ground : Ground moment rrsets said) where
+  pub told_by : (format : Format) (why : Bool) {E : Type 0} (result : Result Outcome E)
+      → IfOk result (λ outcome. IsJudged format why ground.numbers (basis_of rrsets anchors moment ground.meaning) name rtype outcome.status (string_bytes outcome.text))
+      → IfOk result (λ outcome. (each : Ground moment rrsets said)
+      × IsJudged format why each.numbers (basis_of rrsets anchors moment each.meaning) name rtype outcome.status (string_bytes outcome.text))
+  told_by format why (Ok outcome) judged = (ground, judged)
+  told_by format why (Err told) judged = tt
+
+  pub refused_by : (P : Refusal → Place → Type 0) {U : Type 0} (result : Result U Fault)
+      → IfErr result (IsUnjudged (IsRefusedFor (basis_of rrsets anchors moment ground.meaning) name rtype))
+      → IfErr result (λ told. IsFaultOf P told ⊎ ((each : Ground moment rrsets said) × (error : VerdictError)
+      × IsRefusedFor (basis_of rrsets anchors moment each.meaning) name rtype error × (told ≡ verdict_fault error)))
+  refused_by P (Ok x) only = tt
+  refused_by P (Err told) (inl memory) = inl (subst (IsFaultOf P) (sym memory) tt)
+  refused_by P (Err told) (inr refused) = inr (ground, refused.0, refused.1, refused.2)

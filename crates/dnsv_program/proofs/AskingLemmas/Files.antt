@@ -1,14 +1,12 @@
 -- What is told of the file of questions, and of the files behind it.
 use Rattle.std.proofs.Common.{◌≡◌, ◌⊎◌, ℕ, Bool, List, Option, inl, inr, subst, sym, take}
-use Rattle.std.specs.Prelude.{Err, IfErr, IfOk, Ok, Result}
+use Rattle.std.specs.Prelude.{Err, IfErr, IfOk, Ok, Result, ⊤}
 use Rattle.std.specs.Io.KnownBytes.{Appends}
 use Rattle.dnsv_message.specs.declared.streams.counted.Counted.{Counted}
 use Rattle.dnsv_message.specs.Streams.Counted.{AppendsBeginning}
 use Rattle.dnsv_canonical.specs.Question.{Asked}
 use Rattle.dnsv_canonical.specs.Rrsets.{ReceivedRrset}
 use Rattle.dnsv_chain.specs.declared.anchor.Anchor.{Anchor}
-use Rattle.dnsv_verifier.specs.declared.answer.Answer.{Answer}
-use Rattle.dnsv_verifier.specs.declared.entry.Entry.{Entry}
 use Rattle.dnsv_verdict.specs.Verdict.{Basis, basis_of}
 use Rattle.dnsv_texts.specs.declared.format.Format.{Format}
 use Rattle.dnsv_program.specs.declared.work.Inputs.{Inputs}
@@ -16,12 +14,21 @@ use Rattle.dnsv_program.specs.declared.status.Fault.{Fault}
 use Rattle.dnsv_program.specs.declared.status.InputFile.TheVariants.{Questions}
 use Rattle.dnsv_program.specs.declared.status.Status.{Status}
 use Rattle.dnsv_program.specs.Files.{AreTold, AreToldBeside, Files, given_failures, octets_or_none}
-use Rattle.dnsv_program.specs.Files.Faults.{TellsFailedReads, TellsFaults, TellsFaultsBeside, TellsReads}
+use Rattle.dnsv_program.specs.Files.Faults.{OfFailedRead, TellsFailedReads, TellsFaults, TellsFaultsBeside, TellsReads}
 use Rattle.dnsv_program.specs.Files.Questions.{HasQuestions}
 use Rattle.dnsv_program.specs.Run.{IsFirstFaultOfEach, IsFirstFaultOfFiles}
 use Rattle.dnsv_program.specs.Work.Asking.{AreAnswered, AreAnswers, AreFirstAnswered}
-use Rattle.dnsv_program.specs.Work.Checking.{AreGivenBy}
-use Rattle.dnsv_program.proofs.FileLemmas.Faults.{IsOther, OfOctets-weaker, beside_passed, reads_then}
+use Rattle.dnsv_program.specs.Work.Checking.{AreReadFrom, basis_in}
+use Rattle.dnsv_program.specs.Work.Known.{Ground}
+use Rattle.dnsv_program.specs.Told.{IsFaultOf}
+use Rattle.dnsv_program.specs.declared.status.Fault.TheVariants as fault
+use Rattle.dnsv_program.specs.declared.status.InputFile.{InputFile}
+use Rattle.dnsv_program.specs.declared.status.Place.{Place}
+use Rattle.dnsv_program.specs.declared.status.Refusal.{Refusal}
+use Rattle.dnsv_program.specs.declared.work.given.Said.{Said}
+use Rattle.dnsv_program.proofs.ReachedLemmas.{refused_reached}
+use Rattle.dnsv_program.proofs.WorkLemmas.Checking.{all_given}
+use Rattle.dnsv_program.proofs.FileLemmas.Faults.{IsOther, OfOctets-weaker, beside_passed, reads_after, reads_then, refused_behind}
 
 -- behind the questions
 abbrev pub behind : {R : Type 0} → Inputs R → Option (Counted R) → Inputs R
@@ -33,6 +40,7 @@ module _ {R : Type 0} {before : Inputs R} (reader : Option (Counted R)) where
     capture = tells.capture;
     anchors = tells.anchors;
     statements = tells.statements;
+    answers = tells.answers;
     keys = tells.keys;
     macs = tells.macs;
     opened = tells.opened;
@@ -46,7 +54,7 @@ read_once {R = R} before reader now x result read same other =
 
 module _ {R : Type 0} {remaining : R → Option (List ℕ)} {before : Inputs R} (reader : Option (Counted R)) where
   pub told_behind : {files : Files} → AreToldBeside remaining before files → AreToldBeside remaining (behind before reader) files
-  told_behind are = record { capture = are.capture; anchors = are.anchors; statements = are.statements; keys = are.keys; macs = are.macs }
+  told_behind are = record { capture = are.capture; anchors = are.anchors; statements = are.statements; answers = are.answers; keys = are.keys; macs = are.macs }
 
   -- one of the other files is at fault
   pub given_failed : {S T U : Type 0} {after : Inputs R} (x : U) → TellsFailedReads {T = U} Questions (given_failures before.questions) (given_failures reader) (Ok x)
@@ -62,53 +70,112 @@ module _ {R : Type 0} {remaining : R → Option (List ℕ)} {before : Inputs R} 
         questions = read_once before.questions reader after.questions x (Err told) read same tells.unread;
       }
 
+  -- all are taken, and what they say is refused, or a write failed
+  pub all_asked : {S T U : Type 0} {after : Inputs R} (x : U) → TellsFailedReads {T = U} Questions (given_failures before.questions) (given_failures reader) (Ok x)
+      → (moment : ℕ) (result : Result T Fault)
+      → ((files : Files) → AreTold remaining before files → (asked : List Asked) × HasQuestions (octets_or_none files.questions) asked)
+      → (given : S) → TellsFaultsBeside {T = S} (IsFirstFaultOfFiles moment) remaining (behind before reader) after (Ok given) → after.questions ≡ reader
+      → (P : Refusal → Place → Type 0)
+      → ((files : Files) → AreToldBeside remaining (behind before reader) files → (why : Refusal) (place : Place) → P why place
+      → IsFirstFaultOfFiles moment files (fault.Refused why place))
+      → IfErr result (λ told. IsFaultOf P told ⊎ (told ≡ fault.WriteFailed))
+      → TellsFaults {T = T} (IsFirstFaultOfEach moment) remaining before after result
+  all_asked {after = after} x read moment (Ok y) asked given tells same P first only = record {
+    first = λ files are. tt;
+    reads = reads_behind reader (Ok y) (reads_after given (Ok y) tells.reads (λ file. tt) tt);
+    questions = read_once before.questions reader after.questions x (Ok y) read same tt;
+  }
+  all_asked x read moment (Err told) asked given tells same P first (inl bad) =
+      given_failed x read moment told asked (refused_behind {T = ⊤} (IsFirstFaultOfFiles moment) given told P tells first bad) same
+  all_asked {T = T} {after = after} x read moment (Err told) asked given tells same P first (inr failed) =
+      subst (λ (each : Fault). TellsFaults {T = T} (IsFirstFaultOfEach moment) remaining before after (Err each)) (sym failed) (record {
+        first = λ files are. tt;
+        reads = reads_behind reader (Err fault.WriteFailed) (reads_after given (Err fault.WriteFailed) tells.reads (λ file is. cc) (λ file is. cc));
+        questions = read_once before.questions reader after.questions x (Err fault.WriteFailed) read same (λ is. cc);
+      })
+
+-- no failed read is told then
+pub asked_reached : {T : Type 0} (P : Refusal → Place → Type 0) (Holds : InputFile → Type 0) (result : Result T Fault)
+    → IfErr result (λ told. IsFaultOf P told ⊎ (told ≡ fault.WriteFailed)) → IfErr result (OfFailedRead Holds)
+asked_reached P Holds (Ok y) only = tt
+asked_reached P Holds (Err told) (inl bad) = refused_reached P Holds told bad
+asked_reached P Holds (Err told) (inr failed) = subst (OfFailedRead Holds) (sym failed) tt
+
 -- ---- what is told of all
 
 module _ (format : Format) (why : Bool) (moment : ℕ) (files : Files) (asked : List Asked) (has : HasQuestions (octets_or_none files.questions) asked)
-    {rrsets : List ReceivedRrset} {anchors : List Anchor} {meaning : Entry → Answer} (are : AreGivenBy moment files rrsets anchors meaning) where
-  pub answered_by : (end : Status) (text : List ℕ) → AreAnswers format why (basis_of rrsets anchors moment meaning) asked end text
-      → AreAnswered format why moment files end text
-  answered_by end text answers = record {
-    asked = asked;
-    has = has;
-    given = are.given;
-    answers = subst (λ (basis : Basis). AreAnswers format why basis asked end text) are.is answers;
-  }
+    {rrsets : List ReceivedRrset} {anchors : List Anchor} {said : Said} (read : AreReadFrom moment files rrsets anchors said) where
+  pub answered_by : (ground : Ground moment rrsets said) (end : Status) (text : List ℕ)
+      → AreAnswers format why ground.numbers (basis_of rrsets anchors moment ground.meaning) asked end text → AreAnswered format why moment files end text
+  answered_by ground end text answers =
+      let are = all_given moment files read ground.meaning ground.numbers ground.knows in record {
+        asked = asked;
+        has = has;
+        given = are.given;
+        answers = subst (λ (each : Option (List ℕ)). AreAnswers format why each (basis_in are.given) asked end text) are.told
+            (subst (λ (basis : Basis). AreAnswers format why ground.numbers basis asked end text) are.is answers);
+      }
 
-  pub first_answered_by : (count : ℕ) (end : Status) (text : List ℕ) → AreAnswers format why (basis_of rrsets anchors moment meaning) (take count asked) end text
+  pub first_answered_by : (ground : Ground moment rrsets said) (count : ℕ) (end : Status) (text : List ℕ)
+      → AreAnswers format why ground.numbers (basis_of rrsets anchors moment ground.meaning) (take count asked) end text
       → AreFirstAnswered format why moment files text
-  first_answered_by count end text answers = record {
-    asked = asked;
-    has = has;
-    given = are.given;
-    count = count;
-    end = end;
-    answers = subst (λ (basis : Basis). AreAnswers format why basis (take count asked) end text) are.is answers;
-  }
+  first_answered_by ground count end text answers =
+      let are = all_given moment files read ground.meaning ground.numbers ground.knows in record {
+        asked = asked;
+        has = has;
+        given = are.given;
+        count = count;
+        end = end;
+        answers = subst (λ (each : Option (List ℕ)). AreAnswers format why each (basis_in are.given) (take count asked) end text) are.told
+            (subst (λ (basis : Basis). AreAnswers format why ground.numbers basis (take count asked) end text) are.is answers);
+      }
 
   pub all_done : {E : Type 0} (old new : Option (List ℕ)) (result : Result Status E)
-      → IfOk result (λ end. (text : List ℕ) × AreAnswers format why (basis_of rrsets anchors moment meaning) asked end text × Appends old new text)
+      → IfOk result (λ end. (ground : Ground moment rrsets said) × (text : List ℕ)
+      × AreAnswers format why ground.numbers (basis_of rrsets anchors moment ground.meaning) asked end text × Appends old new text)
       → IfOk result (λ end. (text : List ℕ) × AreAnswered format why moment files end text × Appends old new text)
-  all_done old new (Ok end) done = (done.0, answered_by end done.0 done.1, done.2)
+  all_done old new (Ok end) done = (done.1, answered_by done.0 end done.1 done.2, done.3)
   all_done old new (Err told) done = tt
 
   pub first_begun : (old new : Option (List ℕ))
-      → (count : ℕ) × (end : Status) × (text : List ℕ) × AreAnswers format why (basis_of rrsets anchors moment meaning) (take count asked) end text
-      × AppendsBeginning old new text
+      → (ground : Ground moment rrsets said) × (count : ℕ) × (end : Status) × (text : List ℕ)
+      × AreAnswers format why ground.numbers (basis_of rrsets anchors moment ground.meaning) (take count asked) end text × AppendsBeginning old new text
       → (text : List ℕ) × AreFirstAnswered format why moment files text × AppendsBeginning old new text
-  first_begun old new begun = (begun.2, first_answered_by begun.0 begun.1 begun.2 begun.3, begun.4)
+  first_begun old new begun = (begun.3, first_answered_by begun.0 begun.1 begun.2 begun.3 begun.4, begun.5)
 
 -- where some are told, whatever the files hold
 pub first_whole : {Same : Type 0} {AreSo : Files → Type 0} (format : Format) (why : Bool) (moment : ℕ) (asked : List Asked) {rrsets : List ReceivedRrset}
-    {anchors : List Anchor} {meaning : Entry → Answer} (old new : Option (List ℕ))
+    {anchors : List Anchor} {said : Said} (old new : Option (List ℕ))
     → ((files : Files) → AreSo files → HasQuestions (octets_or_none files.questions) asked)
-    → ((files : Files) → AreSo files → AreGivenBy moment files rrsets anchors meaning)
-    → Same ⊎ ((count : ℕ) × (end : Status) × (text : List ℕ) × AreAnswers format why (basis_of rrsets anchors moment meaning) (take count asked) end text
-    × Appends old new text)
+    → ((files : Files) → AreSo files → AreReadFrom moment files rrsets anchors said)
+    → Same ⊎ ((ground : Ground moment rrsets said) × (count : ℕ) × (end : Status) × (text : List ℕ)
+    × AreAnswers format why ground.numbers (basis_of rrsets anchors moment ground.meaning) (take count asked) end text × Appends old new text)
     → Same ⊎ ((files : Files) → AreSo files → (text : List ℕ) × AreFirstAnswered format why moment files text × Appends old new text)
 first_whole format why moment asked old new has given (inl same) = inl same
 first_whole format why moment asked old new has given (inr whole) = inr (λ files are. (
-  whole.2,
-  first_answered_by format why moment files asked (has files are) (given files are) whole.0 whole.1 whole.2 whole.3,
-  whole.4,
+  whole.3,
+  first_answered_by format why moment files asked (has files are) (given files are) whole.0 whole.1 whole.2 whole.3 whole.4,
+  whole.5,
 ))
+
+-- ---- one case
+
+-- what is told by a case is told by what is known
+pub told_done : {moment : ℕ} {rrsets : List ReceivedRrset} {said : Said} {E : Type 0} {P : Ground moment rrsets said → Status → List ℕ → Type 0}
+    (ground : Ground moment rrsets said) (Grows : List ℕ → Type 0) (result : Result Status E)
+    → IfOk result (λ end. (text : List ℕ) × P ground end text × Grows text)
+    → IfOk result (λ end. (ground : Ground moment rrsets said) × (text : List ℕ) × P ground end text × Grows text)
+told_done ground Grows (Ok end) done = (ground, done.0, done.1, done.2)
+told_done ground Grows (Err told) done = tt
+
+pub told_only : {T : Type 0} (P : Refusal → Place → Type 0) (result : Result T Fault) → IfErr result (λ told. (told ≡ fault.OutOfMemory) ⊎ (told ≡ fault.WriteFailed))
+    → IfErr result (λ told. IsFaultOf P told ⊎ (told ≡ fault.WriteFailed))
+told_only P (Ok x) only = tt
+told_only P (Err told) (inl memory) = inl (subst (IsFaultOf P) (sym memory) tt)
+told_only P (Err told) (inr failed) = inr failed
+
+pub told_untouched : {T Same : Type 0} (result : Result T Fault) → IfErr result (λ told. (told ≡ fault.OutOfMemory) ⊎ (told ≡ fault.WriteFailed))
+    → IfErr result (λ told. (told ≡ fault.WriteFailed → ⊥) → (told ≡ fault.OutOfMemory → ⊥) → Same)
+told_untouched (Ok x) only = tt
+told_untouched (Err told) (inl memory) = λ written wanted. absurd (wanted memory)
+told_untouched (Err told) (inr failed) = λ written wanted. absurd (written failed)

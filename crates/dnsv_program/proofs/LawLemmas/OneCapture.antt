@@ -11,7 +11,7 @@ use Rattle.dnsv_canonical.specs.Evidence.{Evidence, no_evidence, with_message}
 use Rattle.dnsv_program.specs.declared.opening.Opening.{Opening}
 use Rattle.dnsv_program.specs.declared.status.Fault.{Fault}
 use Rattle.dnsv_program.specs.declared.status.Fault.TheVariants as fault
-use Rattle.dnsv_program.specs.declared.status.InputFile.TheVariants.{Anchors, Capture, Keys, Macs, Questions, Statements}
+use Rattle.dnsv_program.specs.declared.status.InputFile.TheVariants.{Anchors, Answers, Capture, Keys, Macs, Questions, Statements}
 use Rattle.dnsv_program.specs.declared.status.Place.{Place}
 use Rattle.dnsv_program.specs.declared.status.Refusal.{Refusal}
 use Rattle.dnsv_program.specs.Files.Capture.{AreFramesRefused, Demand, AnyMessage, NewEvidence, Meets, Fails, AllTaken, Holds, FrameRefused, FirstRefused, IsFaultOfCapture, IsNowhere, IsRefusal}
@@ -165,6 +165,7 @@ module _ (laws : LayerLaws) where
       no_capture_fault messages (fault.Refused why place) x refused = holding_stands messages why place x refused
       no_capture_fault messages (fault.TooLong Capture) x long = too_many (length file) file_limit x.framing.within long.0
       no_capture_fault messages (fault.TooLong Statements) x long = long
+      no_capture_fault messages (fault.TooLong Answers) x long = long
       no_capture_fault messages (fault.TooLong Anchors) x long = long
       no_capture_fault messages (fault.TooLong Keys) x long = long
       no_capture_fault messages (fault.TooLong Macs) x long = long
@@ -189,11 +190,13 @@ module _ (laws : LayerLaws) where
       one_capture_fault (fault.TooLong Capture) (fault.Refused b q) x y = absurd (no_long_refusal b q y x)
       one_capture_fault (fault.TooLong Capture) (fault.TooLong Capture) x y = refl
       one_capture_fault (fault.TooLong Statements) b x y = absurd x
+      one_capture_fault (fault.TooLong Answers) b x y = absurd x
       one_capture_fault (fault.TooLong Anchors) b x y = absurd x
       one_capture_fault (fault.TooLong Keys) b x y = absurd x
       one_capture_fault (fault.TooLong Macs) b x y = absurd x
       one_capture_fault (fault.TooLong Questions) b x y = absurd x
       one_capture_fault a (fault.TooLong Statements) x y = absurd y
+      one_capture_fault a (fault.TooLong Answers) x y = absurd y
       one_capture_fault a (fault.TooLong Anchors) x y = absurd y
       one_capture_fault a (fault.TooLong Keys) x y = absurd y
       one_capture_fault a (fault.TooLong Macs) x y = absurd y

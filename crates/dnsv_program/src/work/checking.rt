@@ -1,18 +1,25 @@
 //! The work of `check` and of `explain`: the question and the files are read, and then it is judged.
-ghost use Rattle.std.specs.Prelude.{◌≡◌, IfErr, IfOk, string_bytes};
+ghost use Rattle.std.specs.Prelude.{◌≡◌, ◌⊎◌, IfErr, IfOk, string_bytes};
 ghost use Rattle.dnsv_canonical.specs.Rrsets.{IsQuestion};
 ghost use Rattle.dnsv_program.specs.Files.Faults.{OfFailedRead, TellsFaults};
 ghost use Rattle.dnsv_program.specs.Files.{AreTold, Files};
 ghost use Rattle.dnsv_program.specs.Run.{IsAnswered, IsFaultOfQuestion, IsFirstFaultOfCheck, IsFirstFaultOfName};
 ghost use Rattle.dnsv_program.specs.Run.{IsReachedByCheck, IsReachedOfFiles};
-ghost use Rattle.dnsv_program.specs.Work.Checking.{IsCheck};
+ghost use Rattle.dnsv_program.specs.Told.{IsFaultOf};
+ghost use Rattle.dnsv_program.specs.Work.Checking as specs;
+ghost use Rattle.dnsv_program.specs.Work.Checking.{IsCheck, IsJudged};
+ghost use Rattle.dnsv_program.specs.Work.Known.{AreMiscountedIn, Ground};
+ghost use Rattle.dnsv_verdict.specs.Verdict.{basis_of};
+ghost use Rattle.dnsv_verdict.specs.Way.{IsRefusedFor};
+ghost use Rattle.dnsv_verdict.specs.declared.error.VerdictError.{VerdictError};
 ghost use Rattle.dnsv_program.specs.declared.status.Status.TheVariants.{Refused};
 
 use crate::command_line::moment::Moment;
 use crate::command_line::question::question_name;
 use crate::status::Fault;
-use crate::work::given::given_in;
+use crate::work::given::{Given, given_in};
 use crate::work::judging::{Asked, Telling, judge};
+use crate::work::known::open_case;
 use crate::work::{Inputs, Outcome};
 use bumpalo::Bump;
 use dnsv_names::RecordType;
@@ -69,13 +76,36 @@ fn check_question<R: Read>(
     ensures unrefused { IfOk result (λ outcome. outcome.status ≡ Refused → ⊥) }
 {
     let given = given_in(alloc, asked.moment, inputs, bump)?;
+    judge_given(alloc, bump, telling, asked, &given)
+}
+
+/// The verdict on the question by what the files say, and why it stands, where that is asked for.
+///
+/// The fault is that there are more or fewer answers than entries, and then that an alias can't be followed.
+fn judge_given(
+    alloc: Global,
+    bump: &Bump,
+    telling: Telling,
+    asked: &Asked<'_>,
+    given: &Given<'_>,
+) -> Result<Outcome, Fault>
+    requires { IsQuestion asked.now.name.now asked.now.rtype.0 }
+    ensures verdict { IfOk result (λ outcome. (ground : Ground asked.now.moment given.now.held.rrsets given.now.said)
+        × IsJudged telling.format telling.why ground.numbers (basis_of given.now.held.rrsets given.now.anchors
+        asked.now.moment ground.meaning) asked.now.name.now asked.now.rtype.0 outcome.status
+        (string_bytes outcome.text)) }
+    ensures only { IfErr result (λ told. IsFaultOf (AreMiscountedIn asked.now.moment given.now.held.rrsets
+        given.now.said) told ⊎ ((ground : Ground asked.now.moment given.now.held.rrsets given.now.said)
+        × (error : VerdictError) × IsRefusedFor (basis_of given.now.held.rrsets given.now.anchors asked.now.moment
+        ground.meaning) asked.now.name.now asked.now.rtype.0 error × (told ≡ specs.verdict_fault error))) }
+{
+    let mut opened = open_case(alloc, bump, telling.why, asked.moment, given)?;
     judge(
         alloc,
-        bump,
+        &mut opened.judging,
         telling,
         asked,
-        &given.held,
-        &given.anchors,
-        &given.statements,
+        given.held.rrsets(),
+        &opened.numbers,
     )
 }

@@ -1,12 +1,13 @@
 use Rattle.std.proofs.Common.{inl}
 use Rattle.std.proofs.lemmas.Result.{err_from_is_err_and}
-use Rattle.dnsv_verifier.specs.Statements.{listed_answer}
-use Rattle.dnsv_verdict.specs.Verdict.{Basis, basis_of}
+use Rattle.dnsv_verdict.specs.Verdict.{basis_of}
 use Rattle.dnsv_verdict.specs.Way.{IsRefusedFor}
+use Rattle.dnsv_verdict.specs.declared.error.VerdictError.{VerdictError}
 use Rattle.dnsv_program.specs.Run.{IsFirstFaultOfFiles, IsFirstFaultOfName, IsReachedOfFiles}
+use Rattle.dnsv_program.specs.Work.Known.{AreMiscountedIn, Ground}
 use Rattle.dnsv_program.proofs.FileLemmas.Faults.{beside_passed, with_questions}
-use Rattle.dnsv_program.proofs.JudgedLemmas.{all_judged, judged_unrefused, stopped_there, unjudged_read, unjudged_writes}
-use Rattle.dnsv_program.proofs.WorkLemmas.Checking.{all_checked}
+use Rattle.dnsv_program.proofs.JudgedLemmas.{given_or_refused, judged_unrefused, stopped_there, ungiven_read, ungiven_writes}
+use Rattle.dnsv_program.proofs.WorkLemmas.Checking.{all_checked, all_given, none_given}
 use Rattle.dnsv_program.proofs.work.checking.check_question.Goals as goal
 
 pub returns-in_err-given-clause-faults : goal.returns-in_err-given-clause-faults
@@ -23,22 +24,31 @@ returns-in_err-given-clause-reached g c = λ files are.
 pub returns-clause-faults : goal.returns-clause-faults
 returns-clause-faults g c =
     let given = c.in_ok-given.given in
-    let basis : Basis = basis_of given.held.rrsets given.anchors c.args.asked.now.moment (listed_answer given.statements) in
-    all_judged c.args.asked.now.name.now c.args.asked.now.rtype.0 c.args.asked.now.moment (λ error. IsRefusedFor basis c.args.asked.now.name.now c.args.asked.now.rtype.0 error)
-    given c.judge.result c.in_ok-given.ensures.faults c.given_in.ensures.questions
-    (λ files error are refused. stopped_there c.args.asked.now.name.now c.args.asked.now.rtype.0 c.args.asked.now.moment files (c.in_ok-given.ensures.given files are.beside) error refused)
-    c.judge.ensures.only
+    let asked = c.args.asked.now in
+    given_or_refused (AreMiscountedIn asked.moment given.held.rrsets given.said)
+    (λ (ground : Ground asked.moment given.held.rrsets given.said) (error : VerdictError).
+    IsRefusedFor (basis_of given.held.rrsets given.anchors asked.moment ground.meaning) asked.name.now asked.rtype.0 error)
+    asked.name.now asked.rtype.0 asked.moment given c.judge_given.result c.in_ok-given.ensures.faults c.given_in.ensures.questions
+    (λ files are. none_given asked.moment files (c.in_ok-given.ensures.given files are))
+    (λ ground files error are refused. stopped_there asked.name.now asked.rtype.0 asked.moment files
+    (all_given asked.moment files (c.in_ok-given.ensures.given files are.beside) ground.meaning ground.numbers ground.knows) error refused)
+    c.judge_given.ensures.only
 
 pub returns-clause-text : goal.returns-clause-text
 returns-clause-text g c = λ files are.
     all_checked c.args.telling.format c.args.telling.why c.args.asked.now.name.now c.args.asked.now.rtype.0 c.args.asked.now.moment files
-    (c.in_ok-given.ensures.given files are.beside) c.judge.result c.judge.ensures.verdict
+    (c.in_ok-given.ensures.given files are.beside) c.judge_given.result c.judge_given.ensures.verdict
 
 pub returns-clause-reached : goal.returns-clause-reached
-returns-clause-reached g c = λ files are. unjudged_read _ (IsReachedOfFiles c.args.asked.now.moment files) c.judge.result c.judge.ensures.only
+returns-clause-reached g c = λ files are.
+    ungiven_read (AreMiscountedIn c.args.asked.now.moment c.in_ok-given.given.held.rrsets c.in_ok-given.given.said) _ (IsReachedOfFiles c.args.asked.now.moment files) c.judge_given.result
+    c.judge_given.ensures.only
 
 pub returns-clause-unwritten : goal.returns-clause-unwritten
-returns-clause-unwritten g c = unjudged_writes _ c.judge.result c.judge.ensures.only
+returns-clause-unwritten g c =
+    ungiven_writes (AreMiscountedIn c.args.asked.now.moment c.in_ok-given.given.held.rrsets c.in_ok-given.given.said) _ c.judge_given.result c.judge_given.ensures.only
 
 pub returns-clause-unrefused : goal.returns-clause-unrefused
-returns-clause-unrefused g c = judged_unrefused _ _ _ _ _ c.judge.result c.judge.ensures.verdict
+returns-clause-unrefused g c =
+    judged_unrefused c.args.telling.format c.args.telling.why c.args.asked.now.name.now c.args.asked.now.rtype.0 c.args.asked.now.moment c.in_ok-given.given.held.rrsets
+    c.in_ok-given.given.anchors c.in_ok-given.given.said c.judge_given.result c.judge_given.ensures.verdict

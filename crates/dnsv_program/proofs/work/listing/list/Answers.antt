@@ -12,7 +12,7 @@ pub returns-in_err-held-clause-faults : goal.returns-in_err-held-clause-faults
 returns-in_err-held-clause-faults g c =
     let p = err_from_is_err_and c.from_residual.result c.from_residual.ensures.1 in
     rw (p.1, p.2) (with_questions (IsFirstFaultOfList (lists_all c.args.listing)) (IsFirstFaultOfList (lists_all c.args.listing)) _ (λ files fault holds. holds) refl
-    (captured Plain (IsFirstFaultOfList (lists_all c.args.listing)) c.in_err-held.field-0.0 (λ files are fault holds. list_captured (lists_all c.args.listing) files fault holds) refl refl
+    (captured Plain (IsFirstFaultOfList (lists_all c.args.listing)) c.in_err-held.field-0.0 (λ files are fault holds. list_captured (lists_all c.args.listing) files fault holds) refl refl refl
     (reads_untouched _ _ _ refl, reads_untouched _ _ _ refl) c.in_err-held.ensures.faults))
 
 pub returns-in_err-held-clause-reached : goal.returns-in_err-held-clause-reached
