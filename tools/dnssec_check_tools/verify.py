@@ -105,7 +105,7 @@ def statements_to(options: argparse.Namespace) -> Tuple[str, bool]:
 def answers_to(options: argparse.Namespace) -> Tuple[str, bool]:
     """The file of answers to a compact list, and whether all of its entries are answered."""
     (path,) = options.files
-    heading = compact.heading(read(options.capture), options.moment)
+    heading = compact.heading(compact.digest_of_capture(read(options.capture)), options.moment)
     entries = list(compact.entries_of(lines_of(path), lambda number: place_in(path, number)))
     said = list(each_said(entries, Verifier(options.budget, Kept()).answer_to))
     return heading + "".join(f"{each or OPEN}\n" for each in said), None not in said

@@ -181,6 +181,11 @@ def entries_of(lines: Iterable[str], place_of: Callable[[int], str]) -> Iterator
             yield entry
 
 
-def heading(capture: bytes, moment: int) -> str:
-    """The first line of a file of answers: those to the list of this capture at this moment."""
-    return f"of {hashlib.sha256(capture).hexdigest()} {moment}\n"
+def digest_of_capture(octets: bytes) -> str:
+    """As `sha256sum` prints it."""
+    return hashlib.sha256(octets).hexdigest()
+
+
+def heading(digest: str, moment: int) -> str:
+    """The first line of a file of answers: those to the list of the capture with this digest, at this moment."""
+    return f"of {digest} {moment}\n"
