@@ -83,5 +83,5 @@ def answered(front: str, said: List[str]) -> Answered:
 def cut_note(budget: Budget, read: int) -> str:
     return (
         f"more is listed to be verified than the {budget.octets:,} octets of the budget: the program was ended behind "
-        f"{read:,} of them, and what is left isn't verified; --budget-octets OCTETS gives more"
+        f"{read:,} of them, and none of it is verified; --budget-octets OCTETS gives more"
     )

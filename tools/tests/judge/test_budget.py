@@ -15,7 +15,7 @@ from .helper import Judging, capture_of, needs_dns, verdicts
 WWW, NOSUCH = map(capture_of, ("bind-www-a", "bind-nosuch"))
 SECONDS = "signatures aren't verified: the 0 seconds of the budget are over; --budget SECONDS gives more\n"
 OCTETS = "more is listed to be verified than the {0:,} octets of the budget: the program was ended behind {1:,} of them, and " \
-    "what is left isn't verified; --budget-octets OCTETS gives more\n"
+    "none of it is verified; --budget-octets OCTETS gives more\n"
 
 
 @needs_dns
@@ -159,7 +159,7 @@ class Once(Room):
         endless = "while true; do echo key $((number += 1)) 13 02; done"
         for moments in ([1], [1, 2]):
             told = self.write(f"[ $3 = --moment=3 ] || {endless}; {self.LIST}; {self.TODO}", [3, *moments], verifier.Kept())
-            self.assertEqual(told, ({3: ["bad"]}, [OCTETS.format(200, 195).rstrip("\n")]))
+            self.assertEqual(told, ({3: ["bad"]}, [OCTETS.format(200, 199).rstrip("\n")]))
 
 
 if __name__ == "__main__":
