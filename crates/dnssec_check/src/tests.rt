@@ -14,6 +14,7 @@ use std::alloc::Global;
 use std::process::Abort;
 use std::test::Fail;
 
+mod answered;
 mod asking;
 mod captures;
 mod checking;
@@ -60,6 +61,11 @@ fn explains_as_the_rows_say(rt: HostRuntime) -> Result<(), Fail> {
 #[test]
 fn answers_many_questions_as_the_rows_say(rt: HostRuntime) -> Result<(), Fail> {
     meets(&rt, questions::SHARED, questions::ROWS)
+}
+
+#[test]
+fn takes_answers_by_number_as_the_rows_say(rt: HostRuntime) -> Result<(), Fail> {
+    meets(&rt, answered::SHARED, answered::ROWS)
 }
 
 #[test]

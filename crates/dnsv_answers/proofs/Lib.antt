@@ -1,5 +1,6 @@
 pub mod AnswerLaws
 pub mod AnswerLemmas
+pub mod AnsweredLaws
 pub mod AnsweredLemmas
 pub mod DecimalLemmas
 pub mod DigestLemmas

@@ -1,7 +1,8 @@
 //! What answers by number say: the table of a capture's entries with them.
-ghost use Rattle.std.specs.Prelude.{◌≡◌, ◌⊎◌, ℕ, IfErr, IfOk, map};
+ghost use Rattle.std.specs.Prelude.{◌≡◌, ◌⊎◌, ℕ, IfErr, IfOk, List, length, map};
 ghost use Rattle.dnsv_verifier.specs.Asked.{IsNumberAsked};
-ghost use Rattle.dnsv_verifier.specs.Table.{IsTableOf};
+ghost use Rattle.dnsv_canonical.specs.Rrsets.{ReceivedRrset};
+ghost use Rattle.dnsv_verifier.specs.Table.{IsTableOf, TableContents, table_answer};
 ghost use Rattle.dnsv_verifier.specs.declared.answer.Answer.{Answer};
 ghost use Rattle.dnsv_answers.specs.AnswerFile.{AreMiscounted, answers_in};
 ghost use Rattle.dnsv_answers.specs.Answered.{IsAnsweredTable};
@@ -33,6 +34,17 @@ pub fn answered_table<'b>(
     let said = said_answers(alloc, answers.as_slice())?;
     Ok(asked.with_answers(said))
 }
+
+/// A law of answers: a table of them is that of a verifier, which says what the table does; there is one table for the
+/// answers, and it has as many as entries are asked.
+pub fn answers_are_a_verifier()
+    ensures verifier { (moment : ℕ) (rrsets : List ReceivedRrset) (said : List Answer) (table : TableContents)
+        → IsAnsweredTable moment rrsets said table → IsTableOf (table_answer table) moment rrsets table }
+    ensures one { (moment : ℕ) (rrsets : List ReceivedRrset) (said : List Answer) (a b : TableContents)
+        → IsAnsweredTable moment rrsets said a → IsAnsweredTable moment rrsets said b → a ≡ b }
+    ensures count { (moment : ℕ) (rrsets : List ReceivedRrset) (said : List Answer) (table : TableContents) (count : ℕ)
+        → IsAnsweredTable moment rrsets said table → IsNumberAsked moment rrsets count → length said ≡ count }
+{}
 
 /// The table of the capture's entries at the moment, of which nothing is known.
 fn ask_nobody<'b>(

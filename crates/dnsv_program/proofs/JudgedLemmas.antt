@@ -119,7 +119,7 @@ all_judged {before = before} {after = after} name rtype moment Refused x result 
 
 -- a question over files that were all taken is refused on its way
 pub stopped_there : (name : Labels) (rtype moment : ℕ) (files : Files) {rrsets : List ReceivedRrset} {anchors : List Anchor} {meaning : Entry → Answer}
-    → AreGivenBy moment files rrsets anchors meaning → (error : VerdictError) → IsRefusedFor (basis_of rrsets anchors moment meaning) name rtype error
+    {numbers : Option (List ℕ)} → AreGivenBy moment files rrsets anchors meaning numbers → (error : VerdictError) → IsRefusedFor (basis_of rrsets anchors moment meaning) name rtype error
     → IsStopped name rtype moment files (verdict_fault error)
 stopped_there name rtype moment files are error refused = record {
   given = are.given;
@@ -153,41 +153,41 @@ verdict_unrefused (verdicts.Pending entries) same = cc
 verdict_unrefused verdicts.Bogus same = cc
 verdict_unrefused verdicts.Indeterminate same = cc
 
-pub judged_unrefused : {E : Type 0} (format : Format) (why : Bool) (basis : Basis) (name : Labels) (rtype : ℕ) (result : Result Outcome E)
-    → IfOk result (λ outcome. IsJudged format why basis name rtype outcome.status (string_bytes outcome.text))
+pub judged_unrefused : {E : Type 0} (format : Format) (why : Bool) (numbers : Option (List ℕ)) (basis : Basis) (name : Labels) (rtype : ℕ) (result : Result Outcome E)
+    → IfOk result (λ outcome. IsJudged format why numbers basis name rtype outcome.status (string_bytes outcome.text))
     → IfOk result (λ outcome. outcome.status ≡ status.Refused → ⊥)
-judged_unrefused format why basis name rtype (Ok outcome) judged = λ same. verdict_unrefused judged.report.verdict (sym judged.ends ∙ same)
-judged_unrefused format why basis name rtype (Err told) judged = tt
+judged_unrefused format why numbers basis name rtype (Ok outcome) judged = λ same. verdict_unrefused judged.report.verdict (sym judged.ends ∙ same)
+judged_unrefused format why numbers basis name rtype (Err told) judged = tt
 
 -- ---- a report as an answer
 
-module _ (format : Format) (why : Bool) (basis : Basis) (asked : Asked) (name : Labels) (rtype moment : ℕ) (rrsets : List ReceivedRrset)
+module _ (format : Format) (why : Bool) (numbers : Option (List ℕ)) (basis : Basis) (asked : Asked) (name : Labels) (rtype moment : ℕ) (rrsets : List ReceivedRrset)
     (report : Report) (told : Option (List Line)) where
   pub answered_so : {E : Type 0} (result : Result Outcome E) → name ≡ asked.name → rtype ≡ asked.rtype → rrsets ≡ basis.rrsets → basis.moment ≡ moment
       → IsQuestion name rtype → IsVerdictOf basis name rtype report.links report.last report.verdict → IsWhy why basis rtype report told
       → IfOk result (λ outcome. outcome.status ≡ verdict_status report.verdict)
       → IfOk result (λ outcome. string_bytes outcome.text
-      ≡ check_text format name rtype moment (status_code outcome.status) rrsets report.links report.verdict told None)
-      → IfOk result (λ outcome. IsAnswer format why basis asked outcome.status (string_bytes outcome.text))
+      ≡ check_text format name rtype moment (status_code outcome.status) rrsets report.links report.verdict told numbers)
+      → IfOk result (λ outcome. IsAnswer format why numbers basis asked outcome.status (string_bytes outcome.text))
   answered_so (Err fault) names types same at may verdict is_told ends lines = tt
   answered_so (Ok outcome) names types same at may verdict is_told ends lines =
-      let judged : IsJudged format why basis name rtype outcome.status (string_bytes outcome.text) = record {
+      let judged : IsJudged format why numbers basis name rtype outcome.status (string_bytes outcome.text) = record {
         report = report;
         is_verdict = verdict;
         told = told;
         is_told = is_told;
         ends = ends;
         lines = lines
-            ∙ (λ i. check_text format name rtype (sym at i) (status_code outcome.status) (same i) report.links report.verdict told None);
+            ∙ (λ i. check_text format name rtype (sym at i) (status_code outcome.status) (same i) report.links report.verdict told numbers);
       } in
-      subst (λ (t : ℕ). IsAnswer format why basis (record { name = asked.name; rtype = t }) outcome.status (string_bytes outcome.text)) types
-      (subst (λ (n : Labels). IsAnswer format why basis (record { name = n; rtype = rtype }) outcome.status (string_bytes outcome.text)) names (inl (may, judged)))
+      subst (λ (t : ℕ). IsAnswer format why numbers basis (record { name = asked.name; rtype = t }) outcome.status (string_bytes outcome.text)) types
+      (subst (λ (n : Labels). IsAnswer format why numbers basis (record { name = n; rtype = rtype }) outcome.status (string_bytes outcome.text)) names (inl (may, judged)))
 
-pub refused_so : {E : Type 0} (format : Format) (why : Bool) (basis : Basis) (asked : Asked) (name : Labels) (rtype : ℕ) (result : Result Outcome E)
+pub refused_so : {E : Type 0} (format : Format) (why : Bool) (numbers : Option (List ℕ)) (basis : Basis) (asked : Asked) (name : Labels) (rtype : ℕ) (result : Result Outcome E)
     → name ≡ asked.name → rtype ≡ asked.rtype
     → IfOk result (λ outcome. IsRefusedOne format why basis (record { name = name; rtype = rtype }) outcome.status (string_bytes outcome.text))
-    → IfOk result (λ outcome. IsAnswer format why basis asked outcome.status (string_bytes outcome.text))
-refused_so format why basis asked name rtype (Err fault) names types told = tt
-refused_so format why basis asked name rtype (Ok outcome) names types told =
-    subst (λ (t : ℕ). IsAnswer format why basis (record { name = asked.name; rtype = t }) outcome.status (string_bytes outcome.text)) types
-    (subst (λ (n : Labels). IsAnswer format why basis (record { name = n; rtype = rtype }) outcome.status (string_bytes outcome.text)) names (inr told))
+    → IfOk result (λ outcome. IsAnswer format why numbers basis asked outcome.status (string_bytes outcome.text))
+refused_so format why numbers basis asked name rtype (Err fault) names types told = tt
+refused_so format why numbers basis asked name rtype (Ok outcome) names types told =
+    subst (λ (t : ℕ). IsAnswer format why numbers basis (record { name = asked.name; rtype = t }) outcome.status (string_bytes outcome.text)) types
+    (subst (λ (n : Labels). IsAnswer format why numbers basis (record { name = n; rtype = rtype }) outcome.status (string_bytes outcome.text)) names (inr told))

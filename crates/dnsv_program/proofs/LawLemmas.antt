@@ -4,5 +4,6 @@ pub mod Listed
 pub mod OneCapture
 pub mod OneCompact
 pub mod OneFault
+pub mod OneKnown
 pub mod OneRequest
 pub mod OneText

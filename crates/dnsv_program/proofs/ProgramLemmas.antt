@@ -16,10 +16,10 @@ use Rattle.dnsv_program.specs.declared.status.Refusal.{Refusal}
 use Rattle.dnsv_program.specs.Files.{Files}
 use Rattle.dnsv_program.specs.CommandLine.{IsAccepted}
 use Rattle.dnsv_program.specs.Program.{AreFilesAt, BeganText, IsEnd, RefusedFiles, RefusedWords, WroteFirst, WroteRefused, WroteText, first_unopened, given_path, paths_of}
-use Rattle.dnsv_program.specs.CommandLine.Paths.{anchors_of, capture_of, keys_of, macs_of, questions_of, statements_of}
+use Rattle.dnsv_program.specs.CommandLine.Paths.{anchors_of, answers_of, capture_of, keys_of, macs_of, questions_of, statements_of}
 use Rattle.dnsv_program.specs.Told.{IsOpenFault, IsUnopened}
 use Rattle.dnsv_program.specs.declared.status.InputFile.{InputFile}
-use Rattle.dnsv_program.specs.declared.status.InputFile.TheVariants.{Anchors, Capture, Keys, Macs, Questions, Statements}
+use Rattle.dnsv_program.specs.declared.status.InputFile.TheVariants.{Anchors, Answers, Capture, Keys, Macs, Questions, Statements}
 use Rattle.dnsv_program.specs.Run.{AsksMany, IsTextAskedFor, IsTextOfFirst, IsFirstFault}
 use Rattle.dnsv_program.specs.Status.{fault_code, outcome_code, status_code}
 
@@ -186,8 +186,11 @@ module _ (opens : List ℕ → Bool) (told : Fault) where
     abbrev BehindKeys : List (InputFile × List ℕ)
     BehindKeys = given_path Macs (macs_of request) BehindMacs
 
+    abbrev BehindAnswers : List (InputFile × List ℕ)
+    BehindAnswers = given_path Keys (keys_of request) BehindKeys
+
     abbrev BehindStatements : List (InputFile × List ℕ)
-    BehindStatements = given_path Keys (keys_of request) BehindKeys
+    BehindStatements = given_path Answers (answers_of request) BehindAnswers
 
     abbrev BehindAnchors : List (InputFile × List ℕ)
     BehindAnchors = given_path Statements (statements_of request) BehindStatements
@@ -209,40 +212,51 @@ module _ (opens : List ℕ → Bool) (told : Fault) where
         pub unopened_statements : Stops Statements statements → IsFirst (paths_of request)
         unopened_statements stops = past_anchors (at Statements statements (statements_of request) BehindStatements statements_are stops)
 
-        module _ (statements_opened : Passes opens Statements statements) (keys : Option (List ℕ)) (keys_are : keys ≡ keys_of request) where
+        module _ (statements_opened : Passes opens Statements statements) (answers : Option (List ℕ)) (answers_are : answers ≡ answers_of request) where
           past_statements : IsFirst BehindStatements → IsFirst (paths_of request)
           past_statements first = past_anchors (past Statements statements (statements_of request) BehindStatements statements_are statements_opened first)
 
-          pub unopened_keys : Stops Keys keys → IsFirst (paths_of request)
-          unopened_keys stops = past_statements (at Keys keys (keys_of request) BehindKeys keys_are stops)
+          pub unopened_answers : Stops Answers answers → IsFirst (paths_of request)
+          unopened_answers stops = past_statements (at Answers answers (answers_of request) BehindAnswers answers_are stops)
 
-          module _ (keys_opened : Passes opens Keys keys) (macs : Option (List ℕ)) (macs_are : macs ≡ macs_of request) where
-            past_keys : IsFirst BehindKeys → IsFirst (paths_of request)
-            past_keys first = past_statements (past Keys keys (keys_of request) BehindKeys keys_are keys_opened first)
+          module _ (answers_opened : Passes opens Answers answers) (keys : Option (List ℕ)) (keys_are : keys ≡ keys_of request) where
+            past_answers : IsFirst BehindAnswers → IsFirst (paths_of request)
+            past_answers first = past_statements (past Answers answers (answers_of request) BehindAnswers answers_are answers_opened first)
 
-            pub unopened_macs : Stops Macs macs → IsFirst (paths_of request)
-            unopened_macs stops = past_keys (at Macs macs (macs_of request) BehindMacs macs_are stops)
+            pub unopened_keys : Stops Keys keys → IsFirst (paths_of request)
+            unopened_keys stops = past_answers (at Keys keys (keys_of request) BehindKeys keys_are stops)
 
-            pub unopened_questions : Passes opens Macs macs → (questions : Option (List ℕ)) → questions ≡ questions_of request → Stops Questions questions → IsFirst (paths_of request)
-            unopened_questions macs_opened questions questions_are stops =
-                past_keys (past Macs macs (macs_of request) BehindMacs macs_are macs_opened (at Questions questions (questions_of request) [] questions_are stops))
+            module _ (keys_opened : Passes opens Keys keys) (macs : Option (List ℕ)) (macs_are : macs ≡ macs_of request) where
+              past_keys : IsFirst BehindKeys → IsFirst (paths_of request)
+              past_keys first = past_answers (past Keys keys (keys_of request) BehindKeys keys_are keys_opened first)
+
+              pub unopened_macs : Stops Macs macs → IsFirst (paths_of request)
+              unopened_macs stops = past_keys (at Macs macs (macs_of request) BehindMacs macs_are stops)
+
+              pub unopened_questions : Passes opens Macs macs → (questions : Option (List ℕ)) → questions ≡ questions_of request → Stops Questions questions
+                  → IsFirst (paths_of request)
+              unopened_questions macs_opened questions questions_are stops =
+                  past_keys (past Macs macs (macs_of request) BehindMacs macs_are macs_opened (at Questions questions (questions_of request) [] questions_are stops))
 
 -- where each file opened, none is told
 pub all_opened : (opens : List ℕ → Bool) (request : Request) (path : List ℕ) → true ≡ opens path → path ≡ capture_of request
     → (anchors : Option (List ℕ)) → anchors ≡ anchors_of request → Passes opens Anchors anchors
     → (statements : Option (List ℕ)) → statements ≡ statements_of request → Passes opens Statements statements
+    → (answers : Option (List ℕ)) → answers ≡ answers_of request → Passes opens Answers answers
     → (keys : Option (List ℕ)) → keys ≡ keys_of request → Passes opens Keys keys
     → (macs : Option (List ℕ)) → macs ≡ macs_of request → Passes opens Macs macs
     → (questions : Option (List ℕ)) → questions ≡ questions_of request → Passes opens Questions questions
     → first_unopened opens (paths_of request) ≡ None
-all_opened opens request path opened is_path anchors anchors_are anchors_opened statements statements_are statements_opened keys keys_are keys_opened macs macs_are macs_opened questions questions_are questions_opened =
+all_opened opens request path opened is_path anchors anchors_are anchors_opened statements statements_are statements_opened answers answers_are answers_opened keys keys_are keys_opened macs macs_are macs_opened questions questions_are questions_opened =
     let behind_macs = given_path Questions (questions_of request) [] in
     let behind_keys = given_path Macs (macs_of request) behind_macs in
-    let behind_statements = given_path Keys (keys_of request) behind_keys in
+    let behind_answers = given_path Keys (keys_of request) behind_keys in
+    let behind_statements = given_path Answers (answers_of request) behind_answers in
     let behind_anchors = given_path Statements (statements_of request) behind_statements in
     opened_first opens Capture (capture_of request) (given_path Anchors (anchors_of request) behind_anchors) (ap opens (sym is_path) ∙ sym opened)
     ∙ ap (λ given. first_unopened opens (given_path Anchors given behind_anchors)) (sym anchors_are) ∙ anchors_opened behind_anchors
     ∙ ap (λ given. first_unopened opens (given_path Statements given behind_statements)) (sym statements_are) ∙ statements_opened behind_statements
+    ∙ ap (λ given. first_unopened opens (given_path Answers given behind_answers)) (sym answers_are) ∙ answers_opened behind_answers
     ∙ ap (λ given. first_unopened opens (given_path Keys given behind_keys)) (sym keys_are) ∙ keys_opened behind_keys
     ∙ ap (λ given. first_unopened opens (given_path Macs given behind_macs)) (sym macs_are) ∙ macs_opened behind_macs
     ∙ ap (λ given. first_unopened opens (given_path Questions given [])) (sym questions_are) ∙ questions_opened []

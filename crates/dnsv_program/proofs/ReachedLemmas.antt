@@ -4,8 +4,15 @@ use Rattle.std.specs.Prelude.{List, Option, Some, None, Result, Ok, Err, IfErr}
 use Rattle.dnsv_program.specs.declared.status.Fault.{Fault}
 use Rattle.dnsv_program.specs.declared.status.Fault.TheVariants as fault
 use Rattle.dnsv_program.specs.declared.status.InputFile.{InputFile}
-use Rattle.dnsv_program.specs.declared.status.InputFile.TheVariants.{Anchors, Capture, Keys, Macs, Questions, Statements}
-use Rattle.dnsv_program.specs.Opening.Given.{IsOpeningReached}
+use Rattle.dnsv_program.specs.declared.status.InputFile.TheVariants.{Anchors, Answers, Capture, Keys, Macs, Questions, Statements}
+use Rattle.dnsv_program.specs.declared.status.Place.{Place}
+use Rattle.dnsv_program.specs.declared.status.Refusal.{Refusal}
+use Rattle.dnsv_program.specs.declared.opening.Opening.{Opening}
+use Rattle.dnsv_program.specs.Opening.Given.{IsOpeningOf, IsOpeningReached}
+use Rattle.dnsv_chain.specs.declared.anchor.Anchor.{Anchor}
+use Rattle.dnsv_program.specs.Files.Anchors.{HasAnchors}
+use Rattle.dnsv_program.specs.Told.{IsFaultOf}
+use Rattle.dnsv_program.specs.Work.Known.{IsKnownReached}
 use Rattle.dnsv_program.specs.Files.Faults.{IsAbout, OfFailedRead}
 use Rattle.dnsv_message.specs.Streams.Counted.{inner_of}
 use Rattle.dnsv_message.specs.declared.streams.counted.Counted.{Counted}
@@ -63,6 +70,7 @@ in_files moment files Macs holds = holds
 in_files moment files Capture holds = absurd holds
 in_files moment files Anchors holds = absurd holds
 in_files moment files Statements holds = absurd holds
+in_files moment files Answers holds = absurd holds
 in_files moment files Questions holds = absurd holds
 
 -- the files that questions are judged by are read behind the questions
@@ -73,6 +81,7 @@ behind_questions moment files has Macs holds = (has, holds)
 behind_questions moment files has Capture holds = (has, holds)
 behind_questions moment files has Anchors holds = (has, holds)
 behind_questions moment files has Statements holds = (has, holds)
+behind_questions moment files has Answers holds = (has, holds)
 behind_questions moment files has Questions holds = absurd holds
 
 pub reached_behind : (moment : ℕ) (files : Files) → (asked : List Asked) × HasQuestions (octets_or_none files.questions) asked
@@ -82,6 +91,32 @@ reached_behind moment files has told = weaker_told (IsReachedOfFiles moment file
 -- the keys and the MACs are read first
 pub reached_sealed : (moment : ℕ) (files : Files) (told : Fault) → OfFailedRead (IsOpeningReached files.keys files.macs) told → OfFailedRead (IsReachedOfFiles moment files) told
 reached_sealed moment files told = weaker_told (IsOpeningReached files.keys files.macs) (IsReachedOfFiles moment files) told (in_files moment files)
+
+-- what is known of signatures is read behind evidence and the anchors
+known_in : (moment : ℕ) (files : Files) → (opening : Opening) × IsOpeningOf files.keys files.macs moment opening × HasEvidence opening files.capture
+    × ((anchors : List Anchor) × HasAnchors (octets_or_none files.anchors) anchors)
+    → (file : InputFile) → IsKnownReached files.statements files.answers file → IsReachedOfFiles moment files file
+known_in moment files before Statements holds = (before.0, before.1, before.2, before.3, holds)
+known_in moment files before Answers holds = (before.0, before.1, before.2, before.3, holds)
+known_in moment files before Capture holds = absurd holds
+known_in moment files before Anchors holds = absurd holds
+known_in moment files before Keys holds = absurd holds
+known_in moment files before Macs holds = absurd holds
+known_in moment files before Questions holds = absurd holds
+
+pub reached_known : (moment : ℕ) (files : Files) → (opening : Opening) × IsOpeningOf files.keys files.macs moment opening × HasEvidence opening files.capture
+    × ((anchors : List Anchor) × HasAnchors (octets_or_none files.anchors) anchors)
+    → (told : Fault) → OfFailedRead (IsKnownReached files.statements files.answers) told → OfFailedRead (IsReachedOfFiles moment files) told
+reached_known moment files before told = weaker_told (IsKnownReached files.statements files.answers) (IsReachedOfFiles moment files) told (known_in moment files before)
+
+-- where what was read is refused no failed read is told
+pub refused_reached : (P : Refusal → Place → Type 0) (Holds : InputFile → Type 0) (told : Fault) → IsFaultOf P told → OfFailedRead Holds told
+refused_reached P Holds (fault.Refused why place) is = tt
+refused_reached P Holds fault.OutOfMemory is = tt
+refused_reached P Holds (fault.ReadFailed file) is = absurd is
+refused_reached P Holds (fault.TooLong file) is = tt
+refused_reached P Holds (fault.OpenFailed file) is = tt
+refused_reached P Holds fault.WriteFailed is = tt
 
 -- a list reads the file of captured messages first
 pub list_captured : (all : Bool) (files : Files) (told : Fault) → IsFaultOfCapture NewEvidence Plain files.capture told → IsFirstFaultOfList all files told
@@ -96,3 +131,7 @@ list_reached false files = tt
 pub list_stated : (all : Bool) (files : Files) → all ≡ false → HasEvidence Plain files.capture → IsGiven files.statements → IsReachedByList all files Statements
 list_stated true files none has given = absurd (false≢true (sym none))
 list_stated false files none has given = (has, given)
+
+-- and no failed write
+pub refused_unwritten : (P : Refusal → Place → Type 0) (told : Fault) → IsFaultOf P told → told ≡ fault.WriteFailed → ⊥
+refused_unwritten P told is same = subst (IsFaultOf P) same is

@@ -21,6 +21,8 @@ use Rattle.dnsv_program.specs.CommandLine.Commands.{program_app}
 use Rattle.dnsv_program.specs.CommandLine.Moment.{last_moment}
 use Rattle.dnsv_program.specs.declared.command_line.request.Asking.{Asking}
 use Rattle.dnsv_program.specs.declared.command_line.request.Asking.TheVariants as asking
+use Rattle.dnsv_program.specs.declared.command_line.request.Known.{Known}
+use Rattle.dnsv_program.specs.declared.command_line.request.Known.TheVariants as known
 use Rattle.dnsv_program.specs.declared.command_line.request.Listing.{Listing}
 use Rattle.dnsv_program.specs.declared.command_line.request.Listing.TheVariants as listing
 use Rattle.dnsv_program.specs.declared.command_line.request.Request.{Request}
@@ -68,6 +70,18 @@ AsksFor rows (asking.Each questions) = (first_of (codes "name") rows ≡ None)
 abbrev pub IsUnclear : List Row → Type 0
 IsUnclear rows = (asked : Asking) → AsksFor rows asked → ⊥
 
+-- what is known of signatures is asked by statements, where they are given, or by answers
+abbrev pub GoesBy : List Row → Known → Type 0
+GoesBy rows (known.Statements statements) = (first_of (codes "statements") rows ≡ option_map string_bytes statements)
+    × (first_of (codes "answers") rows ≡ None)
+GoesBy rows (known.Answers answers) = (first_of (codes "statements") rows ≡ None)
+    × (first_of (codes "answers") rows ≡ Some (string_bytes answers))
+
+-- both are named
+abbrev pub GoesByBoth : List Row → Type 0
+GoesByBoth rows =
+    (is_some (first_of (codes "statements") rows) ≡ true) × (is_some (first_of (codes "answers") rows) ≡ true)
+
 -- they ask for two lists
 abbrev pub AsksForTwoLists : List Row → Type 0
 AsksForTwoLists rows =
@@ -83,12 +97,12 @@ Asks name rows (request.List capture moment statements lists format) = (name ≡
     × (first_of (codes "statements") rows ≡ option_map string_bytes statements)
     × (listing_said (flag_said (one_of (codes "all") rows)) (flag_said (one_of (codes "compact") rows)) ≡ Some lists)
     × (format_said (flag_said (one_of (codes "json") rows)) ≡ format)
-Asks name rows (request.Check capture anchors moment asking statements keys macs format why) = (name ≡ question_word why)
+Asks name rows (request.Check capture anchors moment asking known keys macs format why) = (name ≡ question_word why)
     × (first_of (codes "capture") rows ≡ Some (string_bytes capture))
     × (first_of (codes "anchors") rows ≡ Some (string_bytes anchors))
     × (option_and_then (number_said last_moment) (first_of (codes "moment") rows) ≡ Some moment)
     × AsksFor rows asking
-    × (first_of (codes "statements") rows ≡ option_map string_bytes statements)
+    × GoesBy rows known
     × (first_of (codes "keys") rows ≡ option_map string_bytes keys)
     × (first_of (codes "macs") rows ≡ option_map string_bytes macs)
     × (format_said (flag_said (one_of (codes "json") rows)) ≡ format)
@@ -108,13 +122,16 @@ is_asked kind.DisplayVersion = true
 is_asked _ = false
 
 -- help or the version was asked for, or the words have a mistake, of a kind that the program gives at them; or they have
--- none, and a subcommand for questions isn't told which, or two lists are asked for
+-- none, and a subcommand for questions isn't told which, or is told statements and answers, or two lists are asked for
 abbrev pub IsRefused : List Text → CommandLineError → Type 0
 IsRefused words line.OutOfMemory = ⊤
 IsRefused words line.NotText = ⊥
 IsRefused words line.Unclear = (fault_of program_app words ≡ [])
     × ((why : Bool) × (rows : List Row) × (subcommand_of program_app words ≡ Some (question_word why, rows))
     × IsUnclear rows)
+IsRefused words line.BothKnown = (fault_of program_app words ≡ [])
+    × ((why : Bool) × (rows : List Row) × (subcommand_of program_app words ≡ Some (question_word why, rows))
+    × GoesByBoth rows)
 IsRefused words line.TwoLists = (fault_of program_app words ≡ [])
     × ((rows : List Row) × (subcommand_of program_app words ≡ Some (codes "list", rows)) × AsksForTwoLists rows)
 IsRefused words (line.Help refusal) =
@@ -142,6 +159,7 @@ command_line_code line.OutOfMemory = 1
 command_line_code line.NotText = 2
 command_line_code line.Unclear = 2
 command_line_code line.TwoLists = 2
+command_line_code line.BothKnown = 2
 command_line_code (line.Help refusal) = 0
 command_line_code (line.Misused refusal) = 2
 

@@ -1,5 +1,6 @@
 -- The files of a run, and what their readers tell of them.
 pub mod Anchors
+pub mod Answers
 pub mod Capture
 pub mod Faults
 pub mod Questions
@@ -15,6 +16,7 @@ pub record Files : Type 0 where
   pub capture : List ℕ
   pub anchors : Option (List ℕ)
   pub statements : Option (List ℕ)
+  pub answers : Option (List ℕ)
   pub keys : Option (List ℕ)
   pub macs : Option (List ℕ)
   pub questions : Option (List ℕ)
@@ -47,6 +49,7 @@ pub record AreToldBeside {R : Type 0} (remaining : R → Option (List ℕ)) (inp
   pub capture : remaining (inner_of inputs.capture) ≡ Some files.capture
   pub anchors : IsToldBy remaining inputs.anchors files.anchors
   pub statements : IsToldBy remaining inputs.statements files.statements
+  pub answers : IsToldBy remaining inputs.answers files.answers
   pub keys : IsToldBy remaining inputs.keys files.keys
   pub macs : IsToldBy remaining inputs.macs files.macs
 

@@ -10,7 +10,7 @@ use Rattle.dnsv_program.specs.declared.command_line.CommandLineError.{CommandLin
 use Rattle.dnsv_program.specs.declared.status.Fault.{Fault}
 use Rattle.dnsv_program.specs.declared.status.Fault.TheVariants as fault
 use Rattle.dnsv_program.specs.declared.status.InputFile.{InputFile}
-use Rattle.dnsv_program.specs.declared.status.InputFile.TheVariants.{Anchors, Capture, Keys, Macs, Questions, Statements}
+use Rattle.dnsv_program.specs.declared.status.InputFile.TheVariants.{Anchors, Answers, Capture, Keys, Macs, Questions, Statements}
 use Rattle.dnsv_program.specs.declared.status.Status.{Status}
 use Rattle.dnsv_program.specs.declared.status.Status.TheVariants.{Refused}
 use Rattle.dnsv_program.specs.declared.status.Place.{Place}
@@ -18,7 +18,7 @@ use Rattle.dnsv_program.specs.declared.status.Refusal.{Refusal}
 use Rattle.dnsv_program.specs.Files.Faults.{OfFailedRead, OfOctets}
 use Rattle.dnsv_program.specs.Files.{Files}
 use Rattle.dnsv_program.specs.CommandLine.{IsAccepted, IsRefused, command_line_code}
-use Rattle.dnsv_program.specs.CommandLine.Paths.{anchors_of, capture_of, keys_of, macs_of, questions_of, statements_of}
+use Rattle.dnsv_program.specs.CommandLine.Paths.{anchors_of, answers_of, capture_of, keys_of, macs_of, questions_of, statements_of}
 use Rattle.dnsv_program.specs.Run.{AsksMany, AsksRefused, IsTextAskedFor, IsTextOfFirst, IsFirstFault, IsReached}
 use Rattle.dnsv_program.specs.Status.{fault_line, status_code}
 
@@ -29,6 +29,7 @@ pub record AreFilesAt (octets_at : List ℕ → Option (List ℕ)) (request : Re
   pub capture : octets_at (capture_of request) ≡ Some files.capture
   pub anchors : option_map octets_at (anchors_of request) ≡ option_map (λ octets. Some octets) files.anchors
   pub statements : option_map octets_at (statements_of request) ≡ option_map (λ octets. Some octets) files.statements
+  pub answers : option_map octets_at (answers_of request) ≡ option_map (λ octets. Some octets) files.answers
   pub keys : option_map octets_at (keys_of request) ≡ option_map (λ octets. Some octets) files.keys
   pub macs : option_map octets_at (macs_of request) ≡ option_map (λ octets. Some octets) files.macs
   pub questions : option_map octets_at (questions_of request) ≡ option_map (λ octets. Some octets) files.questions
@@ -42,7 +43,8 @@ given_path file (Some path) others = (file, path) ∷ others
 abbrev pub paths_of : Request → List (InputFile × List ℕ)
 paths_of request = (Capture, capture_of request)
     ∷ given_path Anchors (anchors_of request) (given_path Statements (statements_of request)
-    (given_path Keys (keys_of request) (given_path Macs (macs_of request) (given_path Questions (questions_of request) []))))
+    (given_path Answers (answers_of request) (given_path Keys (keys_of request) (given_path Macs (macs_of request)
+    (given_path Questions (questions_of request) [])))))
 
 -- the first of the files that doesn't open
 abbrev pub first_unopened : (List ℕ → Bool) → List (InputFile × List ℕ) → Option InputFile

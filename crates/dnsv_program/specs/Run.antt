@@ -2,7 +2,8 @@
 use Rattle.std.specs.Prelude.{◌≡◌, ◌⊎◌, ⊤, ℕ, Bool, true, false, List, string_bytes}
 use Rattle.dnsv_names.specs.Name.{Labels}
 use Rattle.dnsv_message.specs.Message.{Contents}
-use Rattle.dnsv_canonical.specs.Rrsets.{IsQuestion}
+use Rattle.dnsv_canonical.specs.Evidence.{evidence_of}
+use Rattle.dnsv_canonical.specs.Rrsets.{IsQuestion, ReceivedRrset}
 use Rattle.dnsv_chain.specs.declared.anchor.Anchor.{Anchor}
 use Rattle.dnsv_program.specs.declared.opening.Opening.{Opening}
 use Rattle.dnsv_program.specs.declared.opening.Opening.TheVariants.{Plain}
@@ -14,7 +15,7 @@ use Rattle.dnsv_program.specs.declared.command_line.request.Request.TheVariants 
 use Rattle.dnsv_program.specs.declared.status.Fault.{Fault}
 use Rattle.dnsv_program.specs.declared.status.Fault.TheVariants as fault
 use Rattle.dnsv_program.specs.declared.status.InputFile.{InputFile}
-use Rattle.dnsv_program.specs.declared.status.InputFile.TheVariants.{Anchors, Capture, Keys, Macs, Questions, Statements}
+use Rattle.dnsv_program.specs.declared.status.InputFile.TheVariants.{Anchors, Answers, Capture, Keys, Macs, Questions, Statements}
 use Rattle.dnsv_program.specs.declared.status.Status.{Status}
 use Rattle.dnsv_program.specs.declared.status.Status.TheVariants.{Done}
 use Rattle.dnsv_texts.specs.declared.format.Format.{Format}
@@ -24,6 +25,7 @@ use Rattle.dnsv_canonical.specs.Question.{Asked}
 use Rattle.dnsv_program.specs.Files.Questions.{HasQuestions, IsFaultOfQuestions}
 use Rattle.dnsv_program.specs.Work.Asking.{AreAnswered, AreFirstAnswered}
 use Rattle.dnsv_program.specs.Work.Checking.{IsCheck, IsStopped}
+use Rattle.dnsv_program.specs.Work.Known.{IsFaultOfKnown, IsKnownReached}
 use Rattle.dnsv_program.specs.Opening.Given.{IsOpeningOf, IsOpeningReached, IsFaultOfOpening}
 use Rattle.dnsv_program.specs.Files.{Files, IsGiven, octets_or_none}
 use Rattle.dnsv_program.specs.Work.Listing.{IsListing, IsTodo, lists_all}
@@ -49,24 +51,24 @@ abbrev pub IsTextAskedFor : Request → Files → Status → List ℕ → Type 0
 IsTextAskedFor (request.Show capture) files end text = (end ≡ Done) × IsShowing files.capture text
 IsTextAskedFor (request.List capture moment statements lists format) files end text =
     (end ≡ Done) × IsListed lists format moment files text
-IsTextAskedFor (request.Check capture anchors moment (asking.One asked rtype) statements keys macs format why) files end text =
+IsTextAskedFor (request.Check capture anchors moment (asking.One asked rtype) known keys macs format why) files end text =
     IsAnswered format why (string_bytes asked) rtype.0 moment files end text
-IsTextAskedFor (request.Check capture anchors moment (asking.Each questions) statements keys macs format why) files end text =
+IsTextAskedFor (request.Check capture anchors moment (asking.Each questions) known keys macs format why) files end text =
     AreAnswered format why moment files end text
 
 -- the request asks many questions
 abbrev pub AsksMany : Request → Type 0
 AsksMany (request.Show capture) = ⊥
 AsksMany (request.List capture moment statements lists format) = ⊥
-AsksMany (request.Check capture anchors moment (asking.One asked rtype) statements keys macs format why) = ⊥
-AsksMany (request.Check capture anchors moment (asking.Each questions) statements keys macs format why) = Unit {0}
+AsksMany (request.Check capture anchors moment (asking.One asked rtype) known keys macs format why) = ⊥
+AsksMany (request.Check capture anchors moment (asking.Each questions) known keys macs format why) = Unit {0}
 
 -- the request asks many questions, at this moment, in this format, and this says whether it asks why
 abbrev pub IsManyAsked : Request → Format → Bool → ℕ → Type 0
 IsManyAsked (request.Show capture) format why moment = ⊥
 IsManyAsked (request.List capture at statements lists form) format why moment = ⊥
-IsManyAsked (request.Check capture anchors at (asking.One asked rtype) statements keys macs form whether) format why moment = ⊥
-IsManyAsked (request.Check capture anchors at (asking.Each questions) statements keys macs form whether) format why moment =
+IsManyAsked (request.Check capture anchors at (asking.One asked rtype) known keys macs form whether) format why moment = ⊥
+IsManyAsked (request.Check capture anchors at (asking.Each questions) known keys macs form whether) format why moment =
     (format ≡ form) × (why ≡ whether) × (moment ≡ at)
 
 -- what is written at most: of many questions the text of some, from the first on, and else the whole text
@@ -74,9 +76,9 @@ abbrev pub IsTextOfFirst : Request → Files → List ℕ → Type 0
 IsTextOfFirst (request.Show capture) files text = (end : Status) × IsTextAskedFor (request.Show capture) files end text
 IsTextOfFirst (request.List capture moment statements lists format) files text =
     (end : Status) × IsTextAskedFor (request.List capture moment statements lists format) files end text
-IsTextOfFirst (request.Check capture anchors moment (asking.One asked rtype) statements keys macs format why) files text =
+IsTextOfFirst (request.Check capture anchors moment (asking.One asked rtype) known keys macs format why) files text =
     (end : Status) × IsAnswered format why (string_bytes asked) rtype.0 moment files end text
-IsTextOfFirst (request.Check capture anchors moment (asking.Each questions) statements keys macs format why) files text =
+IsTextOfFirst (request.Check capture anchors moment (asking.Each questions) known keys macs format why) files text =
     AreFirstAnswered format why moment files text
 
 -- ---- the first fault
@@ -96,25 +98,27 @@ abbrev pub IsFirstFaultOfList : Bool → Files → Fault → Type 0
 IsFirstFaultOfList true files fault = IsFaultOfCapture NewEvidence Plain files.capture fault
 IsFirstFaultOfList false files fault = IsFirstFaultOfTodo files fault
 
--- behind the file of captured messages, the first fault is in the trust anchors, and then in the statements
-abbrev pub IsFirstFaultBehind : Files → Fault → Type 0
-IsFirstFaultBehind files fault =
+-- behind the file of captured messages, which has these RRsets, the first fault is in the trust anchors, and then in what
+-- is known of signatures
+abbrev pub IsFirstFaultBehind : ℕ → List ReceivedRrset → Files → Fault → Type 0
+IsFirstFaultBehind moment rrsets files fault =
     IsFaultOfAnchors (octets_or_none files.anchors) fault
     ⊎ (((anchors : List Anchor) × HasAnchors (octets_or_none files.anchors) anchors)
-    × IsFaultOfStatements (octets_or_none files.statements) fault)
+    × IsFaultOfKnown files.capture moment rrsets files.statements files.answers fault)
 
 -- where frames are opened so, the first fault is in the file of captured messages, and then in those behind it
-abbrev pub IsFirstFaultOfEvidence : Opening → Files → Fault → Type 0
-IsFirstFaultOfEvidence opening files fault =
+abbrev pub IsFirstFaultOfEvidence : Opening → ℕ → Files → Fault → Type 0
+IsFirstFaultOfEvidence opening moment files fault =
     IsFaultOfCapture NewEvidence opening files.capture fault
-    ⊎ (HasEvidence opening files.capture × IsFirstFaultBehind files fault)
+    ⊎ ((messages : List Contents) × Holds NewEvidence opening files.capture messages
+    × IsFirstFaultBehind moment (evidence_of messages).rrsets files fault)
 
 -- the first fault is in the files of keys and MACs, and then in the others
 abbrev pub IsFirstFaultOfFiles : ℕ → Files → Fault → Type 0
 IsFirstFaultOfFiles moment files fault =
     IsFaultOfOpening files.keys files.macs fault
     ⊎ ((opening : Opening) × IsOpeningOf files.keys files.macs moment opening
-    × IsFirstFaultOfEvidence opening files fault)
+    × IsFirstFaultOfEvidence opening moment files fault)
 
 -- the question is refused so
 abbrev pub IsFaultOfQuestion : List ℕ → ℕ → Fault → Type 0
@@ -125,9 +129,9 @@ IsFaultOfQuestion asked rtype _ = ⊥
 abbrev pub AsksRefused : Request → Fault → Type 0
 AsksRefused (request.Show capture) fault = ⊥
 AsksRefused (request.List capture moment statements lists format) fault = ⊥
-AsksRefused (request.Check capture anchors moment (asking.One asked rtype) statements keys macs format why) fault =
+AsksRefused (request.Check capture anchors moment (asking.One asked rtype) known keys macs format why) fault =
     IsFaultOfQuestion (string_bytes asked) rtype.0 fault
-AsksRefused (request.Check capture anchors moment (asking.Each questions) statements keys macs format why) fault = ⊥
+AsksRefused (request.Check capture anchors moment (asking.Each questions) known keys macs format why) fault = ⊥
 
 -- the first of the files that is at fault has this fault; or none is, and an alias can't be followed
 abbrev pub IsFirstFaultOfName : Labels → ℕ → ℕ → Files → Fault → Type 0
@@ -150,9 +154,9 @@ IsFirstFaultOfEach moment files fault =
 abbrev pub IsFirstFault : Request → Files → Fault → Type 0
 IsFirstFault (request.Show capture) files fault = IsFaultOfCapture AnyMessage Plain files.capture fault
 IsFirstFault (request.List capture moment statements lists format) files fault = IsFirstFaultOfList (lists_all lists) files fault
-IsFirstFault (request.Check capture anchors moment (asking.One asked rtype) statements keys macs format why) files fault =
+IsFirstFault (request.Check capture anchors moment (asking.One asked rtype) known keys macs format why) files fault =
     IsFirstFaultOfCheck (string_bytes asked) rtype.0 moment files fault
-IsFirstFault (request.Check capture anchors moment (asking.Each questions) statements keys macs format why) files fault =
+IsFirstFault (request.Check capture anchors moment (asking.Each questions) known keys macs format why) files fault =
     IsFirstFaultOfEach moment files fault
 
 -- ---- what a failed read comes behind
@@ -172,8 +176,8 @@ abbrev pub IsReachedByList : Bool → Files → InputFile → Type 0
 IsReachedByList true files file = IsCaptureReached file
 IsReachedByList false files file = IsReachedByTodo files file
 
--- the file of captured messages is read behind the keys and MACs, the anchors behind evidence, and the statements
--- behind the anchors, each where it is given
+-- the file of captured messages is read behind the keys and MACs, the anchors behind evidence, and the statements, or
+-- the answers, behind the anchors, each where it is given
 abbrev pub IsReachedOfFiles : ℕ → Files → InputFile → Type 0
 IsReachedOfFiles moment files Keys = IsOpeningReached files.keys files.macs Keys
 IsReachedOfFiles moment files Macs = IsOpeningReached files.keys files.macs Macs
@@ -183,7 +187,12 @@ IsReachedOfFiles moment files Anchors =
     × IsGiven files.anchors
 IsReachedOfFiles moment files Statements =
     (opening : Opening) × IsOpeningOf files.keys files.macs moment opening × HasEvidence opening files.capture
-    × ((anchors : List Anchor) × HasAnchors (octets_or_none files.anchors) anchors) × IsGiven files.statements
+    × ((anchors : List Anchor) × HasAnchors (octets_or_none files.anchors) anchors)
+    × IsKnownReached files.statements files.answers Statements
+IsReachedOfFiles moment files Answers =
+    (opening : Opening) × IsOpeningOf files.keys files.macs moment opening × HasEvidence opening files.capture
+    × ((anchors : List Anchor) × HasAnchors (octets_or_none files.anchors) anchors)
+    × IsKnownReached files.statements files.answers Answers
 IsReachedOfFiles moment files Questions = ⊥
 
 -- the question can be asked, and the files before this one are in order
@@ -201,7 +210,7 @@ IsReachedByEach moment files file =
 abbrev pub IsReached : Request → Files → InputFile → Type 0
 IsReached (request.Show capture) files file = IsCaptureReached file
 IsReached (request.List capture moment statements lists format) files file = IsReachedByList (lists_all lists) files file
-IsReached (request.Check capture anchors moment (asking.One asked rtype) statements keys macs format why) files file =
+IsReached (request.Check capture anchors moment (asking.One asked rtype) known keys macs format why) files file =
     IsReachedByCheck (string_bytes asked) rtype.0 moment files file
-IsReached (request.Check capture anchors moment (asking.Each questions) statements keys macs format why) files file =
+IsReached (request.Check capture anchors moment (asking.Each questions) known keys macs format why) files file =
     IsReachedByEach moment files file

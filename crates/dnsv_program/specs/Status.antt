@@ -12,13 +12,14 @@ use Rattle.dnsv_message.specs.Errors.{decode_error_code}
 use Rattle.dnsv_tsig.specs.Errors.{key_file_error_code, tsig_error_code}
 use Rattle.dnsv_canonical.specs.CaptureError.{capture_error_code}
 use Rattle.dnsv_verifier.specs.StatementsError.{statements_error_code}
+use Rattle.dnsv_answers.specs.AnswersError.{answers_error_code}
 use Rattle.dnsv_chain.specs.AnchorsError.{anchors_error_code}
 use Rattle.dnsv_verdict.specs.VerdictError.{verdict_error_code}
 use Rattle.dnsv_questions.specs.QuestionsError.{questions_error_code}
 use Rattle.dnsv_program.specs.declared.status.Status.{Status}
 use Rattle.dnsv_program.specs.declared.status.Status.TheVariants.{Done, Insecure, Pending, Bogus, Indeterminate, Refused}
 use Rattle.dnsv_program.specs.declared.status.InputFile.{InputFile}
-use Rattle.dnsv_program.specs.declared.status.InputFile.TheVariants.{Anchors, Capture, Keys, Macs, Questions, Statements}
+use Rattle.dnsv_program.specs.declared.status.InputFile.TheVariants.{Anchors, Answers, Capture, Keys, Macs, Questions, Statements}
 use Rattle.dnsv_program.specs.declared.status.Refusal.{Refusal}
 use Rattle.dnsv_program.specs.declared.status.Refusal.TheVariants as refusal
 use Rattle.dnsv_program.specs.declared.status.Place.{Place}
@@ -50,6 +51,7 @@ refusal_number (refusal.Tsig error) = tsig_error_code error
 refusal_number (refusal.Evidence error) = capture_error_code error
 refusal_number (refusal.AnchorLine error) = anchors_error_code error
 refusal_number (refusal.StatementLine error) = statements_error_code error
+refusal_number (refusal.AnswerLine error) = answers_error_code error
 refusal_number (refusal.QuestionLine error) = questions_error_code error
 
 abbrev pub fault_number : Fault → ℕ
@@ -95,6 +97,7 @@ abbrev pub file_word : InputFile → List ℕ
 file_word Capture = codes "capture"
 file_word Anchors = codes "anchors"
 file_word Statements = codes "statements"
+file_word Answers = codes "answers"
 file_word Keys = codes "keys"
 file_word Macs = codes "macs"
 file_word Questions = codes "questions"

@@ -18,9 +18,12 @@ use Rattle.dnsv_program.specs.declared.opening.Opening.{Opening}
 use Rattle.dnsv_program.specs.Files.Capture.{Demand, FrameRefused}
 use Rattle.dnsv_verifier.specs.declared.statements.StatementsError.{StatementsError}
 use Rattle.dnsv_verifier.specs.declared.statements.StatementsError.TheVariants as statements
+use Rattle.dnsv_answers.specs.declared.error.AnswersError.{AnswersError}
+use Rattle.dnsv_answers.specs.declared.error.AnswersError.TheVariants as answers
 use Rattle.dnsv_chain.specs.declared.anchors.AnchorsError.{AnchorsError}
 use Rattle.dnsv_chain.specs.declared.anchors.AnchorsError.TheVariants as anchors
 use Rattle.dnsv_program.specs.Files.Anchors.{TellsAnchorsError}
+use Rattle.dnsv_program.specs.Files.Answers.{TellsAnswersError}
 use Rattle.dnsv_tsig.specs.declared.error.TsigError.{TsigError}
 use Rattle.dnsv_tsig.specs.declared.error.TsigError.TheVariants as tsig
 use Rattle.dnsv_tsig.specs.Answer.{tsig_answer_of}
@@ -64,6 +67,12 @@ abbrev pub IsStatementsFault : StatementsError → Fault → Type 0
 IsStatementsFault statements.OutOfMemory told = told ≡ fault.OutOfMemory
 IsStatementsFault error (fault.Refused why place) = TellsStatementsError error why place
 IsStatementsFault error _ = ⊥
+
+-- the fault tells the error of a file of answers
+abbrev pub IsAnswersFault : AnswersError → Fault → Type 0
+IsAnswersFault answers.OutOfMemory told = told ≡ fault.OutOfMemory
+IsAnswersFault error (fault.Refused why place) = TellsAnswersError error why place
+IsAnswersFault error _ = ⊥
 
 -- the fault tells the error of a file of questions
 abbrev pub IsQuestionsFault : QuestionsError → Fault → Type 0

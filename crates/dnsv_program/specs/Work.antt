@@ -2,5 +2,6 @@
 pub mod Asking
 pub mod Checking
 pub mod Judging
+pub mod Known
 pub mod Listing
 pub mod Showing

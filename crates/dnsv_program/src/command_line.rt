@@ -4,9 +4,9 @@ ghost use Rattle.std.specs.IoError.{error_kind as io_error_kind};
 ghost use Rattle.std.specs.Option.{option_map};
 ghost use Rattle.clap.specs.Words.{first_of, found_of, one_of, rows_of};
 ghost use Rattle.dnsv_texts.specs.Checking.{question_word};
-ghost use Rattle.dnsv_program.specs.CommandLine.{Asks, AsksFor, AsksForTwoLists, HasCapture, HasCheckValues, HasListValues, HasNumber, HasValue, IsUnclear, MayHaveNumber};
+ghost use Rattle.dnsv_program.specs.CommandLine.{Asks, AsksFor, AsksForTwoLists, GoesBy, GoesByBoth, HasCapture, HasCheckValues, HasListValues, HasNumber, HasValue, IsUnclear, MayHaveNumber};
 ghost use Rattle.dnsv_program.specs.CommandLine.{IsAccepted, IsFlag, IsRefused, command_line_code, command_line_error, flag_said, format_said, listing_said, number_said, words_error};
-ghost use Rattle.dnsv_program.specs.declared.command_line.CommandLineError.TheVariants.{OutOfMemory, TwoLists, Unclear};
+ghost use Rattle.dnsv_program.specs.declared.command_line.CommandLineError.TheVariants.{BothKnown, OutOfMemory, TwoLists, Unclear};
 
 pub mod commands;
 pub mod moment;
@@ -15,7 +15,7 @@ pub mod request;
 
 use crate::command_line::commands::program;
 use crate::command_line::moment::Moment;
-use crate::command_line::request::{Asking, Listing, Request};
+use crate::command_line::request::{Asking, Known, Listing, Request};
 use clap::ArgMatches;
 use clap::error::ErrorKind;
 use dnsv_names::RecordType;
@@ -46,6 +46,9 @@ pub enum CommandLineError {
     /// The words ask for two lists.
     #[error("error: a list is --all or --compact\n")]
     TwoLists,
+    /// The words name statements and answers.
+    #[error("error: what was checked is --statements or --answers\n")]
+    BothKnown,
 }
 
 impl CommandLineError {
@@ -59,7 +62,8 @@ impl CommandLineError {
             CommandLineError::NotText
             | CommandLineError::Misused(_)
             | CommandLineError::Unclear
-            | CommandLineError::TwoLists => 2,
+            | CommandLineError::TwoLists
+            | CommandLineError::BothKnown => 2,
         }
     }
 }
@@ -100,10 +104,10 @@ impl From<clap::Error> for CommandLineError {
 ///
 /// Whatever `clap` takes for the commands `show --capture FILE`,
 /// `list --capture FILE --moment N [--statements FILE] [--all | --compact] [--json]` and
-/// `check --capture FILE --anchors FILE --moment N` with `[--statements FILE]`, `[--keys FILE]`, `[--macs FILE]`,
-/// `[--json]` and either `--name NAME --type N` or `--questions FILE`, and for `explain` with the words of `check`, is a
-/// request. Each error is one that `clap` gives there, or that neither or more than one of such two was given, or the want
-/// of memory.
+/// `check --capture FILE --anchors FILE --moment N` with `[--statements FILE | --answers FILE]`, `[--keys FILE]`,
+/// `[--macs FILE]`, `[--json]` and either `--name NAME --type N` or `--questions FILE`, and for `explain` with the words of
+/// `check`, is a request. Each error is one that `clap` gives there, or that neither or more than one of such two was given,
+/// or the want of memory.
 pub fn read_command_line<S: AsStr>(alloc: Global, words: &[S]) -> Result<Request, CommandLineError>
     ensures accepted { IfOk result (λ request. IsAccepted (map S.text words.now) request) }
     ensures refused { IfErr result (λ error. IsRefused (map S.text words.now) error) }
@@ -174,13 +178,14 @@ fn check_request(
     requires { HasCheckValues (rows_of (found_of check.now)) }
     ensures asks { IfOk result (Asks (question_word why) (rows_of (found_of check.now))) }
     ensures refused { IfErr result (λ error. (error ≡ OutOfMemory)
-        ⊎ ((error ≡ Unclear) × IsUnclear (rows_of (found_of check.now)))) }
+        ⊎ ((error ≡ Unclear) × IsUnclear (rows_of (found_of check.now)))
+        ⊎ ((error ≡ BothKnown) × GoesByBoth (rows_of (found_of check.now)))) }
 {
     let asking = asking_of(alloc, check)?;
     let capture = value(alloc, check, "capture")?;
     let anchors = value(alloc, check, "anchors")?;
     let moment = Moment::new(number(check, "moment", Moment::LAST)).unwrap();
-    let statements = given_value(alloc, check, "statements")?;
+    let known = known_by(alloc, check)?;
     let keys = given_value(alloc, check, "keys")?;
     let macs = given_value(alloc, check, "macs")?;
     let format = format_asked(check);
@@ -189,7 +194,7 @@ fn check_request(
         anchors,
         moment,
         asking,
-        statements,
+        known,
         keys,
         macs,
         format,
@@ -214,6 +219,21 @@ fn asking_of(alloc: Global, check: &ArgMatches<'_>) -> Result<Asking, CommandLin
         }
         (None, None, Some(questions)) => Ok(Asking::Each { questions }),
         _ => Err(CommandLineError::Unclear),
+    }
+}
+
+/// By what the matches of `check`, or of `explain`, have it known which signatures are good.
+fn known_by(alloc: Global, check: &ArgMatches<'_>) -> Result<Known, CommandLineError>
+    ensures goes { IfOk result (GoesBy (rows_of (found_of check.now))) }
+    ensures refused { IfErr result (λ error. (error ≡ OutOfMemory)
+        ⊎ ((error ≡ BothKnown) × GoesByBoth (rows_of (found_of check.now)))) }
+{
+    let statements = given_value(alloc, check, "statements")?;
+    let answers = given_value(alloc, check, "answers")?;
+    match (statements, answers) {
+        (statements, None) => Ok(Known::Statements(statements)),
+        (None, Some(answers)) => Ok(Known::Answers(answers)),
+        (Some(_), Some(_)) => Err(CommandLineError::BothKnown),
     }
 }
 

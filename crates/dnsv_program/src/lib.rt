@@ -2,7 +2,7 @@
 #![tactic(auto)]
 
 pub use command_line::moment::Moment;
-pub use command_line::request::{Asking, Listing, Request};
+pub use command_line::request::{Asking, Known, Listing, Request};
 pub use command_line::{CommandLineError, read_command_line};
 pub use fault_line::FaultLine;
 pub use laws::{

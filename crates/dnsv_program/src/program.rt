@@ -145,8 +145,8 @@ fn answer<M: Machine, W: Write>(
     run(machine.alloc(), request, &mut inputs, output)
 }
 
-/// Opens the files of the request: the captured messages, the trust anchors, the statements, the keys, the MACs of
-/// requests, and then the questions.
+/// Opens the files of the request: the captured messages, the trust anchors, the statements or the answers, the keys, the
+/// MACs of requests, and then the questions.
 fn open_all<M: Machine>(machine: &M, request: &Request) -> Result<Inputs<M::File>, Fault>
     ensures files { (files : Files) → AreFilesAt (M.octets_at machine.now) request.now files
         → IfOk result (λ inputs. AreTold M.File.remaining inputs files) }
@@ -159,6 +159,7 @@ fn open_all<M: Machine>(machine: &M, request: &Request) -> Result<Inputs<M::File
     let capture = open(machine, InputFile::Capture, request.capture())?;
     let anchors = open_given(machine, InputFile::Anchors, request.anchors())?;
     let statements = open_given(machine, InputFile::Statements, request.statements())?;
+    let answers = open_given(machine, InputFile::Answers, request.answers())?;
     let keys = open_given(machine, InputFile::Keys, request.keys())?;
     let macs = open_given(machine, InputFile::Macs, request.macs())?;
     let questions = open_given(machine, InputFile::Questions, request.questions())?;
@@ -166,6 +167,7 @@ fn open_all<M: Machine>(machine: &M, request: &Request) -> Result<Inputs<M::File
         capture,
         anchors,
         statements,
+        answers,
         keys,
         macs,
         questions,
@@ -232,7 +234,8 @@ fn refuse<W: Write, E: Write>(
         CommandLineError::NotText
         | CommandLineError::Misused(_)
         | CommandLineError::Unclear
-        | CommandLineError::TwoLists => {
+        | CommandLineError::TwoLists
+        | CommandLineError::BothKnown => {
             let code = error.code();
             // Nothing is left to tell where the text itself can't be written.
             let _ = errors.write_fmt(error);

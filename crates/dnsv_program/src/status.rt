@@ -2,6 +2,7 @@
 ghost use Rattle.std.specs.Prelude.{◌≡◌, ◌⊎◌, ◌≤◌, length};
 ghost use Rattle.dnsv_program.specs.Status.{status_code, fault_code, fault_number, file_word, refusal_number};
 
+use dnsv_answers::AnswersError;
 use dnsv_canonical::CaptureError;
 use dnsv_chain::AnchorsError;
 use dnsv_message::DecodeError;
@@ -66,6 +67,8 @@ pub enum InputFile {
     Anchors,
     /// The file of statements.
     Statements,
+    /// The file of answers.
+    Answers,
     /// The file of keys.
     Keys,
     /// The file of request MACs.
@@ -84,6 +87,7 @@ impl InputFile {
             InputFile::Capture => "capture",
             InputFile::Anchors => "anchors",
             InputFile::Statements => "statements",
+            InputFile::Answers => "answers",
             InputFile::Keys => "keys",
             InputFile::Macs => "macs",
             InputFile::Questions => "questions",
@@ -119,6 +123,8 @@ pub enum Refusal {
     AnchorLine(AnchorsError),
     /// A line of the file of statements is at fault.
     StatementLine(StatementsError),
+    /// A line of the file of answers is at fault, or it hasn't the answers to the capture's list.
+    AnswerLine(AnswersError),
     /// A line of the file of questions is at fault.
     QuestionLine(QuestionsError),
 }
@@ -141,6 +147,7 @@ impl Refusal {
             Refusal::Evidence(error) => error.code(),
             Refusal::AnchorLine(error) => error.code(),
             Refusal::StatementLine(error) => error.code(),
+            Refusal::AnswerLine(error) => error.code(),
             Refusal::QuestionLine(error) => error.code(),
         }
     }

@@ -11,6 +11,7 @@ pub mod asking;
 pub mod checking;
 pub mod given;
 pub mod judging;
+pub mod known;
 pub mod listing;
 pub mod showing;
 
@@ -34,8 +35,10 @@ pub struct Inputs<R> {
     pub capture: Counted<R>,
     /// The trust anchors, where they are given.
     pub anchors: Option<Counted<R>>,
-    /// The statements, where they are given.
+    /// The statements, where they are given. They are read where no answers are.
     pub statements: Option<Counted<R>>,
+    /// The answers by number, where they are given.
+    pub answers: Option<Counted<R>>,
     /// The keys by which the messages were signed, where they are given.
     pub keys: Option<Counted<R>>,
     /// The MACs of the requests, where they are given. They are read where keys are.
@@ -57,7 +60,7 @@ pub struct Outcome {
 /// The answer is a status where the output got the whole text, and else the first fault in the order of the
 /// work: the question's name and type, or the file of questions, the keys, the MACs of requests, reading the file of
 /// captured messages, its framing, the number of the MACs, each message in turn, the trust anchors, and then the
-/// statements. A write that fails is not tried again; the output then has a beginning of the text.
+/// statements, or the answers. A write that fails is not tried again; the output then has a beginning of the text.
 pub fn run<R: Read, W: Write>(
     alloc: Global,
     request: &Request,

@@ -20,7 +20,7 @@ use Rattle.dnsv_program.specs.Files.Faults.{TellsFailedReads, TellsFaults, Tells
 use Rattle.dnsv_program.specs.Files.Questions.{HasQuestions}
 use Rattle.dnsv_program.specs.Run.{IsFirstFaultOfEach, IsFirstFaultOfFiles}
 use Rattle.dnsv_program.specs.Work.Asking.{AreAnswered, AreAnswers, AreFirstAnswered}
-use Rattle.dnsv_program.specs.Work.Checking.{AreGivenBy}
+use Rattle.dnsv_program.specs.Work.Checking.{AreGivenBy, basis_in}
 use Rattle.dnsv_program.proofs.FileLemmas.Faults.{IsOther, OfOctets-weaker, beside_passed, reads_then}
 
 -- behind the questions
@@ -33,6 +33,7 @@ module _ {R : Type 0} {before : Inputs R} (reader : Option (Counted R)) where
     capture = tells.capture;
     anchors = tells.anchors;
     statements = tells.statements;
+    answers = tells.answers;
     keys = tells.keys;
     macs = tells.macs;
     opened = tells.opened;
@@ -46,7 +47,7 @@ read_once {R = R} before reader now x result read same other =
 
 module _ {R : Type 0} {remaining : R → Option (List ℕ)} {before : Inputs R} (reader : Option (Counted R)) where
   pub told_behind : {files : Files} → AreToldBeside remaining before files → AreToldBeside remaining (behind before reader) files
-  told_behind are = record { capture = are.capture; anchors = are.anchors; statements = are.statements; keys = are.keys; macs = are.macs }
+  told_behind are = record { capture = are.capture; anchors = are.anchors; statements = are.statements; answers = are.answers; keys = are.keys; macs = are.macs }
 
   -- one of the other files is at fault
   pub given_failed : {S T U : Type 0} {after : Inputs R} (x : U) → TellsFailedReads {T = U} Questions (given_failures before.questions) (given_failures reader) (Ok x)
@@ -65,17 +66,19 @@ module _ {R : Type 0} {remaining : R → Option (List ℕ)} {before : Inputs R} 
 -- ---- what is told of all
 
 module _ (format : Format) (why : Bool) (moment : ℕ) (files : Files) (asked : List Asked) (has : HasQuestions (octets_or_none files.questions) asked)
-    {rrsets : List ReceivedRrset} {anchors : List Anchor} {meaning : Entry → Answer} (are : AreGivenBy moment files rrsets anchors meaning) where
-  pub answered_by : (end : Status) (text : List ℕ) → AreAnswers format why (basis_of rrsets anchors moment meaning) asked end text
+    {rrsets : List ReceivedRrset} {anchors : List Anchor} {meaning : Entry → Answer} {numbers : Option (List ℕ)}
+    (are : AreGivenBy moment files rrsets anchors meaning numbers) where
+  pub answered_by : (end : Status) (text : List ℕ) → AreAnswers format why numbers (basis_of rrsets anchors moment meaning) asked end text
       → AreAnswered format why moment files end text
   answered_by end text answers = record {
     asked = asked;
     has = has;
     given = are.given;
-    answers = subst (λ (basis : Basis). AreAnswers format why basis asked end text) are.is answers;
+    answers = subst (λ (each : Option (List ℕ)). AreAnswers format why each (basis_in are.given) asked end text) are.told
+        (subst (λ (basis : Basis). AreAnswers format why numbers basis asked end text) are.is answers);
   }
 
-  pub first_answered_by : (count : ℕ) (end : Status) (text : List ℕ) → AreAnswers format why (basis_of rrsets anchors moment meaning) (take count asked) end text
+  pub first_answered_by : (count : ℕ) (end : Status) (text : List ℕ) → AreAnswers format why numbers (basis_of rrsets anchors moment meaning) (take count asked) end text
       → AreFirstAnswered format why moment files text
   first_answered_by count end text answers = record {
     asked = asked;
@@ -83,27 +86,28 @@ module _ (format : Format) (why : Bool) (moment : ℕ) (files : Files) (asked : 
     given = are.given;
     count = count;
     end = end;
-    answers = subst (λ (basis : Basis). AreAnswers format why basis (take count asked) end text) are.is answers;
+    answers = subst (λ (each : Option (List ℕ)). AreAnswers format why each (basis_in are.given) (take count asked) end text) are.told
+        (subst (λ (basis : Basis). AreAnswers format why numbers basis (take count asked) end text) are.is answers);
   }
 
   pub all_done : {E : Type 0} (old new : Option (List ℕ)) (result : Result Status E)
-      → IfOk result (λ end. (text : List ℕ) × AreAnswers format why (basis_of rrsets anchors moment meaning) asked end text × Appends old new text)
+      → IfOk result (λ end. (text : List ℕ) × AreAnswers format why numbers (basis_of rrsets anchors moment meaning) asked end text × Appends old new text)
       → IfOk result (λ end. (text : List ℕ) × AreAnswered format why moment files end text × Appends old new text)
   all_done old new (Ok end) done = (done.0, answered_by end done.0 done.1, done.2)
   all_done old new (Err told) done = tt
 
   pub first_begun : (old new : Option (List ℕ))
-      → (count : ℕ) × (end : Status) × (text : List ℕ) × AreAnswers format why (basis_of rrsets anchors moment meaning) (take count asked) end text
+      → (count : ℕ) × (end : Status) × (text : List ℕ) × AreAnswers format why numbers (basis_of rrsets anchors moment meaning) (take count asked) end text
       × AppendsBeginning old new text
       → (text : List ℕ) × AreFirstAnswered format why moment files text × AppendsBeginning old new text
   first_begun old new begun = (begun.2, first_answered_by begun.0 begun.1 begun.2 begun.3, begun.4)
 
 -- where some are told, whatever the files hold
 pub first_whole : {Same : Type 0} {AreSo : Files → Type 0} (format : Format) (why : Bool) (moment : ℕ) (asked : List Asked) {rrsets : List ReceivedRrset}
-    {anchors : List Anchor} {meaning : Entry → Answer} (old new : Option (List ℕ))
+    {anchors : List Anchor} {meaning : Entry → Answer} {numbers : Option (List ℕ)} (old new : Option (List ℕ))
     → ((files : Files) → AreSo files → HasQuestions (octets_or_none files.questions) asked)
-    → ((files : Files) → AreSo files → AreGivenBy moment files rrsets anchors meaning)
-    → Same ⊎ ((count : ℕ) × (end : Status) × (text : List ℕ) × AreAnswers format why (basis_of rrsets anchors moment meaning) (take count asked) end text
+    → ((files : Files) → AreSo files → AreGivenBy moment files rrsets anchors meaning numbers)
+    → Same ⊎ ((count : ℕ) × (end : Status) × (text : List ℕ) × AreAnswers format why numbers (basis_of rrsets anchors moment meaning) (take count asked) end text
     × Appends old new text)
     → Same ⊎ ((files : Files) → AreSo files → (text : List ℕ) × AreFirstAnswered format why moment files text × Appends old new text)
 first_whole format why moment asked old new has given (inl same) = inl same

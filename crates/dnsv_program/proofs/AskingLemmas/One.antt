@@ -19,7 +19,7 @@ use Rattle.dnsv_program.specs.Work.Checking.{IsJudged, basis_in}
 use Rattle.dnsv_program.specs.declared.status.Status.{Status}
 use Rattle.dnsv_program.specs.declared.status.Status.TheVariants.{Bogus, Done, Indeterminate, Insecure, Pending, Refused}
 use Rattle.dnsv_program.proofs.FileLemmas.Questions.{one_list_of_questions}
-use Rattle.dnsv_program.proofs.LawLemmas.OneText.{one_basis, one_judged}
+use Rattle.dnsv_program.proofs.LawLemmas.OneText.{one_basis, one_judged, one_numbering}
 
 -- ---- the greatest end
 
@@ -62,17 +62,17 @@ module _ (laws : LayerLaws) where
   one_error basis asked a b (inr x) (inl y) = absurd (y.1 x.0)
   one_error basis asked a b (inr x) (inr y) = laws.verdicts.one_refusal basis asked.name asked.rtype a b x.1 y.1
 
-  judged_stands : (format : Format) (why : Bool) (basis : Basis) (asked : Asked) (end : Status) (text : List ℕ) (error : VerdictError)
-      → IsQuestion asked.name asked.rtype → IsJudged format why basis asked.name asked.rtype end text → IsRefusal basis asked.name asked.rtype error → ⊥
-  judged_stands format why basis asked end text error may x (inl bad) = bad.1 may
-  judged_stands format why basis asked end text error may x (inr bad) =
+  judged_stands : (format : Format) (why : Bool) (numbers : Option (List ℕ)) (basis : Basis) (asked : Asked) (end : Status) (text : List ℕ) (error : VerdictError)
+      → IsQuestion asked.name asked.rtype → IsJudged format why numbers basis asked.name asked.rtype end text → IsRefusal basis asked.name asked.rtype error → ⊥
+  judged_stands format why numbers basis asked end text error may x (inl bad) = bad.1 may
+  judged_stands format why numbers basis asked end text error may x (inr bad) =
       laws.verdicts.verdict_apart basis asked.name asked.rtype x.report.links x.report.last x.report.verdict error x.is_verdict bad.1
 
-  module _ (moment : ℕ) (files : Files) (are : AreOctets files.capture) (format : Format) (why : Bool) (basis : Basis) where
-    one_of : (asked : Asked) (s t : Status) (a b : List ℕ) → IsAnswer format why basis asked s a → IsAnswer format why basis asked t b → (s ≡ t) × (a ≡ b)
-    one_of asked s t a b (inl x) (inl y) = one_judged laws asked.rtype moment files are basis format why asked.name s t a b x.1 y.1
-    one_of asked s t a b (inl x) (inr y) = absurd (judged_stands format why basis asked s a y.error x.0 x.1 y.refused)
-    one_of asked s t a b (inr x) (inl y) = absurd (judged_stands format why basis asked t b x.error y.0 y.1 x.refused)
+  module _ (moment : ℕ) (files : Files) (are : AreOctets files.capture) (format : Format) (why : Bool) (numbers : Option (List ℕ)) (basis : Basis) where
+    one_of : (asked : Asked) (s t : Status) (a b : List ℕ) → IsAnswer format why numbers basis asked s a → IsAnswer format why numbers basis asked t b → (s ≡ t) × (a ≡ b)
+    one_of asked s t a b (inl x) (inl y) = one_judged laws asked.rtype moment files are basis format why numbers asked.name s t a b x.1 y.1
+    one_of asked s t a b (inl x) (inr y) = absurd (judged_stands format why numbers basis asked s a y.error x.0 x.1 y.refused)
+    one_of asked s t a b (inr x) (inl y) = absurd (judged_stands format why numbers basis asked t b x.error y.0 y.1 x.refused)
     one_of asked s t a b (inr x) (inr y) =
         let errors = one_error basis asked x.error y.error x.refused y.refused in
         let ends : s ≡ t = x.ends ∙ sym y.ends in (
@@ -82,7 +82,7 @@ module _ (laws : LayerLaws) where
 
     -- ---- many
 
-    one_each : (asked : List Asked) (xs ys : List Answered) → EachAnswered format why basis asked xs → EachAnswered format why basis asked ys → xs ≡ ys
+    one_each : (asked : List Asked) (xs ys : List Answered) → EachAnswered format why numbers basis asked xs → EachAnswered format why numbers basis asked ys → xs ≡ ys
     one_each [] [] [] a b = refl
     one_each [] [] (y ∷ ys) a b = absurd b
     one_each [] (x ∷ xs) ys a b = absurd a
@@ -93,7 +93,7 @@ module _ (laws : LayerLaws) where
         let rest = one_each qs xs ys a.1 b.1 in
         λ i. (record { end = first.0 i; text = first.1 i }) ∷ rest i
 
-    one_of_all : (asked : List Asked) (s t : Status) (a b : List ℕ) → AreAnswers format why basis asked s a → AreAnswers format why basis asked t b → (s ≡ t) × (a ≡ b)
+    one_of_all : (asked : List Asked) (s t : Status) (a b : List ℕ) → AreAnswers format why numbers basis asked s a → AreAnswers format why numbers basis asked t b → (s ≡ t) × (a ≡ b)
     one_of_all asked s t a b x y =
         let same = one_each asked x.answers y.answers x.each y.each in (
           one_greatest (map (λ (each : Answered). each.end) y.answers) s t
@@ -107,6 +107,7 @@ module _ (laws : LayerLaws) where
   one_answered moment files are format why s t a b x y =
       let asked = one_list_of_questions (octets_or_none files.questions) x.asked y.asked x.has y.has in
       let bases = one_basis laws 0 moment files are x.given y.given in
-      one_of_all moment files are format why (basis_in y.given) y.asked s t a b
-      (subst (λ (each : Basis). AreAnswers format why each y.asked s a) bases
-      (subst (λ (each : List Asked). AreAnswers format why (basis_in x.given) each s a) asked x.answers)) y.answers
+      one_of_all moment files are format why y.given.numbers (basis_in y.given) y.asked s t a b
+      (subst (λ (each : Option (List ℕ)). AreAnswers format why each (basis_in y.given) y.asked s a) (one_numbering laws 0 moment files are x.given y.given)
+      (subst (λ (each : Basis). AreAnswers format why x.given.numbers each y.asked s a) bases
+      (subst (λ (each : List Asked). AreAnswers format why x.given.numbers (basis_in x.given) each s a) asked x.answers))) y.answers

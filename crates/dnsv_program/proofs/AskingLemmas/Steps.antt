@@ -50,15 +50,15 @@ worse_of end new = go (cases_lt (status_code end) (status_code new))
     go (inl less) = record { worse = new; one = inr refl; above = (omega (arith, less), omega arith) }
     go (inr least) = record { worse = end; one = inl refl; above = (omega arith, least) }
 
-module _ (format : Format) (why : Bool) (basis : Basis) where
-  each_more : (asked : List Asked) (answers : List Answered) (x : Asked) (answer : Answered) → EachAnswered format why basis asked answers
-      → IsAnswer format why basis x answer.end answer.text → EachAnswered format why basis (asked ++ x ∷ []) (answers ++ answer ∷ [])
+module _ (format : Format) (why : Bool) (numbers : Option (List ℕ)) (basis : Basis) where
+  each_more : (asked : List Asked) (answers : List Answered) (x : Asked) (answer : Answered) → EachAnswered format why numbers basis asked answers
+      → IsAnswer format why numbers basis x answer.end answer.text → EachAnswered format why numbers basis (asked ++ x ∷ []) (answers ++ answer ∷ [])
   each_more [] [] x answer each is = (is, tt)
   each_more [] (a ∷ others) x answer each is = absurd each
   each_more (q ∷ qs) [] x answer each is = absurd each
   each_more (q ∷ qs) (a ∷ others) x answer each is = (each.0, each_more qs others x answer each.1 is)
 
-  no_answers : AreAnswers format why basis [] Done []
+  no_answers : AreAnswers format why numbers basis [] Done []
   no_answers = record {
     answers = [];
     each = tt;
@@ -66,10 +66,10 @@ module _ (format : Format) (why : Bool) (basis : Basis) where
     joined = refl;
   }
 
-  more_answers : (asked : List Asked) (end new worse : Status) (text line : List ℕ) (x : Asked) → AreAnswers format why basis asked end text
-      → IsAnswer format why basis x new line → (worse ≡ end) ⊎ (worse ≡ new)
+  more_answers : (asked : List Asked) (end new worse : Status) (text line : List ℕ) (x : Asked) → AreAnswers format why numbers basis asked end text
+      → IsAnswer format why numbers basis x new line → (worse ≡ end) ⊎ (worse ≡ new)
       → (status_code end ≤ status_code worse) × (status_code new ≤ status_code worse)
-      → AreAnswers format why basis (asked ++ x ∷ []) worse (text ++ line)
+      → AreAnswers format why numbers basis (asked ++ x ∷ []) worse (text ++ line)
   more_answers asked end new worse text line x are is one above =
       let answer : Answered = record { end = new; text = line } in record {
         answers = are.answers ++ answer ∷ [];
@@ -82,7 +82,7 @@ module _ (format : Format) (why : Bool) (basis : Basis) where
   -- the first of the questions are told, by an end and a text by which the output grew
   pub record ToldSoFar (asked : List Asked) (done : ℕ) (end : Status) (old now : Option (List ℕ)) : Type 0 where
     pub text : List ℕ
-    pub answers : AreAnswers format why basis (take done asked) end text
+    pub answers : AreAnswers format why numbers basis (take done asked) end text
     pub grown : Appends old now text
 
   one_more : (asked : List Asked) (done : ℕ) (x : Asked) → done < length asked → get_or asked done x ≡ x → take done asked ++ x ∷ [] ≡ take (done + 1) asked
@@ -92,39 +92,39 @@ module _ (format : Format) (why : Bool) (basis : Basis) where
   ToldSoFar-start asked old stays = record { text = []; answers = no_answers; grown = stays }
 
   pub ToldSoFar-next : (asked : List Asked) (done : ℕ) (end new worse : Status) (old now after : Option (List ℕ)) (x : Asked) → done < length asked → get_or asked done x ≡ x
-      → ToldSoFar asked done end old now → ((line : List ℕ) × IsAnswer format why basis x new line × Appends now after line)
+      → ToldSoFar asked done end old now → ((line : List ℕ) × IsAnswer format why numbers basis x new line × Appends now after line)
       → (worse ≡ end) ⊎ (worse ≡ new) → (status_code end ≤ status_code worse) × (status_code new ≤ status_code worse)
       → ToldSoFar asked (done + 1) worse old after
   ToldSoFar-next asked done end new worse old now after x within here so_far told one above =
       let first = one_more asked done x within here in record {
         text = so_far.text ++ told.0;
-        answers = subst (λ (each : List Asked). AreAnswers format why basis each worse (so_far.text ++ told.0)) first
+        answers = subst (λ (each : List Asked). AreAnswers format why numbers basis each worse (so_far.text ++ told.0)) first
             (more_answers (take done asked) end new worse so_far.text told.0 x so_far.answers told.1 one above);
         grown = Appends-trans _ _ _ _ _ so_far.grown told.2;
       }
 
   pub ToldSoFar-all : (asked : List Asked) (done : ℕ) (end : Status) (old now : Option (List ℕ)) → length asked ≤ done → ToldSoFar asked done end old now
-      → (text : List ℕ) × AreAnswers format why basis asked end text × Appends old now text
+      → (text : List ℕ) × AreAnswers format why numbers basis asked end text × Appends old now text
   ToldSoFar-all asked done end old now whole so_far = (
     so_far.text,
-    subst (λ (each : List Asked). AreAnswers format why basis each end so_far.text) (take_all done asked whole) so_far.answers,
+    subst (λ (each : List Asked). AreAnswers format why numbers basis each end so_far.text) (take_all done asked whole) so_far.answers,
     so_far.grown,
   )
 
   pub ToldSoFar-whole : (asked : List Asked) (done : ℕ) (end : Status) (old now : Option (List ℕ)) → ToldSoFar asked done end old now
-      → (count : ℕ) × (end : Status) × (text : List ℕ) × AreAnswers format why basis (take count asked) end text × Appends old now text
+      → (count : ℕ) × (end : Status) × (text : List ℕ) × AreAnswers format why numbers basis (take count asked) end text × Appends old now text
   ToldSoFar-whole asked done end old now so_far = (done, end, so_far.text, so_far.answers, so_far.grown)
 
   -- a beginning of one more is one of all of them
   pub ToldSoFar-begun : (asked : List Asked) (done : ℕ) (end new : Status) (old now after : Option (List ℕ)) (x : Asked) → done < length asked → get_or asked done x ≡ x
-      → ToldSoFar asked done end old now → (line : List ℕ) → IsAnswer format why basis x new line → AppendsBeginning now after line
-      → (count : ℕ) × (end : Status) × (text : List ℕ) × AreAnswers format why basis (take count asked) end text × AppendsBeginning old after text
+      → ToldSoFar asked done end old now → (line : List ℕ) → IsAnswer format why numbers basis x new line → AppendsBeginning now after line
+      → (count : ℕ) × (end : Status) × (text : List ℕ) × AreAnswers format why numbers basis (take count asked) end text × AppendsBeginning old after text
   ToldSoFar-begun asked done end new old now after x within here so_far line is begun =
       let greater = worse_of end new in (
         done + 1,
         greater.worse,
         so_far.text ++ line,
-        subst (λ (each : List Asked). AreAnswers format why basis each greater.worse (so_far.text ++ line)) (one_more asked done x within here)
+        subst (λ (each : List Asked). AreAnswers format why numbers basis each greater.worse (so_far.text ++ line)) (one_more asked done x within here)
             (more_answers (take done asked) end new greater.worse so_far.text line x so_far.answers is greater.one greater.above),
         (
           length so_far.text + begun.0,

@@ -32,7 +32,7 @@ use Rattle.dnsv_program.proofs.CommandLineLemmas.Walks.{AllLeaveValues, level_in
 use Rattle.clap.proofs.ValueTestLemmas.{accepts-Accepts}
 use Rattle.dnsv_texts.specs.Checking.{question_word}
 use Rattle.dnsv_program.specs.CommandLine.Commands.{program_app}
-use Rattle.dnsv_program.specs.CommandLine.{Asks, AsksForTwoLists, HasCapture, HasCheckValues, HasListValues, IsAccepted, IsFlag, IsRefused, IsUnclear, error_of_kind, flag_said, command_line_error, is_asked, number_said}
+use Rattle.dnsv_program.specs.CommandLine.{Asks, AsksForTwoLists, GoesByBoth, HasCapture, HasCheckValues, HasListValues, IsAccepted, IsFlag, IsRefused, IsUnclear, error_of_kind, flag_said, command_line_error, is_asked, number_said}
 use Rattle.std.specs.Option.{SomeIff}
 use Rattle.dnsv_program.specs.CommandLine.Moment.{IsMoment}
 
@@ -186,10 +186,12 @@ asked_as (Err error) words name rows none met asks = tt
 
 pub unclear_as : (r : Result Request CommandLineError) (words : List Text) (why : Bool) (rows : List Row) → fault_of program_app words ≡ []
     → subcommand_of program_app words ≡ Some (question_word why, rows)
-    → IfErr r (λ error. (error ≡ line.OutOfMemory) ⊎ ((error ≡ line.Unclear) × IsUnclear rows)) → IfErr r (IsRefused words)
+    → IfErr r (λ error. (error ≡ line.OutOfMemory) ⊎ ((error ≡ line.Unclear) × IsUnclear rows) ⊎ ((error ≡ line.BothKnown) × GoesByBoth rows))
+    → IfErr r (IsRefused words)
 unclear_as (Ok request) words why rows none met told = tt
 unclear_as (Err error) words why rows none met (inl memory) = subst (IsRefused words) (sym memory) tt
-unclear_as (Err error) words why rows none met (inr unclear) = subst (IsRefused words) (sym unclear.0) (none, (why, rows, met, unclear.1))
+unclear_as (Err error) words why rows none met (inr (inl unclear)) = subst (IsRefused words) (sym unclear.0) (none, (why, rows, met, unclear.1))
+unclear_as (Err error) words why rows none met (inr (inr both)) = subst (IsRefused words) (sym both.0) (none, (why, rows, met, both.1))
 
 pub two_lists_as : (r : Result Request CommandLineError) (words : List Text) (rows : List Row) → fault_of program_app words ≡ []
     → subcommand_of program_app words ≡ Some (codes "list", rows)

@@ -9,12 +9,13 @@ use Rattle.dnsv_program.specs.Files.Capture.{AreFramesRefused, Demand, Holds, Is
 use Rattle.dnsv_program.specs.declared.opening.Opening.{Opening}
 use Rattle.dnsv_program.specs.Opening.Given.{IsOpeningOf, IsFaultOfOpening}
 use Rattle.dnsv_program.specs.declared.work.Inputs.{Inputs}
-use Rattle.dnsv_program.specs.declared.status.InputFile.TheVariants.{Anchors, Capture, Keys, Macs, Questions, Statements}
+use Rattle.dnsv_program.specs.declared.status.InputFile.TheVariants.{Anchors, Answers, Capture, Keys, Macs, Questions, Statements}
 use Rattle.dnsv_program.specs.Files.{Files, AreToldBeside, IsToldBy, given_failures, octets_or_none}
 use Rattle.dnsv_chain.specs.declared.anchor.Anchor.{Anchor}
 use Rattle.dnsv_program.specs.Files.Anchors.{HasAnchors, IsFaultOfAnchors}
 use Rattle.dnsv_program.specs.Run.{HasEvidence, IsFirstFaultOfFiles}
-use Rattle.dnsv_program.specs.Files.Statements.{IsFaultOfStatements}
+use Rattle.dnsv_canonical.specs.Rrsets.{ReceivedRrset}
+use Rattle.dnsv_program.specs.Work.Known.{IsFaultBeforeKnown, IsFaultOfKnown}
 use Rattle.dnsv_program.specs.declared.status.Fault.{Fault}
 use Rattle.dnsv_program.specs.declared.status.Fault.TheVariants as fault
 use Rattle.dnsv_program.specs.declared.status.InputFile.{InputFile}
@@ -113,6 +114,17 @@ about_opened file told about other is = subst (IsAbout file) is about
 pub of_told : (P : List ℕ → Type 0) {octets : Option (List ℕ)} {file : List ℕ} → octets ≡ Some file → IfSome octets P → P file
 of_told P is holds = subst (λ octets. IfSome octets P) is holds
 
+-- what is at fault in what is said of signatures, before entries are counted, is at fault in what is known of them
+before_known : (capture : List ℕ) (moment : ℕ) (rrsets : List ReceivedRrset) (stated answered : Option (List ℕ)) (told : Fault)
+    → IsFaultBeforeKnown capture moment stated answered told → IsFaultOfKnown capture moment rrsets stated answered told
+before_known capture moment rrsets stated None told holds = holds
+before_known capture moment rrsets stated (Some text) (fault.Refused why place) holds = (holds.0, inl holds.1)
+before_known capture moment rrsets stated (Some text) (fault.TooLong file) holds = holds
+before_known capture moment rrsets stated (Some text) fault.OutOfMemory holds = absurd holds
+before_known capture moment rrsets stated (Some text) (fault.ReadFailed file) holds = absurd holds
+before_known capture moment rrsets stated (Some text) (fault.OpenFailed file) holds = absurd holds
+before_known capture moment rrsets stated (Some text) fault.WriteFailed holds = absurd holds
+
 -- want of memory is no fault of a file
 not_read : {U : Type 0} (result : Result U Fault) (file : InputFile) → IfErr result (λ told. told ≡ fault.OutOfMemory) → IfErr result (IsOther file)
 not_read (Ok x) file only = tt
@@ -126,14 +138,18 @@ not_opened : {U : Type 0} (result : Result U Fault) → IfErr result (λ told. t
 not_opened (Ok x) only = tt
 not_opened (Err told) only = λ file is. let bad : fault.OutOfMemory ≡ fault.OpenFailed file = sym only ∙ is in cc
 
+-- one of two files is at fault, and no other
+about_one_of : (a b : InputFile) {file : InputFile} (told : Fault) → IsAbout a told ⊎ IsAbout b told → (file ≡ a → ⊥) → (file ≡ b → ⊥) → IsOther file told
+about_one_of a b {file} told (inl about) not_a not_b = about_another file told about not_a
+about_one_of a b {file} told (inr about) not_a not_b = about_another file told about not_b
+
+either_opened : (a b : InputFile) (told : Fault) → IsAbout a told ⊎ IsAbout b told → (other : InputFile) → told ≡ fault.OpenFailed other → ⊥
+either_opened a b told (inl about) = about_opened a told about
+either_opened a b told (inr about) = about_opened b told about
+
 -- the keys or the MACs are at fault, and no other file
 pub about_either : {file : InputFile} (told : Fault) → IsAbout Keys told ⊎ IsAbout Macs told → (file ≡ Keys → ⊥) → (file ≡ Macs → ⊥) → IsOther file told
-about_either {file} told (inl about) no_keys no_macs = about_another file told about no_keys
-about_either {file} told (inr about) no_keys no_macs = about_another file told about no_macs
-
-either_opened : (told : Fault) → IsAbout Keys told ⊎ IsAbout Macs told → (other : InputFile) → told ≡ fault.OpenFailed other → ⊥
-either_opened told (inl about) = about_opened Keys told about
-either_opened told (inr about) = about_opened Macs told about
+about_either told = about_one_of Keys Macs told
 
 -- what is told where the file of captured messages, opened so, was read
 abbrev pub CapturedBy : {R T : Type 0} → Opening → (R → Option (List ℕ)) → Inputs R → Inputs R → Result T Fault → Type 0
@@ -148,14 +164,14 @@ NoneOfSeals U before after told =
 
 module _ {R U : Type 0} {remaining : R → Option (List ℕ)} {before after : Inputs R} where
   -- the keys or the MACs are at fault
-  pub unsealed : {T : Type 0} (moment : ℕ) (told : Fault) → after.capture ≡ before.capture → after.anchors ≡ before.anchors → after.statements ≡ before.statements
+  pub unsealed : {T : Type 0} (moment : ℕ) (told : Fault) → after.capture ≡ before.capture → after.anchors ≡ before.anchors → after.statements ≡ before.statements → after.answers ≡ before.answers
       → ((keys_octets macs_octets : Option (List ℕ)) → IsToldBy remaining before.keys keys_octets → IsToldBy remaining before.macs macs_octets
       → OfOctets (IsFaultOfOpening keys_octets macs_octets) told)
       → TellsFailedReads {T = T} Keys (given_failures before.keys) (given_failures after.keys) (Err told)
       → TellsFailedReads {T = T} Macs (given_failures before.macs) (given_failures after.macs) (Err told)
       → IsAbout Keys told ⊎ IsAbout Macs told
       → TellsFaultsBeside {T = U} (IsFirstFaultOfFiles moment) remaining before after (Err told)
-  unsealed moment told capture_stays anchors_stay statements_stay faults keys_reads macs_reads about = record {
+  unsealed moment told capture_stays anchors_stay statements_stay answers_stay faults keys_reads macs_reads about = record {
     first = λ files are.
         OfOctets-weaker (IsFaultOfOpening files.keys files.macs) (IsFirstFaultOfFiles moment files) told (λ fault holds. inl holds)
         (faults files.keys files.macs are.keys are.macs);
@@ -166,9 +182,11 @@ module _ {R U : Type 0} {remaining : R → Option (List ℕ)} {before after : In
           (about_either told about (λ is. cc) (λ is. cc));
       statements = reads_untouched (given_failures before.statements) (given_failures after.statements) (Err told) (ap given_failures statements_stay)
           (about_either told about (λ is. cc) (λ is. cc));
+      answers = reads_untouched (given_failures before.answers) (given_failures after.answers) (Err told) (ap given_failures answers_stay)
+          (about_either told about (λ is. cc) (λ is. cc));
       keys = reads_passed told keys_reads;
       macs = reads_passed told macs_reads;
-      opened = either_opened told about;
+      opened = either_opened Keys Macs told about;
     };
     unread = about_either told about (λ is. cc) (λ is. cc);
   }
@@ -177,9 +195,9 @@ module _ {R U : Type 0} {remaining : R → Option (List ℕ)} {before after : In
     -- the file of captured messages is at fault
     pub captured : {T : Type 0} (IsFirst : Files → Fault → Type 0) (told : Fault)
         → ((files : Files) → AreToldBeside remaining before files → (fault : Fault) → IsFaultOfCapture NewEvidence opening files.capture fault → IsFirst files fault)
-        → after.anchors ≡ before.anchors → after.statements ≡ before.statements → NoneOfSeals U before after told
+        → after.anchors ≡ before.anchors → after.statements ≡ before.statements → after.answers ≡ before.answers → NoneOfSeals U before after told
         → CapturedBy {T = T} opening remaining before after (Err told) → TellsFaultsBeside {T = U} IsFirst remaining before after (Err told)
-    captured IsFirst told first anchors_stay statements_stay seals tells = record {
+    captured IsFirst told first anchors_stay statements_stay answers_stay seals tells = record {
       first = λ files are.
           OfOctets-weaker (IsFaultOfCapture NewEvidence opening files.capture) (IsFirst files) told (first files are)
           (of_told (λ octets. OfOctets (IsFaultOfCapture NewEvidence opening octets) told) are.capture tells.told);
@@ -189,6 +207,8 @@ module _ {R U : Type 0} {remaining : R → Option (List ℕ)} {before after : In
             (about_another Anchors told tells.about (λ is. cc));
         statements = reads_untouched (given_failures before.statements) (given_failures after.statements) (Err told) (ap given_failures statements_stay)
             (about_another Statements told tells.about (λ is. cc));
+        answers = reads_untouched (given_failures before.answers) (given_failures after.answers) (Err told) (ap given_failures answers_stay)
+            (about_another Answers told tells.about (λ is. cc));
         keys = seals.0 (about_another Keys told tells.about (λ is. cc));
         macs = seals.1 (about_another Macs told tells.about (λ is. cc));
         opened = about_opened Capture told tells.about;
@@ -199,22 +219,25 @@ module _ {R U : Type 0} {remaining : R → Option (List ℕ)} {before after : In
     module _ (moment : ℕ)
         (opens : (files : Files) → AreToldBeside remaining before files → IsOpeningOf files.keys files.macs moment opening) where
       -- the file of captured messages is taken, and the trust anchors are at fault
-      pub anchored : {T V : Type 0} (x : V) (told : Fault) → after.statements ≡ before.statements → NoneOfSeals U before after told
+      pub anchored : {T V : Type 0} (x : V) (told : Fault) → after.statements ≡ before.statements → after.answers ≡ before.answers → NoneOfSeals U before after told
           → CapturedBy {T = V} opening remaining before after (Ok x)
           → ((file : List ℕ) → remaining (inner_of before.capture) ≡ Some file → HasEvidence opening file)
           → ((octets : Option (List ℕ)) → IsToldBy remaining before.anchors octets → OfOctets (IsFaultOfAnchors (octets_or_none octets)) told)
           → TellsFailedReads {T = T} Anchors (given_failures before.anchors) (given_failures after.anchors) (Err told)
           → IsAbout Anchors told
           → TellsFaultsBeside {T = U} (IsFirstFaultOfFiles moment) remaining before after (Err told)
-      anchored x told statements_stay seals tells held faults reads about = record {
+      anchored x told statements_stay answers_stay seals tells held faults reads about = record {
         first = λ files are.
             OfOctets-weaker (IsFaultOfAnchors (octets_or_none files.anchors)) (IsFirstFaultOfFiles moment files) told
-            (λ fault holds. inr (opening, opens files are, inr (held files.capture are.capture, inl holds))) (faults files.anchors are.anchors);
+            (λ fault holds. let evidence = held files.capture are.capture in inr (opening, opens files are, inr (evidence.0, evidence.1, inl holds)))
+            (faults files.anchors are.anchors);
         reads = record {
           capture = reads_then x (Err told) tells.reads (about_another Capture told about (λ is. cc));
           anchors = reads_passed told reads;
           statements = reads_untouched (given_failures before.statements) (given_failures after.statements) (Err told) (ap given_failures statements_stay)
               (about_another Statements told about (λ is. cc));
+          answers = reads_untouched (given_failures before.answers) (given_failures after.answers) (Err told) (ap given_failures answers_stay)
+              (about_another Answers told about (λ is. cc));
           keys = seals.0 (about_another Keys told about (λ is. cc));
           macs = seals.1 (about_another Macs told about (λ is. cc));
           opened = about_opened Anchors told about;
@@ -222,30 +245,35 @@ module _ {R U : Type 0} {remaining : R → Option (List ℕ)} {before after : In
         unread = about_another Questions told about (λ is. cc);
       }
 
-      -- those are taken too, and the statements are at fault
-      pub stated : {T V W : Type 0} (x : V) (y : W) (told : Fault) → NoneOfSeals U before after told
+      -- those are taken too, and what is said of signatures is at fault
+      pub unsaid : {T V W : Type 0} (x : V) (y : W) (told : Fault) → NoneOfSeals U before after told
           → CapturedBy {T = V} opening remaining before after (Ok x)
           → ((file : List ℕ) → remaining (inner_of before.capture) ≡ Some file → HasEvidence opening file)
           → ((octets : Option (List ℕ)) → IsToldBy remaining before.anchors octets → (anchors : List Anchor) × HasAnchors (octets_or_none octets) anchors)
           → TellsFailedReads {T = W} Anchors (given_failures before.anchors) (given_failures after.anchors) (Ok y)
-          → ((octets : Option (List ℕ)) → IsToldBy remaining before.statements octets → OfOctets (IsFaultOfStatements (octets_or_none octets)) told)
+          → ((files : Files) → AreToldBeside remaining before files → OfOctets (IsFaultBeforeKnown files.capture moment files.statements files.answers) told)
           → TellsFailedReads {T = T} Statements (given_failures before.statements) (given_failures after.statements) (Err told)
-          → IsAbout Statements told
+          → TellsFailedReads {T = T} Answers (given_failures before.answers) (given_failures after.answers) (Err told)
+          → IsAbout Statements told ⊎ IsAbout Answers told
           → TellsFaultsBeside {T = U} (IsFirstFaultOfFiles moment) remaining before after (Err told)
-      stated x y told seals tells held trusted anchor_reads faults reads about = record {
+      unsaid x y told seals tells held trusted anchor_reads faults statement_reads answer_reads about = record {
         first = λ files are.
-            OfOctets-weaker (IsFaultOfStatements (octets_or_none files.statements)) (IsFirstFaultOfFiles moment files) told
-            (λ fault holds. inr (opening, opens files are, inr (held files.capture are.capture, inr (trusted files.anchors are.anchors, holds))))
-            (faults files.statements are.statements);
+            OfOctets-weaker (IsFaultBeforeKnown files.capture moment files.statements files.answers) (IsFirstFaultOfFiles moment files) told
+            (λ fault holds.
+            let evidence = held files.capture are.capture in
+            inr (opening, opens files are, inr (evidence.0, evidence.1, inr (trusted files.anchors are.anchors,
+            before_known files.capture moment (evidence_of evidence.0).rrsets files.statements files.answers fault holds))))
+            (faults files are);
         reads = record {
-          capture = reads_then x (Err told) tells.reads (about_another Capture told about (λ is. cc));
-          anchors = reads_then y (Err told) anchor_reads (about_another Anchors told about (λ is. cc));
-          statements = reads_passed told reads;
-          keys = seals.0 (about_another Keys told about (λ is. cc));
-          macs = seals.1 (about_another Macs told about (λ is. cc));
-          opened = about_opened Statements told about;
+          capture = reads_then x (Err told) tells.reads (about_one_of Statements Answers told about (λ is. cc) (λ is. cc));
+          anchors = reads_then y (Err told) anchor_reads (about_one_of Statements Answers told about (λ is. cc) (λ is. cc));
+          statements = reads_passed told statement_reads;
+          answers = reads_passed told answer_reads;
+          keys = seals.0 (about_one_of Statements Answers told about (λ is. cc) (λ is. cc));
+          macs = seals.1 (about_one_of Statements Answers told about (λ is. cc) (λ is. cc));
+          opened = either_opened Statements Answers told about;
         };
-        unread = about_another Questions told about (λ is. cc);
+        unread = about_one_of Statements Answers told about (λ is. cc) (λ is. cc);
       }
 
     -- all are taken
@@ -255,14 +283,16 @@ module _ {R U : Type 0} {remaining : R → Option (List ℕ)} {before after : In
         → CapturedBy {T = V} opening remaining before after (Ok x)
         → TellsFailedReads {T = W} Anchors (given_failures before.anchors) (given_failures after.anchors) (Ok y)
         → TellsFailedReads {T = X} Statements (given_failures before.statements) (given_failures after.statements) (Ok z)
+        → TellsFailedReads {T = X} Answers (given_failures before.answers) (given_failures after.answers) (Ok z)
         → IfErr result (λ told. told ≡ fault.OutOfMemory)
         → TellsFaultsBeside {T = U} (IsFirstFaultOfFiles moment) remaining before after result
-    all_taken moment s x y z result keys_reads macs_reads tells anchor_reads reads only = record {
+    all_taken moment s x y z result keys_reads macs_reads tells anchor_reads statement_reads answer_reads only = record {
       first = λ files are. no_octets (IsFirstFaultOfFiles moment files) result only;
       reads = record {
         capture = reads_then x result tells.reads (not_read result Capture only);
         anchors = reads_then y result anchor_reads (not_read result Anchors only);
-        statements = reads_then z result reads (not_read result Statements only);
+        statements = reads_then z result statement_reads (not_read result Statements only);
+        answers = reads_then z result answer_reads (not_read result Answers only);
         keys = reads_then s result keys_reads (not_read result Keys only);
         macs = reads_then s result macs_reads (not_read result Macs only);
         opened = not_opened result only;
@@ -294,6 +324,7 @@ beside_passed told tells = record {
     capture = reads_passed told tells.reads.capture;
     anchors = reads_passed told tells.reads.anchors;
     statements = reads_passed told tells.reads.statements;
+    answers = reads_passed told tells.reads.answers;
     keys = reads_passed told tells.reads.keys;
     macs = reads_passed told tells.reads.macs;
     opened = tells.reads.opened;
@@ -323,19 +354,41 @@ reads_after x result tells none opened = record {
   capture = if_other x result tells.capture none;
   anchors = if_other x result tells.anchors none;
   statements = if_other x result tells.statements none;
+  answers = if_other x result tells.answers none;
   keys = if_other x result tells.keys none;
   macs = if_other x result tells.macs none;
   opened = opened;
 }
 
+-- all files were taken, and what they say is refused all the same
+pub refused_behind : {R S T : Type 0} {remaining : R → Option (List ℕ)} {before after : Inputs R} (IsFirst : Files → Fault → Type 0) (x : S) (told : Fault)
+    (P : Refusal → Place → Type 0) → TellsFaultsBeside {T = S} IsFirst remaining before after (Ok x)
+    → ((files : Files) → AreToldBeside remaining before files → (why : Refusal) (place : Place) → P why place → IsFirst files (fault.Refused why place))
+    → IsFaultOf P told → TellsFaultsBeside {T = T} IsFirst remaining before after (Err told)
+refused_behind IsFirst x (fault.Refused why place) P tells first is = record {
+  first = λ files are. first files are why place is;
+  reads = reads_after x (Err (fault.Refused why place)) tells.reads (λ file. λ same. cc) (λ file same. cc);
+  unread = λ same. cc;
+}
+refused_behind IsFirst x fault.OutOfMemory P tells first is = record {
+  first = λ files are. tt;
+  reads = reads_after x (Err fault.OutOfMemory) tells.reads (λ file. λ same. cc) (λ file same. cc);
+  unread = λ same. cc;
+}
+refused_behind IsFirst x (fault.ReadFailed file) P tells first is = absurd is
+refused_behind IsFirst x (fault.TooLong file) P tells first is = absurd is
+refused_behind IsFirst x (fault.OpenFailed file) P tells first is = absurd is
+refused_behind IsFirst x fault.WriteFailed P tells first is = absurd is
+
 -- readers that weren't called
 pub reads_of_none : {R T : Type 0} {before after : Inputs R} (result : Result T Fault) → after.capture ≡ before.capture → after.anchors ≡ before.anchors
-    → after.statements ≡ before.statements → after.keys ≡ before.keys → after.macs ≡ before.macs
+    → after.statements ≡ before.statements → after.answers ≡ before.answers → after.keys ≡ before.keys → after.macs ≡ before.macs
     → IfErr result (IsAbout Questions) → TellsReads {T = T} before after result
-reads_of_none {before = before} {after = after} result capture anchors statements keys macs about = record {
+reads_of_none {before = before} {after = after} result capture anchors statements answers keys macs about = record {
   capture = reads_untouched (failures_of before.capture) (failures_of after.capture) result (ap failures_of capture) (about_others Capture result about (λ is. cc));
   anchors = reads_untouched (given_failures before.anchors) (given_failures after.anchors) result (ap given_failures anchors) (about_others Anchors result about (λ is. cc));
   statements = reads_untouched (given_failures before.statements) (given_failures after.statements) result (ap given_failures statements) (about_others Statements result about (λ is. cc));
+  answers = reads_untouched (given_failures before.answers) (given_failures after.answers) result (ap given_failures answers) (about_others Answers result about (λ is. cc));
   keys = reads_untouched (given_failures before.keys) (given_failures after.keys) result (ap given_failures keys) (about_others Keys result about (λ is. cc));
   macs = reads_untouched (given_failures before.macs) (given_failures after.macs) result (ap given_failures macs) (about_others Macs result about (λ is. cc));
   opened = none_opened result about;

@@ -5,7 +5,8 @@ use Rattle.dnsv_names.specs.Name.{Labels}
 use Rattle.dnsv_names.specs.Octets.{AreOctets}
 use Rattle.dnsv_names.specs.declared.error.NameError.{NameError}
 use Rattle.dnsv_message.specs.Message.{Contents}
-use Rattle.dnsv_canonical.specs.Rrsets.{IsQuestion}
+use Rattle.dnsv_canonical.specs.Evidence.{evidence_of}
+use Rattle.dnsv_canonical.specs.Rrsets.{IsQuestion, ReceivedRrset}
 use Rattle.dnsv_tsig.specs.Key.{SharedKey}
 use Rattle.dnsv_verdict.specs.Verdict.{Basis}
 use Rattle.dnsv_verdict.specs.Way.{IsRefusedFor, IsVerdictOf}
@@ -37,7 +38,8 @@ use Rattle.dnsv_program.specs.Work.Listing.{IsTodo}
 use Rattle.dnsv_program.proofs.FileLemmas.Anchors.{no_anchors_fault, one_anchors_fault}
 use Rattle.dnsv_program.proofs.OpeningLemmas.Keys.{no_keys_fault, one_keys_fault}
 use Rattle.dnsv_program.proofs.OpeningLemmas.Macs.{no_fault_of_macs, one_macs_fault}
-use Rattle.dnsv_program.proofs.LawLemmas.OneCapture.{no_capture_fault, one_capture_fault, same_nowhere}
+use Rattle.dnsv_program.proofs.LawLemmas.OneCapture.{no_capture_fault, one_capture_fault, one_holding, same_nowhere}
+use Rattle.dnsv_program.proofs.LawLemmas.OneKnown.{known_stands, one_known_fault}
 use Rattle.dnsv_program.proofs.LawLemmas.OneText.{one_basis, one_opening, one_question}
 use Rattle.dnsv_program.proofs.FileLemmas.Questions.{no_questions_fault, one_questions_fault}
 use Rattle.dnsv_program.proofs.FileLemmas.Statements.{no_statements_fault, one_statements_fault}
@@ -108,45 +110,51 @@ module _ (laws : LayerLaws) where
     anchors_stand said told =
         let text = octets_or_none files.anchors in no_anchors_fault text said told (laws.verdicts.anchors_apart text said)
 
-    one_fault_behind : (a b : Fault) → IsFirstFaultBehind files a → IsFirstFaultBehind files b → a ≡ b
-    one_fault_behind a b (inl x) (inl y) =
+    one_fault_behind : (moment : ℕ) (rrsets : List ReceivedRrset) (a b : Fault) → IsFirstFaultBehind moment rrsets files a → IsFirstFaultBehind moment rrsets files b → a ≡ b
+    one_fault_behind moment rrsets a b (inl x) (inl y) =
         let text = octets_or_none files.anchors in one_anchors_fault text a b (laws.verdicts.one_fault_of_anchors text) x y
-    one_fault_behind a b (inl x) (inr y) = absurd (anchors_stand y.0.0 a y.0.1 x)
-    one_fault_behind a b (inr x) (inl y) = absurd (anchors_stand x.0.0 b x.0.1 y)
-    one_fault_behind a b (inr x) (inr y) = one_statements_fault (octets_or_none files.statements) a b x.1 y.1
+    one_fault_behind moment rrsets a b (inl x) (inr y) = absurd (anchors_stand y.0.0 a y.0.1 x)
+    one_fault_behind moment rrsets a b (inr x) (inl y) = absurd (anchors_stand x.0.0 b x.0.1 y)
+    one_fault_behind moment rrsets a b (inr x) (inr y) = one_known_fault files.capture moment rrsets files.statements files.answers a b x.1 y.1
 
     holding_stands : (opening : Opening) (messages : List Contents) (told : Fault) → Holds NewEvidence opening files.capture messages → IsFaultOfCapture NewEvidence opening files.capture told → ⊥
     holding_stands opening = no_capture_fault laws NewEvidence opening files.capture are
 
-    one_fault_of_evidence : (opening : Opening) (a b : Fault) → IsFirstFaultOfEvidence opening files a → IsFirstFaultOfEvidence opening files b → a ≡ b
-    one_fault_of_evidence opening a b (inl x) (inl y) = one_capture_fault laws NewEvidence opening files.capture are a b x y
-    one_fault_of_evidence opening a b (inl x) (inr y) = absurd (holding_stands opening y.0.0 a y.0.1 x)
-    one_fault_of_evidence opening a b (inr x) (inl y) = absurd (holding_stands opening x.0.0 b x.0.1 y)
-    one_fault_of_evidence opening a b (inr x) (inr y) = one_fault_behind a b x.1 y.1
+    one_fault_of_evidence : (opening : Opening) (moment : ℕ) (a b : Fault) → IsFirstFaultOfEvidence opening moment files a → IsFirstFaultOfEvidence opening moment files b → a ≡ b
+    one_fault_of_evidence opening moment a b (inl x) (inl y) = one_capture_fault laws NewEvidence opening files.capture are a b x y
+    one_fault_of_evidence opening moment a b (inl x) (inr y) = absurd (holding_stands opening y.0 a y.1 x)
+    one_fault_of_evidence opening moment a b (inr x) (inl y) = absurd (holding_stands opening x.0 b x.1 y)
+    one_fault_of_evidence opening moment a b (inr x) (inr y) =
+        one_fault_behind moment (evidence_of y.0).rrsets a b
+        (subst (λ (messages : List Contents). IsFirstFaultBehind moment (evidence_of messages).rrsets files a)
+        (one_holding laws NewEvidence opening files.capture are x.0 y.0 x.1 y.1) x.2) y.2
 
     one_fault_of_files : (moment : ℕ) (a b : Fault) → IsFirstFaultOfFiles moment files a → IsFirstFaultOfFiles moment files b → a ≡ b
     one_fault_of_files moment a b (inl x) (inl y) = one_opening_fault files.keys files.macs a b x y
     one_fault_of_files moment a b (inl x) (inr y) = absurd (opening_stands files.keys files.macs moment y.0 a y.1 x)
     one_fault_of_files moment a b (inr x) (inl y) = absurd (opening_stands files.keys files.macs moment x.0 b x.1 y)
     one_fault_of_files moment a b (inr x) (inr y) =
-        one_fault_of_evidence y.0 a b
-        (subst (λ (opening : Opening). IsFirstFaultOfEvidence opening files a) (one_opening laws files.keys files.macs moment x.0 y.0 x.1 y.1) x.2) y.2
+        one_fault_of_evidence y.0 moment a b
+        (subst (λ (opening : Opening). IsFirstFaultOfEvidence opening moment files a) (one_opening laws files.keys files.macs moment x.0 y.0 x.1 y.1) x.2) y.2
 
     -- files in order have no fault
     module _ (moment : ℕ) (x : AreInOrder moment files) where
-      behind_stands : (told : Fault) → IsFirstFaultBehind files told → ⊥
+      behind_stands : (told : Fault) → IsFirstFaultBehind moment (evidence_of x.messages).rrsets files told → ⊥
       behind_stands told (inl bad) = anchors_stand x.anchors told x.trusted bad
-      behind_stands told (inr bad) = no_statements_fault (octets_or_none files.statements) x.meaning told x.said bad.1
+      behind_stands told (inr bad) = known_stands files.capture moment (evidence_of x.messages).rrsets files.statements files.answers x.meaning x.numbers told x.said bad.1
 
-      evidence_stands : (told : Fault) → IsFirstFaultOfEvidence x.opening files told → ⊥
+      evidence_stands : (told : Fault) → IsFirstFaultOfEvidence x.opening moment files told → ⊥
       evidence_stands told (inl bad) = holding_stands x.opening x.messages told x.holds bad
-      evidence_stands told (inr bad) = behind_stands told bad.1
+      evidence_stands told (inr bad) =
+          behind_stands told
+          (subst (λ (messages : List Contents). IsFirstFaultBehind moment (evidence_of messages).rrsets files told)
+          (one_holding laws NewEvidence x.opening files.capture are bad.0 x.messages bad.1 x.holds) bad.2)
 
       order_stands : (told : Fault) → IsFirstFaultOfFiles moment files told → ⊥
       order_stands told (inl bad) = opening_stands files.keys files.macs moment x.opening told x.opens bad
       order_stands told (inr bad) =
           evidence_stands told
-          (subst (λ (opening : Opening). IsFirstFaultOfEvidence opening files told) (one_opening laws files.keys files.macs moment bad.0 x.opening bad.1 x.opens) bad.2)
+          (subst (λ (opening : Opening). IsFirstFaultOfEvidence opening moment files told) (one_opening laws files.keys files.macs moment bad.0 x.opening bad.1 x.opens) bad.2)
 
     one_stop : (name : Labels) (rtype moment : ℕ) (a b : Fault) → IsStopped name rtype moment files a → IsStopped name rtype moment files b → a ≡ b
     one_stop name rtype moment a b x y =

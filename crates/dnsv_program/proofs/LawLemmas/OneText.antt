@@ -44,6 +44,8 @@ use Rattle.dnsv_program.proofs.OpeningLemmas.Macs.{same_macs}
 use Rattle.dnsv_program.proofs.LawLemmas.OneCapture.{one_holding}
 use Rattle.dnsv_program.proofs.LawLemmas.OneCompact.{one_compact_list}
 use Rattle.dnsv_program.proofs.FileLemmas.Statements.{one_meaning}
+use Rattle.dnsv_program.proofs.LawLemmas.OneKnown.{one_known}
+use Rattle.dnsv_program.specs.Work.Known.{IsKnownBy}
 
 module _ (laws : LayerLaws) where
   -- ---- list --all
@@ -113,13 +115,23 @@ module _ (laws : LayerLaws) where
         one_holding laws NewEvidence f files.capture are a b
         (subst (λ (opening : Opening). Holds NewEvidence opening files.capture a) (one_opening files.keys files.macs moment e f x y) holds) also
 
+    one_known_by : (x y : AreInOrder moment files) → (x.meaning ≡ y.meaning) × (x.numbers ≡ y.numbers)
+    one_known_by x y =
+        let messages = same_messages x.opening y.opening x.messages y.messages x.opens y.opens x.holds y.holds in
+        one_known files.capture moment (evidence_of y.messages).rrsets files.statements files.answers x.meaning y.meaning x.numbers y.numbers
+        (subst (λ (each : List Contents). IsKnownBy files.capture moment (evidence_of each).rrsets files.statements files.answers x.meaning x.numbers) messages x.said) y.said
+
     -- what the files say is one basis, for a text and for a refusal alike
     pub one_basis : (x y : AreInOrder moment files) → basis_in x ≡ basis_in y
     one_basis x y =
         let messages = same_messages x.opening y.opening x.messages y.messages x.opens y.opens x.holds y.holds in
         let anchors = laws.verdicts.one_list_of_anchors (octets_or_none files.anchors) x.anchors y.anchors x.trusted.are y.trusted.are in
-        let meanings = one_meaning (octets_or_none files.statements) x.meaning y.meaning x.said y.said in
-        λ i. basis_of (evidence_of (messages i)).rrsets (anchors i) moment (meanings i)
+        let known = one_known_by x y in
+        λ i. basis_of (evidence_of (messages i)).rrsets (anchors i) moment (known.0 i)
+
+    -- and give one numbering
+    pub one_numbering : (x y : AreInOrder moment files) → x.numbers ≡ y.numbers
+    one_numbering x y = (one_known_by x y).1
 
     -- an explanation is one of the report's links, last name and verdict alone
     explains : (basis : Basis) (report other : Report) → report.links ≡ other.links → report.last ≡ other.last → report.verdict ≡ other.verdict
@@ -152,22 +164,23 @@ module _ (laws : LayerLaws) where
     why_of true basis report other links last verdict (Some lines) is = explains basis report other links last verdict lines is
 
     -- what is told of a question by what it is judged by
-    pub one_judged : (basis : Basis) (format : Format) (why : Bool) (name : Labels) (s t : Status) (a b : List ℕ) → IsJudged format why basis name rtype s a
-        → IsJudged format why basis name rtype t b → (s ≡ t) × (a ≡ b)
-    one_judged basis format why name s t a b x y =
+    pub one_judged : (basis : Basis) (format : Format) (why : Bool) (numbers : Option (List ℕ)) (name : Labels) (s t : Status) (a b : List ℕ)
+        → IsJudged format why numbers basis name rtype s a → IsJudged format why numbers basis name rtype t b → (s ≡ t) × (a ≡ b)
+    one_judged basis format why numbers name s t a b x y =
         let ways = laws.verdicts.one_way basis name rtype x.report.links y.report.links x.report.last y.report.last x.report.verdict y.report.verdict x.is_verdict y.is_verdict in
         let tolds : x.told ≡ y.told = one_why why basis name y.report x.told y.told y.is_verdict
         (why_of why basis x.report y.report ways.0 ways.1 ways.2 x.told x.is_told) y.is_told in
         let ends : s ≡ t = x.ends ∙ ap verdict_status ways.2 ∙ sym y.ends in (
           ends,
-          x.lines ∙ (λ i. check_text format name rtype basis.moment (status_code (ends i)) basis.rrsets (ways.0 i) (ways.2 i) (tolds i) None) ∙ sym y.lines,
+          x.lines ∙ (λ i. check_text format name rtype basis.moment (status_code (ends i)) basis.rrsets (ways.0 i) (ways.2 i) (tolds i) numbers) ∙ sym y.lines,
         )
 
     one_check : (format : Format) (why : Bool) (name : Labels) (s t : Status) (a b : List ℕ) → IsCheck format why name rtype moment files s a → IsCheck format why name rtype moment files t b
         → (s ≡ t) × (a ≡ b)
     one_check format why name s t a b x y =
-        one_judged (basis_in y.given) format why name s t a b
-        (subst (λ (each : Basis). IsJudged format why each name rtype s a) (one_basis x.given y.given) x.judged) y.judged
+        one_judged (basis_in y.given) format why y.given.numbers name s t a b
+        (subst (λ (each : Option (List ℕ)). IsJudged format why each (basis_in y.given) name rtype s a) (one_numbering x.given y.given)
+        (subst (λ (each : Basis). IsJudged format why x.given.numbers each name rtype s a) (one_basis x.given y.given) x.judged)) y.judged
 
     pub one_answer : (format : Format) (why : Bool) (asked : List ℕ) (s t : Status) (a b : List ℕ) → IsAnswered format why asked rtype moment files s a → IsAnswered format why asked rtype moment files t b
         → (s ≡ t) × (a ≡ b)

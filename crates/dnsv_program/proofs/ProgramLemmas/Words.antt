@@ -30,6 +30,7 @@ end_of_words (line.Help refusal) code is ends = is
 end_of_words (line.Misused refusal) code is ends = absurd (no_end_of_2 code is ends)
 end_of_words line.Unclear code is ends = absurd (no_end_of_2 code is ends)
 end_of_words line.TwoLists code is ends = absurd (no_end_of_2 code is ends)
+end_of_words line.BothKnown code is ends = absurd (no_end_of_2 code is ends)
 
 pub at_most_2 : (error : CommandLineError) → command_line_code error ≤ 2
 at_most_2 line.OutOfMemory = omega arith
@@ -38,6 +39,7 @@ at_most_2 (line.Help refusal) = omega arith
 at_most_2 (line.Misused refusal) = omega arith
 at_most_2 line.Unclear = omega arith
 at_most_2 line.TwoLists = omega arith
+at_most_2 line.BothKnown = omega arith
 
 pub at_most_7 : (error : CommandLineError) (code : ℕ) → EndsSo error code → code ≤ 7
 at_most_7 error code (inl is) = omega (arith, is, at_most_2 error)

@@ -1,5 +1,7 @@
 -- The check of a question over files that were all taken.
-use Rattle.std.proofs.Common.{◌≡◌, ℕ, Bool, List, Option, Some, ap, subst, string_bytes}
+use Rattle.std.proofs.Common.{◌≡◌, ℕ, Bool, List, Option, Some, None, ap, inr, refl, subst, sym, string_bytes}
+use Rattle.std.specs.Borrow.{Bor}
+use Rattle.dnsv_message.specs.Streams.Frames.{IsCapture, octets_at_each}
 use Rattle.std.specs.Prelude.{Result, Ok, Err, IfOk, IfSome}
 use Rattle.dnsv_names.specs.Name.{Labels}
 use Rattle.dnsv_message.specs.Message.{Contents}
@@ -13,7 +15,14 @@ use Rattle.dnsv_program.specs.Files.Anchors.{HasAnchors}
 use Rattle.dnsv_program.specs.declared.opening.Opening.{Opening}
 use Rattle.dnsv_program.specs.Files.Capture.{Holds, NewEvidence}
 use Rattle.dnsv_program.specs.Opening.Given.{IsOpeningOf}
-use Rattle.dnsv_program.specs.Work.Checking.{AreGivenBy, AreInOrder, IsCheck, IsJudged}
+use Rattle.dnsv_program.specs.Run.{IsFirstFaultOfFiles}
+use Rattle.dnsv_program.specs.Work.Checking.{AreGivenBy, AreReadFrom, IsCheck, IsJudged, basis_in}
+use Rattle.dnsv_program.specs.Work.Known.{AreMiscountedIn, IsFaultOfKnown, IsKnown, IsKnownBy, IsSaidBy}
+use Rattle.dnsv_program.specs.declared.work.given.Said.{Said}
+use Rattle.dnsv_program.specs.declared.work.given.Said.TheVariants as said
+use Rattle.dnsv_program.specs.declared.status.Fault.TheVariants as fault
+use Rattle.dnsv_program.specs.declared.status.Place.{Place}
+use Rattle.dnsv_program.specs.declared.status.Refusal.{Refusal}
 use Rattle.dnsv_program.specs.Files.{Files, octets_or_none}
 use Rattle.dnsv_program.specs.Files.Statements.{IsMeaningOf}
 use Rattle.dnsv_program.specs.declared.work.Outcome.{Outcome}
@@ -21,40 +30,82 @@ use Rattle.dnsv_texts.specs.declared.format.Format.{Format}
 use Rattle.dnsv_program.specs.declared.status.Fault.{Fault}
 use Rattle.dnsv_program.proofs.FileLemmas.Faults.{of_told}
 
--- the files are in order whose parts were all taken
-abbrev pub all_in_order : (moment : ℕ) (files : Files) (opening : Opening) → IsOpeningOf files.keys files.macs moment opening → (anchors : List Anchor)
-    (meaning : Entry → Answer) (messages : List Contents) → Holds NewEvidence opening files.capture messages
-    → HasAnchors (octets_or_none files.anchors) anchors → IsMeaningOf (octets_or_none files.statements) meaning → AreInOrder moment files
-all_in_order moment files opening opens anchors meaning messages holds trusted said = record {
-  opening = opening;
-  opens = opens;
-  messages = messages;
-  holds = holds;
-  anchors = anchors;
-  trusted = trusted;
-  meaning = meaning;
-  said = said;
-}
+-- the frames of a file whose octets are told
+pub framed_by : (frames : List (Bor (List ℕ))) {octets : Option (List ℕ)} {file : List ℕ} → octets ≡ Some file
+    → IfSome octets (λ file. IsCapture file (octets_at_each frames)) → IsCapture file (octets_at_each frames)
+framed_by frames is held = of_told (λ file. IsCapture file (octets_at_each frames)) is held
 
--- and they say what questions are judged by
-pub all_given : (moment : ℕ) (files : Files) (opening : Opening) → IsOpeningOf files.keys files.macs moment opening → (held : Evidence) (anchors : List Anchor)
-    (meaning : Entry → Answer) {octets : Option (List ℕ)} → octets ≡ Some files.capture
+-- what is read of the files, where all were taken
+pub all_read : (moment : ℕ) (files : Files) (opening : Opening) → IsOpeningOf files.keys files.macs moment opening → (held : Evidence) (anchors : List Anchor)
+    (said : Said) {octets : Option (List ℕ)} → octets ≡ Some files.capture
     → IfSome octets (λ file. (messages : List Contents) × Holds NewEvidence opening file messages × (held ≡ evidence_of messages))
-    → HasAnchors (octets_or_none files.anchors) anchors → IsMeaningOf (octets_or_none files.statements) meaning
-    → AreGivenBy moment files held.rrsets anchors meaning
-all_given moment files opening opens held anchors meaning is taken trusted said =
+    → HasAnchors (octets_or_none files.anchors) anchors → IsSaidBy files.capture moment files.statements files.answers said
+    → AreReadFrom moment files held.rrsets anchors said
+all_read moment files opening opens held anchors said is taken trusted says =
     let evidence = of_told (λ file. (messages : List Contents) × Holds NewEvidence opening file messages × (held ≡ evidence_of messages)) is taken in record {
-      given = all_in_order moment files opening opens anchors meaning evidence.0 evidence.1 trusted said;
-      is = ap (λ (each : Evidence). basis_of each.rrsets anchors moment meaning) evidence.2;
+      opening = opening;
+      opens = opens;
+      messages = evidence.0;
+      holds = evidence.1;
+      is = ap (λ (each : Evidence). each.rrsets) evidence.2;
+      trusted = trusted;
+      says = says;
     }
+
+module _ (capture : List ℕ) (moment : ℕ) (rrsets : List ReceivedRrset) where
+  -- what is read and known is known by the files
+  known_by : (stated answered : Option (List ℕ)) (said : Said) (meaning : Entry → Answer) (numbers : Option (List ℕ)) → IsSaidBy capture moment stated answered said
+      → IsKnown moment rrsets said meaning numbers → IsKnownBy capture moment rrsets stated answered meaning numbers
+  known_by stated None (said.Statements listed) meaning numbers says knows =
+      (subst (λ (each : Entry → Answer). IsMeaningOf (octets_or_none stated) each) (sym knows.0) says, knows.1)
+  known_by stated None (said.Answers contents) meaning numbers says knows = absurd says
+  known_by stated (Some text) (said.Statements listed) meaning numbers says knows = absurd says
+  known_by stated (Some text) (said.Answers contents) meaning numbers says knows = (contents, says, knows)
+
+  -- and what isn't known for the number of answers is at fault in the files
+  unknown_by : (stated answered : Option (List ℕ)) (said : Said) (why : Refusal) (place : Place) → IsSaidBy capture moment stated answered said
+      → AreMiscountedIn moment rrsets said why place → IsFaultOfKnown capture moment rrsets stated answered (fault.Refused why place)
+  unknown_by stated None (said.Statements listed) why place says bad = absurd bad
+  unknown_by stated None (said.Answers contents) why place says bad = absurd says
+  unknown_by stated (Some text) (said.Statements listed) why place says bad = absurd says
+  unknown_by stated (Some text) (said.Answers contents) why place says bad = (says.has.within, inr (contents, says.has.are, says.are_for, bad))
+
+module _ (moment : ℕ) (files : Files) {rrsets : List ReceivedRrset} {anchors : List Anchor} {said : Said} (read : AreReadFrom moment files rrsets anchors said) where
+  -- the files say what questions are judged by
+  pub all_given : (meaning : Entry → Answer) (numbers : Option (List ℕ)) → IsKnown moment rrsets said meaning numbers
+      → AreGivenBy moment files rrsets anchors meaning numbers
+  all_given meaning numbers knows = record {
+    given = record {
+      opening = read.opening;
+      opens = read.opens;
+      messages = read.messages;
+      holds = read.holds;
+      anchors = anchors;
+      trusted = read.trusted;
+      meaning = meaning;
+      numbers = numbers;
+      said = subst (λ (each : List ReceivedRrset). IsKnownBy files.capture moment each files.statements files.answers meaning numbers) read.is
+          (known_by files.capture moment rrsets files.statements files.answers said meaning numbers read.says knows);
+    };
+    is = ap (λ (each : List ReceivedRrset). basis_of each anchors moment meaning) read.is;
+    told = refl;
+  }
+
+  -- and are at fault where there are more or fewer answers than entries
+  pub none_given : (why : Refusal) (place : Place) → AreMiscountedIn moment rrsets said why place → IsFirstFaultOfFiles moment files (fault.Refused why place)
+  none_given why place bad =
+      inr (read.opening, read.opens, inr (read.messages, read.holds, inr ((anchors, read.trusted),
+      subst (λ (each : List ReceivedRrset). IsFaultOfKnown files.capture moment each files.statements files.answers (fault.Refused why place)) read.is
+      (unknown_by files.capture moment rrsets files.statements files.answers said why place read.says bad))))
 
 -- what is judged by what the files say is judged over them
 pub all_checked : (format : Format) (why : Bool) (name : Labels) (rtype moment : ℕ) (files : Files) {rrsets : List ReceivedRrset} {anchors : List Anchor}
-    {meaning : Entry → Answer} → AreGivenBy moment files rrsets anchors meaning → (result : Result Outcome Fault)
-    → IfOk result (λ outcome. IsJudged format why (basis_of rrsets anchors moment meaning) name rtype outcome.status (string_bytes outcome.text))
+    {meaning : Entry → Answer} {numbers : Option (List ℕ)} → AreGivenBy moment files rrsets anchors meaning numbers → (result : Result Outcome Fault)
+    → IfOk result (λ outcome. IsJudged format why numbers (basis_of rrsets anchors moment meaning) name rtype outcome.status (string_bytes outcome.text))
     → IfOk result (λ outcome. IsCheck format why name rtype moment files outcome.status (string_bytes outcome.text))
 all_checked format why name rtype moment files are (Err told) judged = tt
 all_checked format why name rtype moment files are (Ok outcome) judged = record {
   given = are.given;
-  judged = subst (λ (basis : Basis). IsJudged format why basis name rtype outcome.status (string_bytes outcome.text)) are.is judged;
+  judged = subst (λ (each : Option (List ℕ)). IsJudged format why each (basis_in are.given) name rtype outcome.status (string_bytes outcome.text)) are.told
+      (subst (λ (basis : Basis). IsJudged format why _ basis name rtype outcome.status (string_bytes outcome.text)) are.is judged);
 }

@@ -60,6 +60,13 @@ statements_rule = record (new_rule (codes "statements")) {
   value_names = 1;
 }
 
+-- `--answers FILE`
+abbrev pub answers_rule : Rule
+answers_rule = record (new_rule (codes "answers")) {
+  long = Some (codes "answers");
+  value_names = 1;
+}
+
 -- `--keys FILE`
 abbrev pub keys_rule : Rule
 keys_rule = record (new_rule (codes "keys")) {
@@ -105,11 +112,11 @@ list_app = with_rule (with_rule (with_rule (with_rule (with_rule (with_rule (new
     moment_rule) statements_rule) all_rule) compact_rule) json_rule
 
 -- this word, and `--capture FILE --anchors FILE --moment N [--name NAME] [--type N] [--questions FILE]
--- [--statements FILE] [--keys FILE] [--macs FILE] [--json]`
+-- [--statements FILE] [--answers FILE] [--keys FILE] [--macs FILE] [--json]`
 abbrev pub asking_app : List ℕ → App
 asking_app word = with_rule (with_rule (with_rule (with_rule (with_rule (with_rule (with_rule (with_rule (with_rule
-    (with_rule (new_app word) capture_rule) anchors_rule) moment_rule) name_rule) type_rule) questions_rule)
-    statements_rule) keys_rule) macs_rule) json_rule
+    (with_rule (with_rule (new_app word) capture_rule) anchors_rule) moment_rule) name_rule) type_rule) questions_rule)
+    statements_rule) answers_rule) keys_rule) macs_rule) json_rule
 
 abbrev pub question_app : Bool → App
 question_app why = asking_app (question_word why)

@@ -3,6 +3,7 @@ use Rattle.std.specs.Prelude.{ℕ, List, Option, Some, None, string_bytes}
 use Rattle.std.specs.Option.{option_map}
 use Rattle.dnsv_program.specs.declared.command_line.request.Asking.TheVariants as asking
 use Rattle.dnsv_program.specs.declared.command_line.request.Listing.TheVariants as listing
+use Rattle.dnsv_program.specs.declared.command_line.request.Known.TheVariants as known
 use Rattle.dnsv_program.specs.declared.command_line.request.Request.{Request}
 use Rattle.dnsv_program.specs.declared.command_line.request.Request.TheVariants as request
 
@@ -10,13 +11,13 @@ use Rattle.dnsv_program.specs.declared.command_line.request.Request.TheVariants 
 abbrev pub capture_of : Request → List ℕ
 capture_of (request.Show capture) = string_bytes capture
 capture_of (request.List capture moment statements lists format) = string_bytes capture
-capture_of (request.Check capture anchors moment asked statements keys macs format why) = string_bytes capture
+capture_of (request.Check capture anchors moment asked known keys macs format why) = string_bytes capture
 
 -- the path of the file of trust anchors, where one is read
 abbrev pub anchors_of : Request → Option (List ℕ)
 anchors_of (request.Show capture) = None
 anchors_of (request.List capture moment statements lists format) = None
-anchors_of (request.Check capture anchors moment asked statements keys macs format why) = Some (string_bytes anchors)
+anchors_of (request.Check capture anchors moment asked known keys macs format why) = Some (string_bytes anchors)
 
 -- the path of the file of statements, where one is read
 abbrev pub statements_of : Request → Option (List ℕ)
@@ -24,26 +25,35 @@ statements_of (request.Show capture) = None
 statements_of (request.List capture moment statements listing.All format) = None
 statements_of (request.List capture moment statements listing.Open format) = option_map string_bytes statements
 statements_of (request.List capture moment statements listing.Compact format) = option_map string_bytes statements
-statements_of (request.Check capture anchors moment asked statements keys macs format why) =
+statements_of (request.Check capture anchors moment asked (known.Statements statements) keys macs format why) =
     option_map string_bytes statements
+statements_of (request.Check capture anchors moment asked (known.Answers answers) keys macs format why) = None
+
+-- the path of the file of answers, where one is read
+abbrev pub answers_of : Request → Option (List ℕ)
+answers_of (request.Show capture) = None
+answers_of (request.List capture moment statements lists format) = None
+answers_of (request.Check capture anchors moment asked (known.Statements statements) keys macs format why) = None
+answers_of (request.Check capture anchors moment asked (known.Answers answers) keys macs format why) =
+    Some (string_bytes answers)
 
 -- the path of the file of keys, where one is read
 abbrev pub keys_of : Request → Option (List ℕ)
 keys_of (request.Show capture) = None
 keys_of (request.List capture moment statements lists format) = None
-keys_of (request.Check capture anchors moment asked statements keys macs format why) = option_map string_bytes keys
+keys_of (request.Check capture anchors moment asked known keys macs format why) = option_map string_bytes keys
 
 -- the path of the file of the MACs of requests, where one is read: never without keys
 abbrev pub macs_of : Request → Option (List ℕ)
 macs_of (request.Show capture) = None
 macs_of (request.List capture moment statements lists format) = None
-macs_of (request.Check capture anchors moment asked statements None macs format why) = None
-macs_of (request.Check capture anchors moment asked statements (Some keys) macs format why) = option_map string_bytes macs
+macs_of (request.Check capture anchors moment asked known None macs format why) = None
+macs_of (request.Check capture anchors moment asked known (Some keys) macs format why) = option_map string_bytes macs
 
 -- the path of the file of questions, where one is read
 abbrev pub questions_of : Request → Option (List ℕ)
 questions_of (request.Show capture) = None
 questions_of (request.List capture moment statements lists format) = None
-questions_of (request.Check capture anchors moment (asking.One name rtype) statements keys macs format why) = None
-questions_of (request.Check capture anchors moment (asking.Each questions) statements keys macs format why) =
+questions_of (request.Check capture anchors moment (asking.One name rtype) known keys macs format why) = None
+questions_of (request.Check capture anchors moment (asking.Each questions) known keys macs format why) =
     Some (string_bytes questions)

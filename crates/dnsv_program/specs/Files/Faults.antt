@@ -6,7 +6,7 @@ use Rattle.dnsv_program.specs.declared.work.Inputs.{Inputs}
 use Rattle.dnsv_program.specs.declared.status.Fault.{Fault}
 use Rattle.dnsv_program.specs.declared.status.Fault.TheVariants as fault
 use Rattle.dnsv_program.specs.declared.status.InputFile.{InputFile}
-use Rattle.dnsv_program.specs.declared.status.InputFile.TheVariants.{Anchors, Capture, Keys, Macs, Questions, Statements}
+use Rattle.dnsv_program.specs.declared.status.InputFile.TheVariants.{Anchors, Answers, Capture, Keys, Macs, Questions, Statements}
 use Rattle.dnsv_program.specs.declared.status.Place.{Place}
 use Rattle.dnsv_program.specs.declared.status.Refusal.{Refusal}
 use Rattle.dnsv_program.specs.Files.{Files, AreTold, AreToldBeside, given_failures}
@@ -57,6 +57,7 @@ pub record TellsReads {R T : Type 0} (before after : Inputs R) (result : Result 
   pub anchors : TellsFailedReads Anchors (given_failures before.anchors) (given_failures after.anchors) result
   pub statements : TellsFailedReads Statements (given_failures before.statements) (given_failures after.statements)
       result
+  pub answers : TellsFailedReads Answers (given_failures before.answers) (given_failures after.answers) result
   pub keys : TellsFailedReads Keys (given_failures before.keys) (given_failures after.keys) result
   pub macs : TellsFailedReads Macs (given_failures before.macs) (given_failures after.macs) result
   -- a file that is open can't fail to open

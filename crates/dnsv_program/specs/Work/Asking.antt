@@ -1,5 +1,5 @@
 -- What the answers to many questions are: each by itself, one text behind the other, and the greatest exit status.
-use Rattle.std.specs.Prelude.{◌≡◌, ◌⊎◌, ◌≤◌, ℕ, Bool, List, [], ◌∷◌, Contains, map, take}
+use Rattle.std.specs.Prelude.{◌≡◌, ◌⊎◌, ◌≤◌, ℕ, Bool, List, [], ◌∷◌, Contains, Option, map, take}
 use Rattle.std.specs.List.{flat_map}
 use Rattle.dnsv_canonical.specs.Question.{Asked}
 use Rattle.dnsv_canonical.specs.Rrsets.{IsQuestion}
@@ -26,9 +26,9 @@ pub record IsRefusedOne (format : Format) (why : Bool) (basis : Basis) (asked : 
   pub line : text ≡ refused_text format (verdict_error_code error) why asked.name asked.rtype basis.moment (status_code end)
 
 -- the end and the text that the question has alone, or how it is refused
-abbrev pub IsAnswer : Format → Bool → Basis → Asked → Status → List ℕ → Type 0
-IsAnswer format why basis asked end text =
-    (IsQuestion asked.name asked.rtype × IsJudged format why basis asked.name asked.rtype end text)
+abbrev pub IsAnswer : Format → Bool → Option (List ℕ) → Basis → Asked → Status → List ℕ → Type 0
+IsAnswer format why numbers basis asked end text =
+    (IsQuestion asked.name asked.rtype × IsJudged format why numbers basis asked.name asked.rtype end text)
     ⊎ IsRefusedOne format why basis asked end text
 
 -- ---- many
@@ -37,12 +37,12 @@ pub record Answered : Type 0 where
   pub end : Status
   pub text : List ℕ
 
-abbrev pub EachAnswered : Format → Bool → Basis → List Asked → List Answered → Type 0
-EachAnswered format why basis [] [] = Unit {0}
-EachAnswered format why basis [] (answer ∷ answers) = ⊥
-EachAnswered format why basis (asked ∷ others) [] = ⊥
-EachAnswered format why basis (asked ∷ others) (answer ∷ answers) =
-    IsAnswer format why basis asked answer.end answer.text × EachAnswered format why basis others answers
+abbrev pub EachAnswered : Format → Bool → Option (List ℕ) → Basis → List Asked → List Answered → Type 0
+EachAnswered format why numbers basis [] [] = Unit {0}
+EachAnswered format why numbers basis [] (answer ∷ answers) = ⊥
+EachAnswered format why numbers basis (asked ∷ others) [] = ⊥
+EachAnswered format why numbers basis (asked ∷ others) (answer ∷ answers) =
+    IsAnswer format why numbers basis asked answer.end answer.text × EachAnswered format why numbers basis others answers
 
 -- it is one of these ends, or the first of all where there is none, and none of these has a greater exit status
 pub record IsGreatest (ends : List Status) (end : Status) : Type 0 where
@@ -50,9 +50,9 @@ pub record IsGreatest (ends : List Status) (end : Status) : Type 0 where
   pub greatest : (other : Status) → Contains ends other → status_code other ≤ status_code end
 
 -- the end and the text of all: the greatest of their ends, and their texts one behind the other, in their order
-pub record AreAnswers (format : Format) (why : Bool) (basis : Basis) (asked : List Asked) (end : Status) (text : List ℕ) : Type 0 where
+pub record AreAnswers (format : Format) (why : Bool) (numbers : Option (List ℕ)) (basis : Basis) (asked : List Asked) (end : Status) (text : List ℕ) : Type 0 where
   pub answers : List Answered
-  pub each : EachAnswered format why basis asked answers
+  pub each : EachAnswered format why numbers basis asked answers
   pub ends : IsGreatest (map (λ answer. answer.end) answers) end
   pub joined : text ≡ flat_map (λ answer. answer.text) answers
 
@@ -63,7 +63,7 @@ pub record AreAnswered (format : Format) (why : Bool) (moment : ℕ) (files : Fi
   pub asked : List Asked
   pub has : HasQuestions (octets_or_none files.questions) asked
   pub given : AreInOrder moment files
-  pub answers : AreAnswers format why (basis_in given) asked end text
+  pub answers : AreAnswers format why given.numbers (basis_in given) asked end text
 
 -- the text is that of some of the questions, from the first on
 pub record AreFirstAnswered (format : Format) (why : Bool) (moment : ℕ) (files : Files) (text : List ℕ) : Type 0 where
@@ -72,4 +72,4 @@ pub record AreFirstAnswered (format : Format) (why : Bool) (moment : ℕ) (files
   pub given : AreInOrder moment files
   pub count : ℕ
   pub end : Status
-  pub answers : AreAnswers format why (basis_in given) (take count asked) end text
+  pub answers : AreAnswers format why given.numbers (basis_in given) (take count asked) end text

@@ -21,7 +21,8 @@ use Rattle.dnsv_program.specs.declared.opening.Opening.{Opening}
 use Rattle.dnsv_program.specs.Files.Capture.{Holds, NewEvidence}
 use Rattle.dnsv_program.specs.Opening.Given.{IsOpeningOf}
 use Rattle.dnsv_program.specs.Files.{Files, octets_or_none}
-use Rattle.dnsv_program.specs.Files.Statements.{IsMeaningOf}
+use Rattle.dnsv_program.specs.Work.Known.{IsKnownBy, IsSaidBy}
+use Rattle.dnsv_program.specs.declared.work.given.Said.{Said}
 use Rattle.dnsv_program.specs.Status.{status_code}
 use Rattle.dnsv_texts.specs.declared.format.Format.{Format}
 use Rattle.dnsv_texts.specs.Checking.{check_text}
@@ -55,7 +56,8 @@ verdict_fault error.AliasTargets = fault.Refused (refusal.Question error.AliasTa
 -- ---- the files
 
 -- The files are in order: the capture holds messages, in frames that the keys open at the moment where keys are given,
--- each of them evidence besides those before it, and there are trust anchors and statements.
+-- each of them evidence besides those before it, and there are trust anchors, and statements, or the answers to the
+-- capture's list at the moment, which give the entries that are still open their numbers.
 pub record AreInOrder (moment : ℕ) (files : Files) : Type 0 where
   pub opening : Opening
   pub opens : IsOpeningOf files.keys files.macs moment opening
@@ -64,16 +66,30 @@ pub record AreInOrder (moment : ℕ) (files : Files) : Type 0 where
   pub anchors : List Anchor
   pub trusted : HasAnchors (octets_or_none files.anchors) anchors
   pub meaning : Entry → Answer
-  pub said : IsMeaningOf (octets_or_none files.statements) meaning
+  pub numbers : Option (List ℕ)
+  pub said : IsKnownBy files.capture moment (evidence_of messages).rrsets files.statements files.answers meaning numbers
 
 -- what a question is judged by, at the moment
 abbrev pub basis_in : {moment : ℕ} {files : Files} → AreInOrder moment files → Basis
 basis_in {moment} given = basis_of (evidence_of given.messages).rrsets given.anchors moment given.meaning
 
--- the files are in order, and questions are judged by this evidence, these anchors and what is known of signatures
-pub record AreGivenBy (moment : ℕ) (files : Files) (rrsets : List ReceivedRrset) (anchors : List Anchor) (meaning : Entry → Answer) : Type 0 where
+-- what is read of the files: this evidence, these anchors, and this of signatures; how many answers there are isn't said
+pub record AreReadFrom (moment : ℕ) (files : Files) (rrsets : List ReceivedRrset) (anchors : List Anchor) (said : Said) : Type 0 where
+  pub opening : Opening
+  pub opens : IsOpeningOf files.keys files.macs moment opening
+  pub messages : List Contents
+  pub holds : Holds NewEvidence opening files.capture messages
+  pub is : rrsets ≡ (evidence_of messages).rrsets
+  pub trusted : HasAnchors (octets_or_none files.anchors) anchors
+  pub says : IsSaidBy files.capture moment files.statements files.answers said
+
+-- the files are in order, and questions are judged by this evidence, these anchors and what is known of signatures, and
+-- told with these numbers
+pub record AreGivenBy (moment : ℕ) (files : Files) (rrsets : List ReceivedRrset) (anchors : List Anchor) (meaning : Entry → Answer)
+    (numbers : Option (List ℕ)) : Type 0 where
   pub given : AreInOrder moment files
   pub is : basis_of rrsets anchors moment meaning ≡ basis_in given
+  pub told : numbers ≡ given.numbers
 
 -- where it is asked why the verdict stands, the lines that explain it are told, and else none
 abbrev pub IsWhy : Bool → Basis → ℕ → Report → Option (List Line) → Type 0
@@ -83,19 +99,19 @@ IsWhy true basis rtype report None = ⊥
 IsWhy true basis rtype report (Some lines) = IsExplanationOf basis rtype report lines
 
 -- The end and the text are those of the question's verdict, by what it is judged by, and of why it stands, where that is
--- asked for.
-pub record IsJudged (format : Format) (why : Bool) (basis : Basis) (name : Labels) (rtype : ℕ) (end : Status) (text : List ℕ) : Type 0 where
+-- asked for. Where numbers are given, entries that are still to be checked are told by these alone.
+pub record IsJudged (format : Format) (why : Bool) (numbers : Option (List ℕ)) (basis : Basis) (name : Labels) (rtype : ℕ) (end : Status) (text : List ℕ) : Type 0 where
   pub report : Report
   pub is_verdict : IsVerdictOf basis name rtype report.links report.last report.verdict
   pub told : Option (List Line)
   pub is_told : IsWhy why basis rtype report told
   pub ends : end ≡ verdict_status report.verdict
-  pub lines : text ≡ check_text format name rtype basis.moment (status_code end) basis.rrsets report.links report.verdict told None
+  pub lines : text ≡ check_text format name rtype basis.moment (status_code end) basis.rrsets report.links report.verdict told numbers
 
 -- the files are in order, and these are the end and the text of the question by what they say
 pub record IsCheck (format : Format) (why : Bool) (name : Labels) (rtype moment : ℕ) (files : Files) (end : Status) (text : List ℕ) : Type 0 where
   pub given : AreInOrder moment files
-  pub judged : IsJudged format why (basis_in given) name rtype end text
+  pub judged : IsJudged format why given.numbers (basis_in given) name rtype end text
 
 -- The files are in order, and the question is refused: a way over aliases from its name ends at one that can't be
 -- followed. The refusal has no place.

@@ -2,7 +2,7 @@
 ghost use Rattle.std.specs.Prelude.{◌≡◌, false, true, IfOk};
 ghost use Rattle.clap.specs.Words.{app_of, rule_of};
 ghost use Rattle.clap.specs.declared.Command.TheViews.{out-Command as fields_of};
-ghost use Rattle.dnsv_program.specs.CommandLine.Commands.{all_rule, capture_rule, compact_rule, json_rule, keys_rule, macs_rule, moment_rule, statements_rule};
+ghost use Rattle.dnsv_program.specs.CommandLine.Commands.{all_rule, answers_rule, capture_rule, compact_rule, json_rule, keys_rule, macs_rule, moment_rule, statements_rule};
 ghost use Rattle.dnsv_program.specs.CommandLine.Commands.{anchors_rule, name_rule, questions_rule, type_rule};
 ghost use Rattle.dnsv_program.specs.CommandLine.Commands.{asking_app, list_app, program_app, question_app, show_app};
 
@@ -151,6 +151,7 @@ fn question<'a>(
         .arg(type_option(alloc))?
         .arg(questions_option(alloc))?
         .arg(statements_option(alloc))?
+        .arg(answers_option(alloc))?
         .arg(keys_option(alloc))?
         .arg(macs_option(alloc))?
         .arg(json_flag(alloc))
@@ -238,6 +239,19 @@ fn statements_option<'a>(alloc: Global) -> Arg<'a>
         .long("statements")
         .value_name("FILE")
         .help("What was checked: lines `good ALG KEY DATA SIG` or `bad ALG KEY DATA SIG`, in hex")
+}
+
+/// `--answers FILE`
+fn answers_option<'a>(alloc: Global) -> Arg<'a>
+    ensures rule { rule_of result ≡ answers_rule }
+    ensures local { result.global ≡ false }
+{
+    Arg::new(alloc, "answers")
+        .long("answers")
+        .value_name("FILE")
+        .help(
+            "In place of --statements, an answer to each entry of list --compact: lines `good`, `bad` or `-`",
+        )
 }
 
 /// `--keys FILE`

@@ -1,7 +1,7 @@
 //! What the program is asked to do.
 ghost use Rattle.std.specs.Prelude.{◌≡◌};
 ghost use Rattle.std.specs.Option.{option_map};
-ghost use Rattle.dnsv_program.specs.CommandLine.Paths.{anchors_of, capture_of, keys_of, macs_of, questions_of, statements_of};
+ghost use Rattle.dnsv_program.specs.CommandLine.Paths.{anchors_of, answers_of, capture_of, keys_of, macs_of, questions_of, statements_of};
 
 use crate::command_line::moment::Moment;
 use dnsv_names::RecordType;
@@ -35,6 +35,15 @@ pub enum Listing {
     All,
 }
 
+/// By what it is known which signatures are good.
+#[derive(Debug, Drop)]
+pub enum Known {
+    /// By statements, where the path of a file of these is given.
+    Statements(Option<String>),
+    /// By answers by number, whose file has this path.
+    Answers(String),
+}
+
 /// What the program is asked to do.
 #[derive(Debug, Drop)]
 pub enum Request {
@@ -62,8 +71,7 @@ pub enum Request {
         anchors: String,
         moment: Moment,
         asking: Asking,
-        /// The path of the file of statements.
-        statements: Option<String>,
+        known: Known,
         /// The path of the file of keys, by which the messages were signed.
         keys: Option<String>,
         /// The path of the file of the MACs of requests. It is read where keys are.
@@ -108,7 +116,20 @@ impl Request {
                 ..
             }
             | Request::Check {
-                statements: Some(path),
+                known: Known::Statements(Some(path)),
+                ..
+            } => Some(path.as_str()),
+            _ => None,
+        }
+    }
+
+    /// The path of the file of answers, where one is read.
+    pub fn answers(&self) -> Option<&str>
+        ensures { option_map (λ path. path.now) result ≡ answers_of self.now }
+    {
+        match self {
+            Request::Check {
+                known: Known::Answers(path),
                 ..
             } => Some(path.as_str()),
             _ => None,

@@ -46,8 +46,35 @@ pub fn evidence_in<'b, R: Read>(
     ensures faults { TellsFileFaults InputFile.Capture (IsFaultOfCapture NewEvidence opening.now)
         (R.remaining (inner_of capture.old)) (failures_of capture.old) (failures_of capture.new) result }
 {
+    let framed = framed_evidence_in(alloc, opening, capture, bump)?;
+    Ok(framed.held)
+}
+
+/// Evidence, and the octets of the frames that hold its messages.
+#[derive(Drop)]
+pub struct FramedEvidence<'b> {
+    pub held: Capture<'b>,
+    pub frames: Vec<&'b [u8]>,
+}
+
+/// The same as `evidence_in`, with the octets of each frame.
+pub fn framed_evidence_in<'b, R: Read>(
+    alloc: Global,
+    opening: &Opening,
+    capture: &mut Counted<R>,
+    bump: &'b Bump,
+) -> Result<FramedEvidence<'b>, Fault>
+    ensures evidence { IfOk result (λ framed. IfSome (R.remaining (inner_of capture.old)) (λ file.
+        (messages : List Contents) × Holds NewEvidence opening.now file messages
+        × (framed.held ≡ evidence_of messages))) }
+    ensures frames { IfOk result (λ framed. IfSome (R.remaining (inner_of capture.old)) (λ file.
+        IsCapture file (octets_at_each framed.frames.items))) }
+    ensures faults { TellsFileFaults InputFile.Capture (IsFaultOfCapture NewEvidence opening.now)
+        (R.remaining (inner_of capture.old)) (failures_of capture.old) (failures_of capture.new) result }
+{
     let frames = frames(alloc, capture, bump)?;
-    evidence_of_frames(alloc, opening, &frames, bump)
+    let held = evidence_of_frames(alloc, opening, &frames, bump)?;
+    Ok(FramedEvidence { held, frames })
 }
 
 /// The octets of each frame of the file, which are placed in the arena.

@@ -4,9 +4,8 @@ ghost use Rattle.std.specs.Io.KnownBytes.{Appends};
 ghost use Rattle.dnsv_message.specs.Streams.Counted.{inner_of, failures_of, AppendsBeginning};
 ghost use Rattle.dnsv_canonical.specs.Question as asked;
 ghost use Rattle.dnsv_verdict.specs.Case.{IsCaseOf};
-ghost use Rattle.dnsv_verdict.specs.Verdict.{Basis, basis_of};
+ghost use Rattle.dnsv_verdict.specs.Verdict.{Basis};
 ghost use Rattle.dnsv_verdict.specs.Way.{IsRefusal};
-ghost use Rattle.dnsv_verifier.specs.Statements.{listed_answer};
 ghost use Rattle.dnsv_program.specs.Files.Faults.{OfFailedRead, TellsFaults};
 ghost use Rattle.dnsv_program.specs.Files.Questions.{HasQuestions};
 ghost use Rattle.dnsv_program.specs.Files.{AreTold, Files, octets_or_none};
@@ -18,8 +17,9 @@ ghost use Rattle.dnsv_program.specs.declared.status.Status.{Status};
 use crate::command_line::moment::Moment;
 use crate::files::text::text_in;
 use crate::status::{Fault, InputFile, Status};
-use crate::work::given::{Given, given_in};
+use crate::work::given::given_in;
 use crate::work::judging::{Asked, Judging, Telling, outcome_by, verdict_fault};
+use crate::work::known::{OpenNumbers, open_case};
 use crate::work::{Inputs, Outcome};
 use bumpalo::Bump;
 use dnsv_canonical::Rrset;
@@ -64,60 +64,15 @@ pub fn check_each<R: Read, W: Write>(
 {
     let questions: Questions = text_in(alloc, InputFile::Questions, &mut inputs.questions)?;
     let given = given_in(alloc, moment, inputs, bump)?;
-    answer_all(
-        alloc,
-        bump,
-        telling,
-        moment,
-        &given,
-        questions.as_slice(),
-        output,
-    )
-}
-
-/// Each question is judged by one case, and what is reported of it written.
-fn answer_all<W: Write>(
-    alloc: Global,
-    bump: &Bump,
-    telling: Telling,
-    moment: Moment,
-    given: &Given<'_>,
-    questions: &[StoredQuestion],
-    output: &mut Counted<W>,
-) -> Result<Status, Fault>
-    ensures done { IfOk result (λ end. (text : List ℕ)
-        × AreAnswers telling.format telling.why (basis_of given.now.held.rrsets given.now.anchors moment
-        (listed_answer given.now.statements)) questions.now end text
-        × Appends (W.contents (inner_of output.old)) (W.contents (inner_of output.new)) text) }
-    ensures only { IfErr result (λ fault. (fault ≡ Fault.OutOfMemory) ⊎ (fault ≡ Fault.WriteFailed)) }
-    ensures write { result ≡ Err Fault.WriteFailed
-        → failures_of output.old < u64.MAX → failures_of output.old < failures_of output.new }
-    ensures begun { result ≡ Err Fault.WriteFailed → (count : ℕ) × (end : Status) × (text : List ℕ)
-        × AreAnswers telling.format telling.why (basis_of given.now.held.rrsets given.now.anchors moment
-        (listed_answer given.now.statements)) (take count questions.now) end text
-        × AppendsBeginning (W.contents (inner_of output.old)) (W.contents (inner_of output.new)) text }
-    ensures whole { result ≡ Err Fault.OutOfMemory
-        → (output.new ≡ output.old) ⊎ ((count : ℕ) × (end : Status) × (text : List ℕ)
-        × AreAnswers telling.format telling.why (basis_of given.now.held.rrsets given.now.anchors moment
-        (listed_answer given.now.statements)) (take count questions.now) end text
-        × Appends (W.contents (inner_of output.old)) (W.contents (inner_of output.new)) text) }
-{
-    let mut judge = Judging::new(
-        alloc,
-        bump,
-        telling.why,
-        moment,
-        &given.held,
-        &given.anchors,
-        &given.statements,
-    )?;
+    let mut opened = open_case(alloc, bump, telling.why, moment, &given)?;
     tell_each(
         alloc,
-        &mut judge,
+        &mut opened.judging,
         telling,
         moment,
         given.held.rrsets(),
-        questions,
+        &opened.numbers,
+        questions.as_slice(),
         output,
     )
 }
@@ -129,29 +84,32 @@ fn tell_each<W: Write>(
     telling: Telling,
     moment: Moment,
     rrsets: &[Rrset<'_>],
+    numbers: &OpenNumbers,
     questions: &[StoredQuestion],
     output: &mut Counted<W>,
 ) -> Result<Status, Fault>
     requires why { tells_why judge.now ≡ telling.why }
     ensures done { (basis : Basis) → IsCaseOf basis (case_of judge.old) → rrsets.now ≡ basis.rrsets
         → basis.moment ≡ moment → IfOk result (λ end. (text : List ℕ)
-        × AreAnswers telling.format telling.why basis questions.now end text
+        × AreAnswers telling.format telling.why numbers.now basis questions.now end text
         × Appends (W.contents (inner_of output.old)) (W.contents (inner_of output.new)) text) }
     ensures only { IfErr result (λ fault. (fault ≡ Fault.OutOfMemory) ⊎ (fault ≡ Fault.WriteFailed)) }
     ensures write { result ≡ Err Fault.WriteFailed
         → failures_of output.old < u64.MAX → failures_of output.old < failures_of output.new }
     ensures begun { (basis : Basis) → IsCaseOf basis (case_of judge.old) → rrsets.now ≡ basis.rrsets
         → basis.moment ≡ moment → result ≡ Err Fault.WriteFailed → (count : ℕ) × (end : Status) × (text : List ℕ)
-        × AreAnswers telling.format telling.why basis (take count questions.now) end text
+        × AreAnswers telling.format telling.why numbers.now basis (take count questions.now) end text
         × AppendsBeginning (W.contents (inner_of output.old)) (W.contents (inner_of output.new)) text }
     ensures whole { (basis : Basis) → IsCaseOf basis (case_of judge.old) → rrsets.now ≡ basis.rrsets
         → basis.moment ≡ moment → result ≡ Err Fault.OutOfMemory → (count : ℕ) × (end : Status) × (text : List ℕ)
-        × AreAnswers telling.format telling.why basis (take count questions.now) end text
+        × AreAnswers telling.format telling.why numbers.now basis (take count questions.now) end text
         × Appends (W.contents (inner_of output.old)) (W.contents (inner_of output.new)) text }
 {
     let mut end = Status::Done;
     for question in questions {
-        let told = tell_one(alloc, judge, telling, moment, rrsets, question, output)?;
+        let told = tell_one(
+            alloc, judge, telling, moment, rrsets, numbers, question, output,
+        )?;
         end = end.worse(told);
     }
     Ok(end)
@@ -164,13 +122,14 @@ fn tell_one<W: Write>(
     telling: Telling,
     moment: Moment,
     rrsets: &[Rrset<'_>],
+    numbers: &OpenNumbers,
     question: &StoredQuestion,
     output: &mut Counted<W>,
 ) -> Result<Status, Fault>
     requires why { tells_why judge.now ≡ telling.why }
     ensures done { (basis : Basis) → IsCaseOf basis (case_of judge.old) → rrsets.now ≡ basis.rrsets
         → basis.moment ≡ moment → IfOk result (λ end. (text : List ℕ)
-        × IsAnswer telling.format telling.why basis question.now end text
+        × IsAnswer telling.format telling.why numbers.now basis question.now end text
         × Appends (W.contents (inner_of output.old)) (W.contents (inner_of output.new)) text) }
     ensures only { IfErr result (λ fault. (fault ≡ Fault.OutOfMemory) ⊎ (fault ≡ Fault.WriteFailed)) }
     ensures calm { IfOk result (λ _. failures_of output.new ≡ failures_of output.old) }
@@ -178,12 +137,12 @@ fn tell_one<W: Write>(
         → failures_of output.old < u64.MAX → failures_of output.old < failures_of output.new }
     ensures begun { (basis : Basis) → IsCaseOf basis (case_of judge.old) → rrsets.now ≡ basis.rrsets
         → basis.moment ≡ moment → result ≡ Err Fault.WriteFailed → (end : Status) × (text : List ℕ)
-        × IsAnswer telling.format telling.why basis question.now end text
+        × IsAnswer telling.format telling.why numbers.now basis question.now end text
         × AppendsBeginning (W.contents (inner_of output.old)) (W.contents (inner_of output.new)) text }
     ensures untouched { result ≡ Err Fault.OutOfMemory → output.new ≡ output.old }
     ensures same { judge.new ≡ judge.old }
 {
-    let outcome = answer(alloc, judge, telling, moment, rrsets, question)?;
+    let outcome = answer(alloc, judge, telling, moment, rrsets, numbers, question)?;
     match output.write_all(outcome.text.as_bytes()) {
         Ok(()) => Ok(outcome.status),
         Err(_) => Err(Fault::WriteFailed),
@@ -197,11 +156,12 @@ fn answer(
     telling: Telling,
     moment: Moment,
     rrsets: &[Rrset<'_>],
+    numbers: &OpenNumbers,
     question: &StoredQuestion,
 ) -> Result<Outcome, AllocError>
     requires why { tells_why judge.now ≡ telling.why }
     ensures answer { (basis : Basis) → IsCaseOf basis (case_of judge.old) → rrsets.now ≡ basis.rrsets
-        → basis.moment ≡ moment → IfOk result (λ outcome. IsAnswer telling.format telling.why basis question.now
+        → basis.moment ≡ moment → IfOk result (λ outcome. IsAnswer telling.format telling.why numbers.now basis question.now
         outcome.status (string_bytes outcome.text)) }
     ensures same { judge.new ≡ judge.old }
 {
@@ -212,7 +172,15 @@ fn answer(
         moment,
     };
     match judge.report(alloc, &name, asked.rtype) {
-        Ok((report, told)) => outcome_by(alloc, telling.format, &asked, rrsets, &report, &told),
+        Ok((report, told)) => outcome_by(
+            alloc,
+            telling.format,
+            &asked,
+            rrsets,
+            &report,
+            &told,
+            numbers,
+        ),
         Err(error) => refused(alloc, telling, &asked, error),
     }
 }

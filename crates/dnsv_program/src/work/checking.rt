@@ -13,6 +13,7 @@ use crate::command_line::question::question_name;
 use crate::status::Fault;
 use crate::work::given::given_in;
 use crate::work::judging::{Asked, Telling, judge};
+use crate::work::known::open_case;
 use crate::work::{Inputs, Outcome};
 use bumpalo::Bump;
 use dnsv_names::RecordType;
@@ -69,13 +70,13 @@ fn check_question<R: Read>(
     ensures unrefused { IfOk result (λ outcome. outcome.status ≡ Refused → ⊥) }
 {
     let given = given_in(alloc, asked.moment, inputs, bump)?;
+    let mut opened = open_case(alloc, bump, telling.why, asked.moment, &given)?;
     judge(
         alloc,
-        bump,
+        &mut opened.judging,
         telling,
         asked,
-        &given.held,
-        &given.anchors,
-        &given.statements,
+        given.held.rrsets(),
+        &opened.numbers,
     )
 }

@@ -1,7 +1,10 @@
 //! How questions are judged, and what the program says of one.
-ghost use Rattle.std.specs.Prelude.{◌≡◌, ◌⊎◌, IfErr, IfOk, List, None, Option, string_bytes};
+ghost use Rattle.std.specs.Prelude.{◌≡◌, ◌⊎◌, IfErr, IfOk, List, Option, string_bytes};
 ghost use Rattle.std.specs.Option.{option_map};
 ghost use Rattle.dnsv_canonical.specs.Rrsets.{IsQuestion};
+ghost use Rattle.dnsv_answers.specs.Answered.{IsAnsweredTable};
+ghost use Rattle.dnsv_verifier.specs.Table.{table_answer};
+ghost use Rattle.dnsv_verifier.specs.declared.answer.Answer.{Answer};
 ghost use Rattle.dnsv_verdict.specs.Way.{IsRefusal, IsRefusedFor, IsVerdictOf};
 ghost use Rattle.dnsv_verdict.specs.declared.error.VerdictError.{VerdictError};
 ghost use Rattle.dnsv_verdict.specs.declared.error.VerdictError.TheVariants.{OutOfMemory};
@@ -19,6 +22,7 @@ ghost use Rattle.dnsv_verdict.specs.Case.{IsCaseOf};
 use crate::command_line::moment::Moment;
 use crate::status::{Fault, Place, Refusal, Status};
 use crate::work::Outcome;
+use crate::work::known::OpenNumbers;
 use bumpalo::Bump;
 use dnsv_canonical::{Capture, Rrset};
 use dnsv_chain::Anchors;
@@ -27,7 +31,7 @@ use dnsv_lines::Line;
 use dnsv_names::{Name, RecordType};
 use dnsv_texts::{Format, Heading, check_text};
 use dnsv_verdict::{Case, OpenCase, Report, Verdict, VerdictError};
-use dnsv_verifier::Verifier;
+use dnsv_verifier::{Table, Verifier};
 use std::alloc::{AllocError, Global};
 
 /// How a verdict is reported.
@@ -80,6 +84,29 @@ impl<'a> Judging<'a> {
         Ok(Judging::Plain(OpenCase::of(alloc, case)))
     }
 
+    /// The case at the moment, under what the table says, which is made of answers. Where it is asked why verdicts stand, the
+    /// table is asked as a verifier.
+    pub fn by_table(
+        alloc: Global,
+        bump: &'a Bump,
+        why: bool,
+        moment: Moment,
+        held: &'a Capture<'a>,
+        anchors: &'a Anchors<'a>,
+        table: Table<'a>,
+    ) -> Result<Judging<'a>, AllocError>
+        ensures case { (said : List Answer) → IsAnsweredTable moment held.now.rrsets said table.entry
+            → IfOk result (λ judge. IsCaseOf (basis_of held.now.rrsets anchors.now moment (table_answer table.entry))
+            (case_of judge)) }
+        ensures why { IfOk result (λ judge. tells_why judge ≡ why) }
+    {
+        if why {
+            return Judging::new(alloc, bump, why, moment, held, anchors, &table);
+        }
+        let case = Case::of(alloc, held, anchors, table)?;
+        Ok(Judging::Plain(OpenCase::of(alloc, case)))
+    }
+
     /// The report on the question, and where that is asked for, why its verdict stands. The case stays.
     pub fn report(
         &mut self,
@@ -114,36 +141,27 @@ impl<'a> Judging<'a> {
 /// asked for, why it stands: in lines, or in JSON.
 ///
 /// An alias that can't be followed is refused, without a place.
-pub fn judge<V: Verifier>(
+pub fn judge(
     alloc: Global,
-    bump: &Bump,
+    judge: &mut Judging<'_>,
     telling: Telling,
     asked: &Asked<'_>,
-    held: &Capture<'_>,
-    anchors: &Anchors<'_>,
-    verifier: &V,
+    rrsets: &[Rrset<'_>],
+    numbers: &OpenNumbers,
 ) -> Result<Outcome, Fault>
-    requires { IsQuestion asked.now.name.now asked.now.rtype.0 }
-    ensures verdict { IfOk result (λ outcome. IsJudged telling.format telling.why
-        (basis_of held.now.rrsets anchors.now asked.now.moment (V.meaning verifier.now)) asked.now.name.now
-        asked.now.rtype.0 outcome.status (string_bytes outcome.text)) }
-    ensures only { IfErr result (λ told. (told ≡ Fault.OutOfMemory) ⊎ ((error : VerdictError)
-        × IsRefusedFor (basis_of held.now.rrsets anchors.now asked.now.moment (V.meaning verifier.now))
-        asked.now.name.now asked.now.rtype.0 error × (told ≡ specs.verdict_fault error))) }
+    requires question { IsQuestion asked.now.name.now asked.now.rtype.0 }
+    requires why { tells_why judge.now ≡ telling.why }
+    ensures verdict { (basis : Basis) → IsCaseOf basis (case_of judge.old) → rrsets.now ≡ basis.rrsets
+        → basis.moment ≡ asked.now.moment → IfOk result (λ outcome. IsJudged telling.format telling.why numbers.now
+        basis asked.now.name.now asked.now.rtype.0 outcome.status (string_bytes outcome.text)) }
+    ensures only { (basis : Basis) → IsCaseOf basis (case_of judge.old) → IfErr result (λ told.
+        (told ≡ Fault.OutOfMemory) ⊎ ((error : VerdictError) × IsRefusedFor basis asked.now.name.now asked.now.rtype.0
+        error × (told ≡ specs.verdict_fault error))) }
 {
-    let mut judge = Judging::new(
-        alloc,
-        bump,
-        telling.why,
-        asked.moment,
-        held,
-        anchors,
-        verifier,
-    )?;
     match judge.report(alloc, asked.name, asked.rtype) {
         Ok((report, told)) => {
             let format = telling.format;
-            Ok(outcome_by(alloc, format, asked, held.rrsets(), &report, &told)?)
+            Ok(outcome_by(alloc, format, asked, rrsets, &report, &told, numbers)?)
         }
         Err(error) => Err(verdict_fault(error)),
     }
@@ -157,11 +175,12 @@ pub fn outcome_by(
     rrsets: &[Rrset<'_>],
     report: &Report<'_>,
     why: &Option<Explanation>,
+    numbers: &OpenNumbers,
 ) -> Result<Outcome, AllocError>
     ensures status { IfOk result (λ outcome. outcome.status ≡ specs.verdict_status report.now.verdict) }
     ensures text { IfOk result (λ outcome. string_bytes outcome.text ≡ texts.check_text format asked.now.name.now
         asked.now.rtype.0 asked.now.moment (status_code outcome.status) rrsets.now report.now.links
-        report.now.verdict why.now None) }
+        report.now.verdict why.now numbers.now) }
 {
     let status = status_of(&report.verdict);
     let heading = Heading {
@@ -170,7 +189,9 @@ pub fn outcome_by(
         moment: asked.moment.seconds(),
         status: status.code(),
     };
-    let text = check_text(alloc, format, &heading, rrsets, report, lines_of(why), None)?;
+    let why = lines_of(why);
+    let numbers = numbers.as_slice();
+    let text = check_text(alloc, format, &heading, rrsets, report, why, numbers)?;
     Ok(Outcome { status, text })
 }
 

@@ -4,7 +4,7 @@ use Rattle.std.proofs.lemmas.Result.{IfOk-weaker}
 use Rattle.clap.specs.Words.{app_of, new_app, with_rule}
 use Rattle.clap.specs.declared.Command.TheViews.{out-Command as fields_of}
 use Rattle.clap.specs.Simple.{app_of_fields}
-use Rattle.dnsv_program.specs.CommandLine.Commands.{anchors_rule, capture_rule, keys_rule, macs_rule, moment_rule, name_rule, questions_rule, statements_rule, type_rule}
+use Rattle.dnsv_program.specs.CommandLine.Commands.{anchors_rule, answers_rule, capture_rule, keys_rule, macs_rule, moment_rule, name_rule, questions_rule, statements_rule, type_rule}
 use Rattle.dnsv_program.proofs.command_line.commands.question.Goals as goal
 
 pub returns : goal.returns
@@ -41,15 +41,19 @@ returns c =
     c.in_ok-arg-7.ensures.shape c.statements_option.ensures.local ∙ ap₂ with_rule with_questions c.statements_option.ensures.rule in
     let after_statements : (fields_of c.in_ok-arg-7.field-0).has_globals ≡ false =
     c.in_ok-arg-7.ensures.globals ∙ ap₂ ◌||◌ after_questions c.statements_option.ensures.local in
-    let with_keys : app_of c.in_ok-arg-8.field-0 ≡ with_rule (with_rule (with_rule (with_rule (with_rule (with_rule (with_rule (with_rule (new_app c.args.word.now) capture_rule) anchors_rule) moment_rule) name_rule) type_rule) questions_rule) statements_rule) keys_rule =
-    c.in_ok-arg-8.ensures.shape c.keys_option.ensures.local ∙ ap₂ with_rule with_statements c.keys_option.ensures.rule in
-    let after_keys : (fields_of c.in_ok-arg-8.field-0).has_globals ≡ false =
-    c.in_ok-arg-8.ensures.globals ∙ ap₂ ◌||◌ after_statements c.keys_option.ensures.local in
-    let with_macs : app_of c.in_ok-arg-9.field-0 ≡ with_rule (with_rule (with_rule (with_rule (with_rule (with_rule (with_rule (with_rule (with_rule (new_app c.args.word.now) capture_rule) anchors_rule) moment_rule) name_rule) type_rule) questions_rule) statements_rule) keys_rule) macs_rule =
-    c.in_ok-arg-9.ensures.shape c.macs_option.ensures.local ∙ ap₂ with_rule with_keys c.macs_option.ensures.rule in
-    let after_macs : (fields_of c.in_ok-arg-9.field-0).has_globals ≡ false =
-    c.in_ok-arg-9.ensures.globals ∙ ap₂ ◌||◌ after_keys c.macs_option.ensures.local in
-    IfOk-weaker c.arg-10.result _ _ (λ command adds. (
+    let with_answers : app_of c.in_ok-arg-8.field-0 ≡ with_rule (with_rule (with_rule (with_rule (with_rule (with_rule (with_rule (with_rule (new_app c.args.word.now) capture_rule) anchors_rule) moment_rule) name_rule) type_rule) questions_rule) statements_rule) answers_rule =
+    c.in_ok-arg-8.ensures.shape c.answers_option.ensures.local ∙ ap₂ with_rule with_statements c.answers_option.ensures.rule in
+    let after_answers : (fields_of c.in_ok-arg-8.field-0).has_globals ≡ false =
+    c.in_ok-arg-8.ensures.globals ∙ ap₂ ◌||◌ after_statements c.answers_option.ensures.local in
+    let with_keys : app_of c.in_ok-arg-9.field-0 ≡ with_rule (with_rule (with_rule (with_rule (with_rule (with_rule (with_rule (with_rule (with_rule (new_app c.args.word.now) capture_rule) anchors_rule) moment_rule) name_rule) type_rule) questions_rule) statements_rule) answers_rule) keys_rule =
+    c.in_ok-arg-9.ensures.shape c.keys_option.ensures.local ∙ ap₂ with_rule with_answers c.keys_option.ensures.rule in
+    let after_keys : (fields_of c.in_ok-arg-9.field-0).has_globals ≡ false =
+    c.in_ok-arg-9.ensures.globals ∙ ap₂ ◌||◌ after_answers c.keys_option.ensures.local in
+    let with_macs : app_of c.in_ok-arg-10.field-0 ≡ with_rule (with_rule (with_rule (with_rule (with_rule (with_rule (with_rule (with_rule (with_rule (with_rule (new_app c.args.word.now) capture_rule) anchors_rule) moment_rule) name_rule) type_rule) questions_rule) statements_rule) answers_rule) keys_rule) macs_rule =
+    c.in_ok-arg-10.ensures.shape c.macs_option.ensures.local ∙ ap₂ with_rule with_keys c.macs_option.ensures.rule in
+    let after_macs : (fields_of c.in_ok-arg-10.field-0).has_globals ≡ false =
+    c.in_ok-arg-10.ensures.globals ∙ ap₂ ◌||◌ after_keys c.macs_option.ensures.local in
+    IfOk-weaker c.arg-11.result _ _ (λ command adds. (
       adds.shape c.json_flag.ensures.local ∙ ap₂ with_rule with_macs c.json_flag.ensures.rule,
       adds.globals ∙ ap₂ ◌||◌ after_macs c.json_flag.ensures.local,
-    )) c.arg-10.ensures
+    )) c.arg-11.ensures

@@ -1,0 +1,84 @@
+-- What is known of signatures: by statements, or by answers by number.
+use Rattle.std.specs.Prelude.{◌≡◌, ℕ, suc, List, [], ◌∷◌, Option, Some, None}
+use Rattle.dnsv_canonical.specs.Rrsets.{ReceivedRrset}
+use Rattle.dnsv_answers.specs.AnswerFile.{AnswersContents, answers_in}
+use Rattle.dnsv_answers.specs.Answered.{IsAnsweredTable}
+use Rattle.dnsv_verifier.specs.Statements.{listed_answer}
+use Rattle.dnsv_verifier.specs.Table.{TableContents, table_answer}
+use Rattle.dnsv_verifier.specs.declared.answer.Answer.{Answer}
+use Rattle.dnsv_verifier.specs.declared.answer.Answer.TheVariants.{Invalid, Unknown, Valid}
+use Rattle.dnsv_verifier.specs.declared.entry.Entry.{Entry}
+use Rattle.dnsv_program.specs.Files.Answers.{AreSaidFor, AreTooManyOrFew, IsFaultBeforeCount, IsFaultOfAnswers}
+use Rattle.dnsv_program.specs.Files.Statements.{IsFaultOfStatements, IsMeaningOf}
+use Rattle.dnsv_program.specs.Files.{IsGiven, octets_or_none}
+use Rattle.dnsv_program.specs.declared.status.Fault.{Fault}
+use Rattle.dnsv_program.specs.declared.status.InputFile.{InputFile}
+use Rattle.dnsv_program.specs.declared.status.InputFile.TheVariants as file
+use Rattle.dnsv_program.specs.declared.status.Place.{Place}
+use Rattle.dnsv_program.specs.declared.status.Refusal.{Refusal}
+use Rattle.dnsv_program.specs.declared.work.given.Said.{Said}
+use Rattle.dnsv_program.specs.declared.work.given.Said.TheVariants as said
+
+-- ---- what answers mean
+
+-- the numbers of those that leave an entry open, if the first has this number
+abbrev pub open_numbers : ℕ → List Answer → List ℕ
+open_numbers number [] = []
+open_numbers number (Unknown ∷ answers) = number ∷ open_numbers (suc number) answers
+open_numbers number (Valid ∷ answers) = open_numbers (suc number) answers
+open_numbers number (Invalid ∷ answers) = open_numbers (suc number) answers
+
+-- What answers mean of the entries that are asked of the RRsets at the moment: the first is the answer to the first
+-- entry, and so on, and of any other entry nothing is known. Those that they leave open are told by their numbers.
+pub record AreMeant (moment : ℕ) (rrsets : List ReceivedRrset) (contents : AnswersContents) (meaning : Entry → Answer)
+    (numbers : Option (List ℕ)) : Type 0 where
+  pub table : TableContents
+  pub is_table : IsAnsweredTable moment rrsets (answers_in contents) table
+  pub says : meaning ≡ table_answer table
+  pub numbered : numbers ≡ Some (open_numbers 1 (answers_in contents))
+
+-- ---- by files
+
+-- what is known of signatures by a file of statements or, where it is given, by a file of answers, for the capture with
+-- these octets and RRsets at the moment: what a verifier says, and the numbers of the entries that are still open, where
+-- they have any
+abbrev pub IsKnownBy : List ℕ → ℕ → List ReceivedRrset → Option (List ℕ) → Option (List ℕ) → (Entry → Answer) → Option (List ℕ) → Type 0
+IsKnownBy capture moment rrsets statements None meaning numbers =
+    IsMeaningOf (octets_or_none statements) meaning × (numbers ≡ None)
+IsKnownBy capture moment rrsets statements (Some text) meaning numbers = (contents : AnswersContents)
+    × AreSaidFor capture moment text contents × AreMeant moment rrsets contents meaning numbers
+
+-- the fault of these files
+abbrev pub IsFaultOfKnown : List ℕ → ℕ → List ReceivedRrset → Option (List ℕ) → Option (List ℕ) → Fault → Type 0
+IsFaultOfKnown capture moment rrsets statements None fault = IsFaultOfStatements (octets_or_none statements) fault
+IsFaultOfKnown capture moment rrsets statements (Some text) fault = IsFaultOfAnswers capture moment rrsets text fault
+
+-- of the two files this one is read, and given
+abbrev pub IsKnownReached : Option (List ℕ) → Option (List ℕ) → InputFile → Type 0
+IsKnownReached statements answers file.Statements = IsGiven statements × (answers ≡ None)
+IsKnownReached statements answers file.Answers = IsGiven answers
+IsKnownReached statements answers _ = ⊥
+
+-- ---- what is read of them, before entries are counted
+
+-- what is known, by what is read
+abbrev pub IsKnown : ℕ → List ReceivedRrset → Said → (Entry → Answer) → Option (List ℕ) → Type 0
+IsKnown moment rrsets (said.Statements listed) meaning numbers = (meaning ≡ listed_answer listed) × (numbers ≡ None)
+IsKnown moment rrsets (said.Answers contents) meaning numbers = AreMeant moment rrsets contents meaning numbers
+
+-- and that isn't known because there are more or fewer answers than entries, which are refused so
+abbrev pub AreMiscountedIn : ℕ → List ReceivedRrset → Said → Refusal → Place → Type 0
+AreMiscountedIn moment rrsets (said.Statements listed) why place = ⊥
+AreMiscountedIn moment rrsets (said.Answers contents) why place = AreTooManyOrFew moment rrsets contents why place
+
+-- this is read of the files
+abbrev pub IsSaidBy : List ℕ → ℕ → Option (List ℕ) → Option (List ℕ) → Said → Type 0
+IsSaidBy capture moment statements None (said.Statements listed) = IsMeaningOf (octets_or_none statements) (listed_answer listed)
+IsSaidBy capture moment statements None (said.Answers contents) = ⊥
+IsSaidBy capture moment statements (Some text) (said.Statements listed) = ⊥
+IsSaidBy capture moment statements (Some text) (said.Answers contents) = AreSaidFor capture moment text contents
+
+-- the fault of these files that is found before
+abbrev pub IsFaultBeforeKnown : List ℕ → ℕ → Option (List ℕ) → Option (List ℕ) → Fault → Type 0
+IsFaultBeforeKnown capture moment statements None fault = IsFaultOfStatements (octets_or_none statements) fault
+IsFaultBeforeKnown capture moment statements (Some text) fault = IsFaultBeforeCount capture moment text fault

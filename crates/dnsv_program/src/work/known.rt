@@ -1,0 +1,133 @@
+//! The case that questions are judged by, under what is known of signatures.
+ghost use Rattle.std.specs.Prelude.{◌≡◌, ℕ, IfErr, IfOk, None, Some, map};
+ghost use Rattle.std.specs.Option.{option_map};
+ghost use Rattle.dnsv_answers.specs.AnswerFile.{answers_in};
+ghost use Rattle.dnsv_answers.specs.Answered.{IsAnsweredTable};
+ghost use Rattle.dnsv_verdict.specs.Case.{IsCaseOf};
+ghost use Rattle.dnsv_verdict.specs.Verdict.{basis_of};
+ghost use Rattle.dnsv_verifier.specs.declared.answer.Answer.{Answer};
+ghost use Rattle.dnsv_verifier.specs.declared.entry.Entry.{Entry};
+ghost use Rattle.dnsv_program.specs.Files.Answers.{AreTooManyOrFew};
+ghost use Rattle.dnsv_program.specs.Told.{IsFaultOf};
+ghost use Rattle.dnsv_program.specs.Work.Judging.{case_of, tells_why};
+ghost use Rattle.dnsv_program.specs.Work.Known.{AreMiscountedIn, IsKnown, open_numbers};
+
+use crate::command_line::moment::Moment;
+use crate::files::answers::answers_fault;
+use crate::status::Fault;
+use crate::work::given::{Given, Said};
+use crate::work::judging::Judging;
+use bumpalo::Bump;
+use dnsv_answers::{Answers, SaidAnswer, answered_table};
+use dnsv_canonical::Capture;
+use dnsv_verifier::{Answer, Table};
+use std::alloc::{AllocError, Global};
+use std::marker::Model;
+
+/// The numbers that entries have in the capture's list, from 1, which answers leave open; none where there are no
+/// answers.
+#[derive(Drop)]
+pub struct OpenNumbers {
+    numbers: Option<Vec<usize>>,
+}
+
+impl Model for OpenNumbers {
+    ghost use Rattle.std.specs.Prelude.{List, Option, ℕ};
+    ghost use Rattle.std.specs.Option.{option_map};
+
+    ghost Value = { Option (List ℕ) };
+
+    ghost view = { λ open. option_map (λ numbers. numbers.items) open.numbers };
+}
+
+impl OpenNumbers {
+    /// Those of the answers.
+    fn of(alloc: Global, answers: &Answers) -> Result<OpenNumbers, AllocError>
+        ensures { IfOk result (λ open. open ≡ Some (open_numbers 1 (answers_in answers.now))) }
+    {
+        let numbers = open_places(alloc, answers.as_slice())?;
+        Ok(OpenNumbers {
+            numbers: Some(numbers),
+        })
+    }
+
+    /// The numbers, where there are answers.
+    pub fn as_slice(&self) -> Option<&[usize]>
+        ensures { option_map (λ numbers. numbers.now) result ≡ self.now }
+    {
+        match &self.numbers {
+            Some(numbers) => Some(numbers.as_slice()),
+            None => None,
+        }
+    }
+}
+
+/// The numbers of the answers that leave an entry open.
+fn open_places(alloc: Global, said: &[SaidAnswer]) -> Result<Vec<usize>, AllocError>
+    ensures { IfOk result (λ numbers. numbers.items ≡ open_numbers 1 (map (λ each. each.answer) said.now)) }
+{
+    let mut numbers = Vec::new(alloc);
+    for (index, each) in said.iter().enumerate() {
+        if each.answer == Answer::Unknown {
+            numbers.push(index + 1)?;
+        }
+    }
+    Ok(numbers)
+}
+
+/// A case, and the numbers by which the entries that are still to be checked are reported.
+#[derive(Drop)]
+pub struct OpenedCase<'a> {
+    pub judging: Judging<'a>,
+    pub numbers: OpenNumbers,
+}
+
+/// The case at the moment, under what the files say of signatures. By answers no entry is looked up, where verdicts alone
+/// are asked for.
+///
+/// The fault is that there are more or fewer answers than entries.
+pub fn open_case<'a>(
+    alloc: Global,
+    bump: &'a Bump,
+    why: bool,
+    moment: Moment,
+    given: &'a Given<'a>,
+) -> Result<OpenedCase<'a>, Fault>
+    ensures known { IfOk result (λ opened. (meaning : Entry → Answer)
+        × IsKnown moment given.now.held.rrsets given.now.said meaning opened.numbers
+        × IsCaseOf (basis_of given.now.held.rrsets given.now.anchors moment meaning) (case_of opened.judging)) }
+    ensures why { IfOk result (λ opened. tells_why opened.judging ≡ why) }
+    ensures fault { IfErr result (IsFaultOf (AreMiscountedIn moment given.now.held.rrsets given.now.said)) }
+{
+    let (held, anchors) = (&given.held, &given.anchors);
+    match &given.said {
+        Said::Statements(statements) => {
+            let judging = Judging::new(alloc, bump, why, moment, held, anchors, statements)?;
+            let numbers = OpenNumbers { numbers: None };
+            Ok(OpenedCase { judging, numbers })
+        }
+        Said::Answers(answers) => {
+            let table = table_of(alloc, bump, held, moment, answers)?;
+            let numbers = OpenNumbers::of(alloc, answers)?;
+            let judging = Judging::by_table(alloc, bump, why, moment, held, anchors, table)?;
+            Ok(OpenedCase { judging, numbers })
+        }
+    }
+}
+
+/// The table of the entries with their answers; the fault is that there are more or fewer of these.
+fn table_of<'a>(
+    alloc: Global,
+    bump: &'a Bump,
+    held: &'a Capture<'a>,
+    moment: Moment,
+    answers: &Answers,
+) -> Result<Table<'a>, Fault>
+    ensures table { IfOk result (IsAnsweredTable moment held.now.rrsets (answers_in answers.now)) }
+    ensures fault { IfErr result (IsFaultOf (AreTooManyOrFew moment held.now.rrsets answers.now)) }
+{
+    match answered_table(alloc, bump, held, moment.seconds(), answers) {
+        Ok(table) => Ok(table),
+        Err(error) => Err(answers_fault(error)),
+    }
+}
