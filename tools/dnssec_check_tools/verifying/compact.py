@@ -8,7 +8,7 @@ from .entries import Refusal, algorithm_of, is_good_here, octets_of
 NUMBER, SMALL, HEX = "[1-9][0-9]{0,9}", "(?:0|[1-9][0-9]{0,4})", "(?:-|[0-9a-f]+)"
 LINES = {
     "key": re.compile(rf"key ({NUMBER}) ({SMALL}) ({HEX})"),
-    "rrset": re.compile(rf"rrset ({NUMBER}) ({HEX}) ({SMALL})((?: {HEX})+)"),
+    "rrset": re.compile(rf"rrset ({NUMBER}) ({HEX}) ({SMALL}) ([0-9a-f -]+)"),  # what RDATA is, is looked at behind
     "signature": re.compile(rf"signature ({NUMBER}) ({NUMBER}) ({HEX}) ({HEX})"),
     "todo": re.compile(rf"todo ({NUMBER}) ({NUMBER}) ({NUMBER}) ({NUMBER})"),
 }
@@ -21,27 +21,29 @@ SHAPES = {
 STAGES = {"key": 0, "rrset": 1, "signature": 1, "todo": 2}  # the order in which lines come
 ASTERISK = b"\1*"
 UINT16 = 0xFFFF
-# Where the RDATA of an RRSIG record has the number of labels, the original TTL and the signer (RFC 4034 3.1).
-LABELS, TTL, SIGNER = 3, slice(4, 8), 18
+# Where the RDATA of an RRSIG record has the number of labels and the original TTL, and how much it has before the
+# signature at least (RFC 4034 3.1).
+LABELS, TTL, FRONT_LEAST = 3, slice(4, 8), 19
 
 
 class Key(NamedTuple):
     algorithm: int
     octets: bytes
-    digest: bytes  # of its line without the number, as those below
+    text: str  # its line without the number, as those below
 
 
 class Rrset(NamedTuple):
     owner: bytes
+    labels: List[bytes]  # of the owner
     kind: int
     rdata: List[bytes]
-    digest: bytes
+    digest: bytes  # of its text
 
 
 class Signature(NamedTuple):
     front: bytes  # the RDATA before it
     octets: bytes
-    digest: bytes
+    text: str
 
 
 class Entry(NamedTuple):
@@ -55,25 +57,26 @@ class Entry(NamedTuple):
     @property
     def digest(self) -> bytes:
         """The same for all entries of what is verified alike, in whichever list."""
-        return hashlib.sha256(self.key.digest + self.rrset.digest + self.signature.digest).digest()
+        texts = f"{self.key.text} {self.signature.text} ".encode("ascii")
+        return hashlib.sha256(texts + self.rrset.digest).digest()
 
     def data(self) -> bytes:
         """The signed octets."""
-        return signed_octets(self.rrset.owner, self.rrset.kind, self.rrset.rdata, self.signature.front)
+        return signed_octets(self.rrset, self.signature.front)
 
     def is_good(self) -> bool:
         """Whether the signature is good; Lacking where it can't be told here."""
         return is_good_here(self.key.algorithm, self.key.octets, self.data(), self.signature.octets)
 
 
-def signed_octets(owner: bytes, kind: int, rdata: List[bytes], front: bytes) -> bytes:
+def signed_octets(rrset: Rrset, front: bytes) -> bytes:
     """What a signature signs (RFC 4034 3.1.8.1). The owner is that of the RRset, or the wildcard from which it was
     expanded, by the labels that are left of it (RFC 4035 5.3.2)."""
-    labels = labels_of(owner)
-    if front[LABELS] < counted(labels):
-        owner = ASTERISK + b"".join(labels[len(labels) - front[LABELS] :]) + b"\0"
-    head = owner + kind.to_bytes(2, "big") + b"\0\1" + front[TTL]
-    return front + b"".join([head + len(each).to_bytes(2, "big") + each for each in rdata])
+    owner = rrset.owner
+    if front[LABELS] < counted(rrset.labels):
+        owner = ASTERISK + b"".join(rrset.labels[len(rrset.labels) - front[LABELS] :]) + b"\0"
+    head = owner + rrset.kind.to_bytes(2, "big") + b"\0\1" + front[TTL]
+    return front + b"".join([head + len(each).to_bytes(2, "big") + each for each in rrset.rdata])
 
 
 def labels_of(name: bytes) -> List[bytes]:
@@ -92,9 +95,9 @@ def counted(labels: List[bytes]) -> int:
     return len(labels) - (labels[:1] == [ASTERISK])
 
 
-def digest_of(match: Match[str], first: int) -> bytes:
-    """Of the fields of a line from the first on."""
-    return hashlib.sha256(match.string[match.start(first) :].encode("ascii")).digest()
+def text_from(match: Match[str], first: int) -> str:
+    """The fields of a line from the first on."""
+    return match.string[match.start(first) :]
 
 
 def pairs_of(field: str) -> bytes:
@@ -103,10 +106,25 @@ def pairs_of(field: str) -> bytes:
     return octets_of(field)
 
 
+def rdata_of(fields: List[str]) -> List[bytes]:
+    if any("-" in field[1:] or not field or field[0] == "-" != field for field in fields):
+        raise ValueError(no_line("rrset"))
+    rdata = list(map(pairs_of, fields))
+    if any(len(each) > UINT16 for each in rdata):
+        raise ValueError("RDATA that no record has")
+    return rdata
+
+
+def no_line(word: str) -> str:
+    shapes = [SHAPES[word]] if word in SHAPES else SHAPES.values()
+    return "no line " + ", ".join(f"`{shape}`" for shape in shapes)
+
+
 class Compact:
     """The lines of a compact list. What isn't one is told by a ValueError."""
 
-    def __init__(self) -> None:
+    def __init__(self, place_of: Callable[[int], str]) -> None:
+        self.place_of, self.line = place_of, 0
         self.keys: List[Key] = []
         self.rrsets: Dict[int, Rrset] = {}
         self.signatures: Dict[Tuple[int, int], Signature] = {}
@@ -114,36 +132,40 @@ class Compact:
         self.last = 0, 0  # the RRset and the signature that came last
         self.kept_by = {"key": self.keep_key, "rrset": self.keep_rrset, "signature": self.keep_signature}
 
-    def take(self, line: str, place: str) -> Optional[Entry]:
+    @property
+    def place(self) -> str:
+        """That of the line that came last."""
+        return self.place_of(self.line)
+
+    def take(self, line: str) -> Optional[Entry]:
         """Keeps what a line has, or answers its entry."""
+        self.line += 1
         word = line.partition(" ")[0]
         match = LINES[word].fullmatch(line) if word in LINES else None
         if match is None:
-            raise ValueError(
-                "no line " + ", ".join(f"`{SHAPES[each]}`" for each in ([word] if word in SHAPES else SHAPES))
-            )
+            raise ValueError(no_line(word))
         if STAGES[word] < self.stage:
             raise ValueError(f"a line `{word}` behind those that it has to come before")
         self.stage = STAGES[word]
         if word == "todo":
-            return self.entry(place, *map(int, match.groups()))
+            return self.entry(*map(int, match.groups()))
         self.kept_by[word](match)
         return None
 
     def keep_key(self, match: Match[str]) -> None:
         if int(match[1]) != len(self.keys) + 1:
             raise ValueError(f"key {match[1]} in place of {len(self.keys) + 1}")
-        self.keys.append(Key(algorithm_of(match[2]), pairs_of(match[3]), digest_of(match, 2)))
+        self.keys.append(Key(algorithm_of(match[2]), pairs_of(match[3]), text_from(match, 2)))
 
     def keep_rrset(self, match: Match[str]) -> None:
-        number, owner, rdata = int(match[1]), pairs_of(match[2]), list(map(pairs_of, match[4][1:].split(" ")))
+        number, owner, kind = int(match[1]), pairs_of(match[2]), int(match[3])
         if number <= self.last[0]:
             raise ValueError(f"RRset {number} behind {self.last[0]}")
-        labels_of(owner)
-        if int(match[3]) > UINT16 or any(len(each) > UINT16 for each in rdata):
-            raise ValueError("a type, or RDATA, that no record has")
+        if kind > UINT16:
+            raise ValueError("a type that no record has")
         self.last = number, 0
-        self.rrsets[number] = Rrset(owner, int(match[3]), rdata, digest_of(match, 2))
+        digest = hashlib.sha256(text_from(match, 2).encode("ascii")).digest()
+        self.rrsets[number] = Rrset(owner, labels_of(owner), kind, rdata_of(match[4].split(" ")), digest)
 
     def keep_signature(self, match: Match[str]) -> None:
         number, front = (int(match[1]), int(match[2])), pairs_of(match[3])
@@ -151,13 +173,14 @@ class Compact:
             raise ValueError(
                 f"signature {match[1]} {match[2]} behind RRset {self.last[0]} and signature {self.last[1]}"
             )
-        labels_of(front[SIGNER:])
-        if front[LABELS] > counted(labels_of(self.rrsets[number[0]].owner)):
+        if len(front) < FRONT_LEAST:
+            raise ValueError("too few octets before a signature")
+        if front[LABELS] > counted(self.rrsets[number[0]].labels):
             raise ValueError("a signature that counts more labels than its owner has")
         self.last = number
-        self.signatures[number] = Signature(front, pairs_of(match[4]), digest_of(match, 3))
+        self.signatures[number] = Signature(front, pairs_of(match[4]), text_from(match, 3))
 
-    def entry(self, place: str, number: int, key: int, rrset: int, signature: int) -> Entry:
+    def entry(self, number: int, key: int, rrset: int, signature: int) -> Entry:
         self.count += 1
         if number != self.count:
             raise ValueError(f"entry {number} in place of {self.count}")
@@ -165,18 +188,18 @@ class Compact:
             raise ValueError(f"there is no key {key}")
         if (rrset, signature) not in self.signatures:
             raise ValueError(f"there is no signature {rrset} {signature}")
-        return Entry(place, self.keys[key - 1], self.rrsets[rrset], self.signatures[rrset, signature])
+        return Entry(self.place, self.keys[key - 1], self.rrsets[rrset], self.signatures[rrset, signature])
 
 
 def entries_of(lines: Iterable[str], place_of: Callable[[int], str]) -> Iterator[Entry]:
     """The entries of a compact list, in its order, by which each is told where its line stands. Refusal of the first
     line that isn't of such a list."""
-    compact = Compact()
-    for number, line in enumerate(lines, 1):
+    compact = Compact(place_of)
+    for line in lines:
         try:
-            entry = compact.take(line, place_of(number))
+            entry = compact.take(line)
         except ValueError as why:
-            raise Refusal(f"{place_of(number)}: {why}") from why
+            raise Refusal(f"{compact.place}: {why}") from why
         if entry:
             yield entry
 

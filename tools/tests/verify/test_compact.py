@@ -101,7 +101,8 @@ class SignedOctets(unittest.TestCase):
 
     def signed(self, owner, labels, rdata=()):
         front = bytes([0, 1, 13, labels]) + b"\0\0\0\x0a" + bytes(10) + b"\0"
-        data = compact.signed_octets(owner, 0x0102, list(rdata), front)
+        rrset = compact.Rrset(owner, compact.labels_of(owner), 0x0102, list(rdata), b"")
+        data = compact.signed_octets(rrset, front)
         self.assertTrue(data.startswith(front))
         return data[len(front):]
 
@@ -212,7 +213,8 @@ class NoList(Room):
         rows = {
             1: ["key", "key 1 13", "key 1 13 02 ", "key 1  13 02", "key 01 13 02", "key 1 013 02", "key 1 13 0G", "key 1 13 0A",
                 "key 1 13 02\r", "key 0 13 02", "key -1 13 02", "key 1 13 02 03", "key 1 999999 02", "key 1 13 02\xff"],
-            3: ["rrset 2 00 1", f"rrset 2 {OWNER} 1 ", f"rrset 2 {OWNER} 1 01  02", f"rrset 2 {OWNER} A 01", "rrset 2"],
+            3: ["rrset 2 00 1", f"rrset 2 {OWNER} 1 ", f"rrset 2 {OWNER} 1 01  02", f"rrset 2 {OWNER} 1 -01", f"rrset 2 {OWNER} 1 01 --",
+                f"rrset 2 {OWNER} 1 0-1", f"rrset 2 {OWNER} 1 01 ", f"rrset 2 {OWNER} 1 0A", f"rrset 2 {OWNER} A 01", "rrset 2"],
             4: [f"signature 2 {FRONT} 0a", f"signature 2 1 {FRONT}", f"signature 2 1 {FRONT} 0a 0b", "signature 2 0 00 00"],
             8: ["todo 1 1 2", "todo 1 1 2 1 1", "todo 13 02 03 04", "todo 1 1 2 x", "todo 1 01 2 1"],
         }
@@ -228,9 +230,10 @@ class NoList(Room):
             (1, "key 1 12 02", "algorithm 12 is none of 5, 7, 8, 10, 13, 14, 15, 16"),
             (3, "rrset 2 - 1 00", name), (3, "rrset 2 0177 1 00", name), (3, "rrset 2 017700ff 1 00", name),
             (3, "rrset 2 c00c 1 00", name), (3, f"rrset 2 {'0161' * 127}016100 1 00", name), (3, "rrset 2 0061 1 00", name),
-            (3, f"rrset 2 {OWNER} 65536 00", "a type, or RDATA, that no record has"),
-            (3, f"rrset 2 {OWNER} 1 {'00' * 65536}", "a type, or RDATA, that no record has"),
-            (4, "signature 2 1 - 0a", name), (4, f"signature 2 1 {FRONT[:-2]} 0a", name), (4, f"signature 2 1 {FRONT}00 0a", name),
+            (3, f"rrset 2 {OWNER} 65536 00", "a type that no record has"),
+            (3, f"rrset 2 {OWNER} 1 {'00' * 65536}", "RDATA that no record has"),
+            (4, "signature 2 1 - 0a", "too few octets before a signature"),
+            (4, f"signature 2 1 {FRONT[:36]} 0a", "too few octets before a signature"),
             (4, f"signature 2 1 {FRONT.replace('0d02', '0d03')} 0a", "a signature that counts more labels than its owner has"),
         )
         for number, line, why in rows:
