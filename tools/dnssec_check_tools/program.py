@@ -212,7 +212,7 @@ def told_by(value: Json) -> Told:
     """What an object says that has a verdict. Of what is to be verified only the count is kept, since each question
     has all of it again."""
     if "todo" in value:
-        value["todo"] = len(value["todo"])
+        value["todo"] = [None] * len(value["todo"])
     return Told(value["status"], value["verdict"], value, "")
 
 

@@ -152,7 +152,7 @@ def with_left(told: Told, answered: Optional[Answered]) -> Told:
     """What is told of a question, and where its verdict hangs on them how many entries are left open: the program
     doesn't list again what answers leave open by number."""
     if answered and told.value and told.status == PENDING:
-        told.value["todo"] = answered.left
+        told.value["todo"] = [None] * answered.left
     return told
 
 
@@ -229,7 +229,7 @@ class View:
             return {"records": [[each["owner"], DENYING.get(each["type"], each["type"])] for each in value["records"]]}
         if "cut" in value:
             return {"cut": value["cut"]}
-        return {"todo": value["todo"]} if "todo" in value else {}
+        return {"todo": len(value["todo"])} if "todo" in value else {}
 
     def of_signature(self, rrset: int, signature: int, signers: Signers) -> Json:
         """The numbers, and who signed: by the lines that say why, else by the capture, which then has to be read."""

@@ -198,7 +198,7 @@ class Memory(Runs):
         told = program.told_of(ABC[0], json.loads(program.without_todo(line)))
         peak = tracemalloc.get_traced_memory()[1]
         tracemalloc.stop()
-        self.assertEqual((told.status, told.value["todo"]), (4, 5000))
+        self.assertEqual((told.status, told.value["todo"]), (4, [None] * 5000))
         self.assertLess(peak, len(line) / 10)
 
     def test_it_is_in_answers_of_the_program_too(self):
