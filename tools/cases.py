@@ -10,7 +10,7 @@ from dataclasses import dataclass
 
 EXAMPLES = pathlib.Path(__file__).resolve().parent.parent / "examples"
 LINE = re.compile(r"(\d+) (\S+(?: \S+)*)")
-FILES = ("--capture", "--anchors", "--statements", "--keys", "--macs", "--questions")
+FILES = ("--capture", "--anchors", "--statements", "--answers", "--keys", "--macs", "--questions")
 FORMS = ("--all", "--compact")
 
 

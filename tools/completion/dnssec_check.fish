@@ -27,6 +27,7 @@ complete -c dnssec_check -n $asking -l anchors -r -d 'the trust anchors'
 complete -c dnssec_check -n $asking -l name -x -d 'the name, with its last dot'
 complete -c dnssec_check -n $asking -l type -x -ka '(__dnssec_check_types)' -d 'the number of the type'
 complete -c dnssec_check -n $asking -l questions -r -d 'many questions, NAME N a line'
+complete -c dnssec_check -n $asking -l answers -r -d 'what was checked, by number'
 complete -c dnssec_check -n $asking -l keys -r -d 'keys of TSIG'
 complete -c dnssec_check -n $asking -l macs -r -d 'MACs of the requests'
 
@@ -50,6 +51,9 @@ complete -c dnssec_check-capture -l split -r -d 'a new folder'
 complete -c dnssec_check-capture -l quiet -d 'only what costs a verdict'
 
 complete -c dnssec_check-verify -l from-check -d "pass over lines whose first word isn't todo"
+complete -c dnssec_check-verify -l compact -d 'answer a compact list by number'
+complete -c dnssec_check-verify -l capture -r -d 'what the compact list is of'
+complete -c dnssec_check-verify -l moment -x -a '(date +%s)' -d 'that of the list'
 complete -c dnssec_check-verify -l budget -x -d 'seconds of a processor'
 
 complete -c dnssec_check-judge -l at -x -a 'now (date -u +%Y-%m-%dT%H:%M:%SZ)' -d 'when the signatures are to be in time'

@@ -1,7 +1,7 @@
 """The lines of `dnssec_check list` as they come: no more of them is read, and none is in memory, than is asked for."""
 import os
 import resource
-from typing import BinaryIO, Iterator, List, Optional
+from typing import BinaryIO, Generator, Iterator, List, Optional
 
 from .asking.faults import Failure
 from .started import Process, content_of, nameless, pipe
@@ -27,8 +27,8 @@ class Listed:
         self.status: Optional[int] = None  # of the program, where it came to its end within the limits
         self.errors = ""
 
-    def lines(self) -> Iterator[str]:
-        """The lines, to be asked for once."""
+    def lines(self) -> Generator[str, None, None]:
+        """The lines, to be asked for once; closed before its end it ends the program."""
         with nameless() as errors:
             with pipe() as (output, back):
                 with self.started(back, errors) as process:

@@ -30,7 +30,7 @@ LIST, CHECK, EXPLAIN = "list", "check", "explain"
 
 MORE_TIME, MORE_OCTETS = "--budget-questions SECONDS gives more", "--budget-octets OCTETS gives more"
 # What the program takes of memory at most for an octet of a file; what it takes for a capture is a part of the rest.
-OF_STATEMENTS, OF_OTHERS = 4, 8
+OF_FILES = 8
 TODO, BEHIND = b'"todo":[', b"}]"  # where what is to be verified begins and ends in the object of an answer
 OPEN = "/proc/self/fd"  # where a process finds the files that it has open
 
@@ -90,8 +90,9 @@ class Program:
             return Run(status, *texts, process.seconds)
 
     def listed(self, capture: int, moment: int, most: int) -> Listed:
-        """The lines that a verifier has to answer at the moment, of which so many octets are read."""
-        return Listed([self.path, LIST, *named({"capture": capture}), f"--moment={moment}"], capture, most)
+        """The compact list that a verifier has to answer at the moment, of which so many octets are read."""
+        words = [self.path, LIST, *named({"capture": capture}), f"--moment={moment}", "--compact"]
+        return Listed(words, capture, most)
 
     def told(
         self,
@@ -174,8 +175,7 @@ def memory_for(files: Files, octets: int) -> Optional[Memory]:
     sizes = {name: os.fstat(number).st_size for name, number in files.items()}
     if sizes.pop("capture") <= LISTS_LITTLE:
         return None
-    of_files = OF_STATEMENTS * sizes.pop("statements", 0) + OF_OTHERS * sum(sizes.values())
-    return Memory(octets + MEMORY_BESIDES + of_files, octets)
+    return Memory(octets + MEMORY_BESIDES + OF_FILES * sum(sizes.values()), octets)
 
 
 def without_todo(line: bytes) -> bytes:

@@ -5,6 +5,10 @@ standard output: `good ALG KEY DATA SIG` where SIG is a signature of DATA by KEY
 The lines come in the order of the files and of each file, and are a file of statements for `--statements`. A FILE `-`
 is the standard input.
 
+With --compact the FILE is the list of `dnssec_check list --compact` for the CAPTURE at the MOMENT. Then the standard
+output has a file of answers for `--answers`: a line `of DIGEST MOMENT`, DIGEST being the SHA-256 of the capture, and a
+line for each entry of the list in its order, `good` or `bad`, and `-` for what else would be left out.
+
 ALG is a DNSSEC algorithm in decimal. KEY is the key field of a DNSKEY record, without flags, protocol and
 algorithm; DATA the signed octets; SIG the signature field of an RRSIG record: each in hex, `-` for no octets.
 
@@ -26,65 +30,127 @@ What is verified within --budget SECONDS of processor time is answered, the rest
 Curves need the package cryptography (Debian: python3-cryptography). Where that lacks an algorithm, the lines of this
 algorithm are left out, each with a note on the standard error.
 
-exit status: 0, every line was answered, also where some are bad; 1, lines were left out, and all others were written;
-or a line was refused, which the standard error names, and nothing was written; or reading or writing failed; 2, the
-command line is wrong, or the standard output is a file that is read; 130, 143, 129, it was interrupted or ended by
-SIGTERM or SIGHUP, and nothing was written.
+exit status: 0, every line was answered, also where some are bad; 1, lines were left out, or answered by `-`, and all
+others were written; or a line was refused, which the standard error names, and nothing was written; or reading or
+writing failed; 2, the command line is wrong, or the standard output is a file that is read; 130, 143, 129, it was
+interrupted or ended by SIGTERM or SIGHUP, and nothing was written.
 """
-from typing import Iterator, List
+import argparse
+from typing import Any, Callable, Iterable, Iterator, List, Optional, Tuple
+from .asking.moments import MOMENT_MOST
 from .command import parser_of, read, run, shown, tell, write
 from .outputs import overwritten
+from .verifying import compact
 from .verifying.entries import Entry, Lacking, Refusal, entry_of
-from .verifying.verifier import Kept, Spent, Verifier, add_budget, digest_of
+from .verifying.verifier import OPEN, Kept, Spent, Verifier, add_budget, digest_of
 
 
-def entries_of(path: str, passes_over: bool) -> List[Entry]:
-    """The entry of each line of a file; with `passes_over`, lines whose first word isn't `todo` have none."""
+def moment(text: str) -> int:
+    if text.isascii() and text.isdigit() and int(text) <= MOMENT_MOST:
+        return int(text)
+    raise argparse.ArgumentTypeError(f"{text!r} is no moment in seconds since 1970, from 0 to {MOMENT_MOST}")
+
+
+def lines_of(path: str) -> List[str]:
     # An octet that is no ASCII becomes a character that no field takes.
     lines = read(path).decode("ascii", "replace").split("\n")
     if lines[-1] == "":
         lines.pop()
+    return lines
+
+
+def place_in(path: str, number: int) -> str:
+    return f"line {number} of {shown(path)}"
+
+
+def entries_of(path: str, passes_over: bool) -> List[Entry]:
+    """The entry of each line of a file; with `passes_over`, lines whose first word isn't `todo` have none."""
     return [
-        entry_of(line, f"line {number} of {shown(path)}")
-        for number, line in enumerate(lines, 1)
+        entry_of(line, place_in(path, number))
+        for number, line in enumerate(lines_of(path), 1)
         if not passes_over or line.split(" ")[0] == "todo"
     ]
 
 
-def statements_of(entries: List[Entry], verifier: Verifier) -> Iterator[str]:
-    """Each entry's line, but for those that can't be had here, or not within the budget; these are told."""
+def each_said(entries: Iterable[Any], say: Callable[[Any], str]) -> Iterator[Optional[str]]:
+    """What is said of each entry; None of those that can't be verified here, or not within the budget, which are
+    told."""
     late: List[str] = []
     for entry in entries:
         try:
-            yield verifier.statement_of(entry.line, entry.place, digest_of(entry.line))
-        except Lacking as why:
-            tell(f"left out {entry.place}: {why}")
-        except Spent as why:
-            late.append(f"{entry.place}: {why}")
+            yield say(entry)
+        except (Lacking, Spent) as why:
+            yield None
+            if isinstance(why, Lacking):
+                tell(f"left out {entry.place}: {why}")
+            else:
+                late.append(f"{entry.place}: {why}")
     if late:
         behind = f"{len(late) - 1} more and " if len(late) > 1 else ""
         tell(f"left out {behind}{late[0]}")
 
 
-def main(words: List[str]) -> int:
+def statements_of(entries: Iterable[Entry], verifier: Verifier) -> Iterator[Optional[str]]:
+    """The statement on each entry, or None."""
+    return each_said(entries, lambda each: verifier.statement_of(each.line, each.place, digest_of(each.line)))
+
+
+def statements_to(options: argparse.Namespace) -> Tuple[str, bool]:
+    """The lines that answer those of the files, and whether all are answered."""
+    entries = [entry for path in options.files for entry in entries_of(path, options.from_check)]
+    said = list(statements_of(entries, Verifier(options.budget, Kept())))
+    return "".join(filter(None, said)), None not in said
+
+
+def answers_to(options: argparse.Namespace) -> Tuple[str, bool]:
+    """The file of answers to a compact list, and whether all of its entries are answered."""
+    (path,) = options.files
+    heading = compact.heading(compact.digest_of_capture(read(options.capture)), options.moment)
+    entries = list(compact.entries_of(lines_of(path), lambda number: place_in(path, number)))
+    said = list(each_said(entries, Verifier(options.budget, Kept()).answer_to))
+    return heading + "".join(f"{each or OPEN}\n" for each in said), None not in said
+
+
+def options_of(words: List[str]) -> argparse.Namespace:
     parser = parser_of(__doc__)
     parser.add_argument(
         "files", nargs="*", default=["-"], metavar="FILE", help="the lines; the standard input by default"
     )
     parser.add_argument("--from-check", action="store_true", help="ignore lines whose first word isn't `todo`")
+    parser.add_argument("--compact", action="store_true", help="answer a compact list by number")
+    parser.add_argument("--capture", metavar="CAPTURE", help="what the compact list is of")
+    parser.add_argument("--moment", type=moment, metavar="MOMENT", help="that of the list, in seconds since 1970")
     add_budget(parser, "of all lines")
     options = parser.parse_args(words)
-    clash = overwritten(["-"], options.files)
-    if clash:
-        parser.error(shown(clash))
+    fault = fault_of(options)
+    if fault:
+        parser.error(fault)
+    return options
+
+
+def fault_of(options: argparse.Namespace) -> Optional[str]:
+    """What is wrong with the options together."""
+    given = [options.capture is not None, options.moment is not None]
+    if not all(given) if options.compact else any(given):
+        return "--compact, --capture and --moment go together"
+    if options.compact and (options.from_check or len(options.files) > 1):
+        return "--compact takes one FILE, and no --from-check"
+    read_here = [*options.files, *([options.capture] if options.compact else [])]
+    if options.compact and read_here.count("-") > 1:
+        return "the list and the capture can't both be the standard input"
+    clash = overwritten(["-"], read_here)
+    return shown(clash) if clash else None
+
+
+def main(words: List[str]) -> int:
+    options = options_of(words)
     try:
-        entries = [entry for path in options.files for entry in entries_of(path, options.from_check)]
-        statements = list(statements_of(entries, Verifier(options.budget, Kept())))
-        write("-", "".join(statements).encode())
+        said, is_whole = answers_to(options) if options.compact else statements_to(options)
+        write("-", said.encode())
     except (Refusal, OSError) as fault:
         tell(fault)
         return 1
-    return 0 if len(statements) == len(entries) else 1
+    return 0 if is_whole else 1
 
 
 def start() -> None:

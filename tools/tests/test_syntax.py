@@ -31,7 +31,7 @@ PARTS = {
     "lint": {"dnssec_check_tools"},
     "does-not-compile": {"dnssec_check_tools", "wrong_bodies"},
     "wrong-bodies": {"dnssec_check_tools", "wrong_bodies"},
-    "dnssec_check_tools/verify.py": {"command", "outputs", "verifying"},
+    "dnssec_check_tools/verify.py": {"asking", "command", "outputs", "verifying"},
     "dnssec_check_tools/capture.py": {"command", "capturing", "outputs"},
     "dnssec_check_tools/judge.py": {
         *("command", "asking", "judge_options", "judging", "odd", "outputs", "program", "resuming", "started"),

@@ -43,13 +43,12 @@ def modules() -> bytes:
 
 
 def at_worker(octets: bytes, questions: Questions, common: Common) -> Answer:
-    """The verdicts on a capture, by the program on the worker's own path. Dask clears the folder of a worker that is
-    lost."""
+    """The verdicts on a capture, by the program on the worker's own path."""
     path = shutil.which(NAME)
     if path is None:
         return Failure(f"{NAME} isn't on the path of a worker")
     task = Task(0, "-", octets, None, questions)
-    return answer(common, Program(path), task, library().get_worker().local_directory)
+    return answer(common, Program(path), task)
 
 
 def send_modules(client: Any) -> None:

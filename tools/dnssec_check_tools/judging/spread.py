@@ -57,22 +57,22 @@ def is_of_read(fault: OSError) -> bool:
     return isinstance(fault, IsADirectoryError) or (fault.errno is not None and fault.filename is None)
 
 
-def judged_task(task: Task, common: Common, program: Program, place: Optional[str] = None) -> Judged:
+def judged_task(task: Task, common: Common, program: Program) -> Judged:
     """The verdicts of a capture, which is read where it wasn't."""
     try:
         octets = read_now(task)
     except (OSError, Unmade) as fault:
         return of_unread(task, fault, common)
-    return folded(judged(octets, task.questions, widened(common), program, place), common)
+    return folded(judged(octets, task.questions, widened(common), program), common)
 
 
 def read_now(task: Task) -> bytes:
     return octets_of(task.path) if task.octets is None else task.octets
 
 
-def answer(common: Common, program: Program, task: Task, place: Optional[str] = None) -> Answer:
+def answer(common: Common, program: Program, task: Task) -> Answer:
     """The verdicts, or what ends all."""
-    return guarded(lambda: judged_task(task, common, program, place), task.questions, common)
+    return guarded(lambda: judged_task(task, common, program), task.questions, common)
 
 
 def guarded(judge: Callable[[], Found], questions: Questions, common: Common) -> Union[Found, Answer]:

@@ -13,14 +13,14 @@ from ..explaining.replies import Reply
 from ..explaining.sentences import FAILING
 from ..odd.found import Oddities, Wish
 from ..odd.kinds import Odd
-from ..program import EXPLAIN, FAILED, ODD, SECURE, Json, Program, Told, Unlisted
-from ..started import content_of, nameless
+from ..program import EXPLAIN, FAILED, ODD, PENDING, SECURE, Json, Program, Told, Unlisted
+from ..started import nameless
 from ..verifying.verifier import Budget
 
+from .answers import ANSWERS, Answered, answers_on
 from .every import NOTHING, every_question, has_too_many
 from .evidence import Evidence, keys_of
 from .replies import replies_of
-from .statements import STATEMENTS, statements_on
 
 DENYING = {47: "NSEC", 50: "NSEC3"}
 Signers = Dict[Tuple[int, int], Tuple[str, int]]  # the signer and the key tag, by RRset and signature
@@ -78,26 +78,22 @@ class Prepared(NamedTuple):
 
     octets: bytes
     asked: List[Question]
-    statements: bytes
+    answers: Dict[int, Answered]
     notes: List[str]
 
 
-def judged(
-    octets: bytes, questions: Questions, common: Common, program: Program, place: Optional[str] = None
-) -> Judged:
-    """The verdicts on the questions, by moment. What is too long to be kept in memory is at the place for a time, where
-    one is told. Keys of TSIG never are."""
+def judged(octets: bytes, questions: Questions, common: Common, program: Program) -> Judged:
+    """The verdicts on the questions, by moment."""
     view = View(octets, common.is_page, common.wish)
     asked = view.every_question() if questions is None else questions
     with contextlib.ExitStack() as stack:
         files = opened(stack, octets, common)
         try:
-            statements, notes = statements_on(files["capture"], common.moments, common.budget, program, place)
+            verified = answers_on(octets, files["capture"], common.moments, common.budget, program)
         except Unlisted as fault:
             return without_verdicts(questions, common, of_fault(fault.said))
-        files[STATEMENTS] = stack.enter_context(statements).fileno()
-        rows = rows_of(view, asked or [NOTHING], files, common, program)
-    return Judged(joined(rows, questions is None, bool(asked)), notes)
+        rows = Rows(view, files, verified.by_moment, common, program).of(asked or [NOTHING])
+    return Judged(joined(rows, questions is None, bool(asked)), verified.notes)
 
 
 def prepared(octets: bytes, asked: List[Question], common: Common, program: Program) -> Union[Prepared, Judged]:
@@ -105,19 +101,18 @@ def prepared(octets: bytes, asked: List[Question], common: Common, program: Prog
     with contextlib.ExitStack() as stack:
         files = opened(stack, octets, common)
         try:
-            statements, notes = statements_on(files["capture"], common.moments, common.budget, program)
+            verified = answers_on(octets, files["capture"], common.moments, common.budget, program)
         except Unlisted as fault:
             return without_verdicts(asked, common, of_fault(fault.said))
-        content = content_of(stack.enter_context(statements))
-    return Prepared(octets, asked, content, notes)
+    return Prepared(octets, asked, verified.by_moment, verified.notes)
 
 
 def share_rows(capture: Prepared, common: Common, program: Program) -> List[List[Row]]:
     """The rows of a capture that is prepared, of each moment."""
     with contextlib.ExitStack() as stack:
         files = opened(stack, capture.octets, common)
-        files[STATEMENTS] = stack.enter_context(nameless(capture.statements)).fileno()
-        rows = rows_of(View(capture.octets, common.is_page, common.wish), capture.asked, files, common, program)
+        view = View(capture.octets, common.is_page, common.wish)
+        rows = Rows(view, files, capture.answers, common, program).of(capture.asked)
     return rows
 
 
@@ -128,17 +123,37 @@ def opened(stack: contextlib.ExitStack, octets: bytes, common: Common) -> Dict[s
     return {name: stack.enter_context(nameless(content)).fileno() for name, content in there.items()}
 
 
-def rows_of(
-    view: "View", asked: List[Question], files: Dict[str, int], common: Common, program: Program
-) -> List[List[Row]]:
-    """The rows of each moment."""
-    rows, left = [], Time(common.budget.questions)
-    for moment in common.moments:
-        with nameless(common.anchors[moment]) as anchors:
-            given = {**files, "anchors": anchors.fileno()}
-            told = program.told(EXPLAIN, given, moment, asked, left, common.budget.octets)
-            rows.append([view.row(moment, question, each) for each, question in zip(told, asked)])
-    return rows
+class Rows(NamedTuple):
+    """The rows of a capture: what its records say, the files that are open, and the answers of each moment."""
+
+    view: "View"
+    files: Dict[str, int]
+    answers: Dict[int, Answered]
+    common: Common
+    program: Program
+
+    def of(self, asked: List[Question]) -> List[List[Row]]:
+        """Those of each moment."""
+        left = Time(self.common.budget.questions)
+        return [self.at(moment, asked, left) for moment in self.common.moments]
+
+    def at(self, moment: int, asked: List[Question], left: Time) -> List[Row]:
+        answered = self.answers.get(moment)
+        with contextlib.ExitStack() as stack:
+            given = {**self.files, "anchors": stack.enter_context(nameless(self.common.anchors[moment])).fileno()}
+            if answered:
+                given[ANSWERS] = stack.enter_context(nameless(answered.octets)).fileno()
+            told = self.program.told(EXPLAIN, given, moment, asked, left, self.common.budget.octets)
+            rows = [self.view.row(moment, question, with_left(each, answered)) for each, question in zip(told, asked)]
+        return rows
+
+
+def with_left(told: Told, answered: Optional[Answered]) -> Told:
+    """What is told of a question, and where its verdict hangs on them how many entries are left open: the program
+    doesn't list again what answers leave open by number."""
+    if answered and told.value and told.status == PENDING:
+        told.value["todo"] = [None] * answered.left
+    return told
 
 
 def joined(by_moment: List[List[Row]], is_of_all: bool, is_asked: bool) -> List[Row]:

@@ -2,10 +2,8 @@
 them end."""
 import contextlib
 import os
-import shutil
 import signal
 import sys
-import tempfile
 import time
 from multiprocessing import connection, get_context
 from typing import Any, Callable, Dict, Iterator, List, NamedTuple, Tuple
@@ -33,7 +31,7 @@ def undisturbed() -> Iterator[None]:
         signal.pthread_sigmask(signal.SIG_SETMASK, old)
 
 
-def work(end: Any, others: List[Any], do: Callable[[Any], Any], folder: str) -> None:
+def work(end: Any, others: List[Any], do: Callable[[Any], Any]) -> None:
     """Does what comes, until the other end is closed; a copy of that, or of another's, would keep it open."""
     for each in others:
         each.close()
@@ -41,7 +39,6 @@ def work(end: Any, others: List[Any], do: Callable[[Any], Any], folder: str) -> 
         signal.signal(number, signal.SIG_IGN)
     signal.signal(signal.SIGTERM, lambda number, _: sys.exit(BY_SIGNAL + number))
     signal.pthread_sigmask(signal.SIG_UNBLOCK, ENDING)
-    tempfile.tempdir = folder
     with contextlib.suppress(EOFError, OSError):
         while True:
             end.send(do(end.recv()))
@@ -50,10 +47,10 @@ def work(end: Any, others: List[Any], do: Callable[[Any], Any], folder: str) -> 
 class Worker:
     """A process. With the programs that it runs it's a process group, so that none of them is left behind."""
 
-    def __init__(self, others: List["Worker"], do: Callable[[Any], Any], folder: str) -> None:
+    def __init__(self, others: List["Worker"], do: Callable[[Any], Any]) -> None:
         self.connection, end = FORK.Pipe()
         inherited = [self.connection, *(each.connection for each in others)]
-        self.process = FORK.Process(target=work, args=(end, inherited, do, folder))
+        self.process = FORK.Process(target=work, args=(end, inherited, do))
         self.process.start()
         end.close()
         with contextlib.suppress(ProcessLookupError):
@@ -69,17 +66,15 @@ class Worker:
 
 
 class Workers:
-    """The processes, with a folder for what they write, both of which end with the block."""
+    """The processes, which end with the block."""
 
     def __init__(self, do: Callable[[Any], Any]) -> None:
-        self.do, self.folder = do, ""
+        self.do = do
         self.all: List[Worker] = []
         self.idle: List[Worker] = []
         self.busy: Dict[Any, Tuple[Worker, Any]] = {}  # by connection, with what it was given
 
     def __enter__(self) -> "Workers":
-        with undisturbed():
-            self.folder = tempfile.mkdtemp(prefix="dnssec_check-")
         return self
 
     def give(self, thing: Any) -> None:
@@ -95,7 +90,7 @@ class Workers:
 
     def new(self) -> Worker:
         with undisturbed():
-            self.all.append(Worker(self.all, self.do, self.folder))
+            self.all.append(Worker(self.all, self.do))
         return self.all[-1]
 
     def drop(self, worker: Worker) -> str:
@@ -123,7 +118,6 @@ class Workers:
             self.wait_for_ends()
             for worker in self.all:
                 worker.kill()
-            shutil.rmtree(self.folder, ignore_errors=True)
 
     def wait_for_ends(self) -> None:
         last, left = time.monotonic() + SECONDS_TO_END, {worker.process.sentinel for worker in self.all}

@@ -58,16 +58,29 @@ def entry_of(line: str, place: str) -> Entry:
     match = TODO.fullmatch(line)
     if not match or any(len(field) % 2 for field in match.groups()[1:] if field != "-"):
         raise Refusal(f"{place}: no line `todo ALG KEY DATA SIG`")
-    if int(match[1]) not in VERIFIERS:
-        raise Refusal(f"{place}: algorithm {match[1]} is none of " + ", ".join(map(str, VERIFIERS)))
-    return Entry(line, place, int(match[1]), match.groups()[1:])
+    try:
+        return Entry(line, place, algorithm_of(match[1]), match.groups()[1:])
+    except ValueError as why:
+        raise Refusal(f"{place}: {why}") from why
+
+
+def algorithm_of(digits: str) -> int:
+    """The number of an algorithm; ValueError where it's none of those above."""
+    if int(digits) not in VERIFIERS:
+        raise ValueError(f"algorithm {digits} is none of " + ", ".join(map(str, VERIFIERS)))
+    return int(digits)
 
 
 def is_verified_good(entry: Entry) -> bool:
     """Whether the entry's signature is good; Lacking where it can't be told here."""
+    return is_good_here(entry.algorithm, *map(octets_of, entry.fields))
+
+
+def is_good_here(algorithm: int, key: bytes, data: bytes, signature: bytes) -> bool:
+    """Whether the signature is one of the data by the key; Lacking where it can't be told here."""
     try:
-        return is_good(entry.algorithm, *map(octets_of, entry.fields))
+        return is_good(algorithm, key, data, signature)
     except (ImportError, NotImplementedError) as fault:
-        raise Lacking(f"the package cryptography lacks algorithm {entry.algorithm}: {fault}") from fault
+        raise Lacking(f"the package cryptography lacks algorithm {algorithm}: {fault}") from fault
     except LongExponent as fault:
         raise Lacking(str(fault)) from fault

@@ -5,8 +5,10 @@ import threading
 import time
 from typing import Callable, Dict, NamedTuple, Optional
 
+from .compact import Entry
 from .entries import entry_of, is_verified_good
 
+GOOD, BAD, OPEN = "good", "bad", "-"  # what is said of a signature; OPEN is an answer alone
 SECONDS, OCTETS = 10, 64_000_000
 SECONDS_TO_ASK = 60
 KEPT_MOST = 1 << 16  # some 10 MB
@@ -56,13 +58,21 @@ class Verifier:
     def statement_of(self, line: str, place: str, digest: bytes) -> str:
         """The statement that answers a line with this digest; Lacking where that can't be had here, and Spent behind
         the end."""
+        return self.word(digest, lambda: is_verified_good(entry_of(line, place))) + line[len("todo") :] + "\n"
+
+    def answer_to(self, entry: Entry) -> str:
+        """The answer to an entry of a compact list; Lacking and Spent likewise."""
+        return self.word(entry.digest, entry.is_good)
+
+    def word(self, digest: bytes, is_verified: Callable[[], bool]) -> str:
+        """What is kept of the digest, else what is verified now."""
         is_good = self.kept.get(digest)
         if is_good is None:
             if self.clock() >= self.end:
                 raise Spent(f"the {self.seconds} seconds of the budget are over; --budget SECONDS gives more")
-            is_good = is_verified_good(entry_of(line, place))
+            is_good = is_verified()
             self.kept.put(digest, is_good)
-        return ("good" if is_good else "bad") + line[len("todo") :] + "\n"
+        return GOOD if is_good else BAD
 
 
 def whole(text: str) -> int:

@@ -3,7 +3,7 @@
 from __future__ import annotations
 
 from ..target import Target
-from . import anchors, capture, questions, records, transfer, verify, xml, zone
+from . import anchors, capture, compact, questions, records, transfer, verify, xml, zone
 
-ALL = (capture, records, verify, anchors, zone, xml, questions, transfer)
+ALL = (capture, records, verify, compact, anchors, zone, xml, questions, transfer)
 TARGETS: dict[str, Target] = {each.TARGET.name: each.TARGET for each in ALL}

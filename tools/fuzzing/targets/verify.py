@@ -27,7 +27,7 @@ def run(octets: bytes, desk: Desk) -> Ended:
         lines = lines_of(octets)
         must(all(map(is_line, lines)), "what a second reading refuses is taken")
         must([each.line for each in entries] == lines, "the entries aren't the lines")
-        statements = [*verify.statements_of(entries, Verifier(SECONDS, Kept()))]
+        statements = [*filter(None, verify.statements_of(entries, Verifier(SECONDS, Kept())))]
     left_out = sum(line.startswith("left out") for line in told)
     must(len(statements) == len(entries) or left_out > 0, "a line has no statement, and nothing tells why")
     answered = [line for line in statements if not left_out or line.split(" ", 1)[1][:-1] in octets.decode()]

@@ -20,7 +20,8 @@ SIZE_OF_CAPTURE = """for word; do
 case $word in --capture=*) size=$(stat -L -c %s "${word#--capture=}");; esac
 done"""
 
-# Answers as the examples do. Whatever no example asks is Bogus, and bind.test. says nothing of it.
+# Answers as the examples do, and has nothing to verify. Whatever no example asks is Bogus, and bind.test. says nothing of
+# it.
 BOGUS = {"command": "explain", "name": ".", "type": 0, "moment": 0, "verdict": "Bogus", "status": 5, "aliases": [], "why": []}
 MISSING = {"line": "reason", "word": "answer-missing", "ede": 12}
 DOUBLE = """#!/usr/bin/env python3
@@ -32,11 +33,13 @@ def value(word):
         text = hashlib.sha256(open(text, "rb").read()).hexdigest()
     return [name, text]
 def answer(given):
-    words = sorted(value(word) for word in given if not word.startswith("--statements"))
+    words = sorted(value(word) for word in given if word != "--compact" and not word.startswith("--answers"))
     bogus = dict(BOGUS, **{name[2:]: text for name, text in words if name == "--name"},
                  **{name[2:]: int(text) for name, text in words if name in ("--type", "--moment")})
     bogus["why"] = [dict(MISSING, name=bogus["name"], type=bogus["type"], zone="bind.test.")]
-    status, output, errors = told.get(json.dumps([sys.argv[1], words]), [5, json.dumps(bogus) + "\\n", ""])
+    unknown = [0, "", ""] if sys.argv[1] == "list" else [5, json.dumps(bogus) + "\\n", ""]
+    status, output, errors = told.get(json.dumps([sys.argv[1], words]), unknown)
+    output = output if "--compact" not in given else ""
     if asked and errors.startswith("refused 70"):
         output, errors = json.dumps(dict(bogus, refused=int(errors[8:11]), status=7)) + "\\n", ""
     return status, output, errors
@@ -97,7 +100,8 @@ def index():
     """What the double answers, by subcommand and options."""
     told = {}
     for example in [*examples("check"), *examples("list"), *examples("explain.json")]:
-        words = sorted([f"--{name}", digest_of(value)] for name, value in example.options.items() if name != "statements")
+        words = sorted([f"--{name}", digest_of(value)] for name, value in example.options.items()
+                       if name not in ("statements", "answers"))
         kind, output = example.kind, example.output
         if kind == "check":
             kind, output = "explain", explained(example)

@@ -147,11 +147,11 @@ class Within(Runs):
 
 
 class Memory(Runs):
-    """What the answers take: one that is Pending has all again that nobody verified, of 715 kB two GB."""
+    """What the answers take: one that is Pending has all again where not all is listed, of 715 kB two GB."""
 
-    def files(self, size, statements=b""):
-        """The capture, of so many octets, and the statements on it, by the numbers of open files."""
-        opened = {"capture": nameless(bytes(size)), "statements": nameless(statements)}
+    def files(self, size, answers=b""):
+        """The capture, of so many octets, and the answers to its list, by the numbers of open files."""
+        opened = {"capture": nameless(bytes(size)), "answers": nameless(answers)}
         for file in opened.values():
             self.addCleanup(file.close)
         return {name: file.fileno() for name, file in opened.items()}
@@ -163,20 +163,19 @@ class Memory(Runs):
         os.chmod(path, 0o755)
         return [each.said for each in Program(path).told(EXPLAIN, files, 7, ABC[:2], Time(60), octets)]
 
-    def test_the_program_has_what_statements_and_an_answer_take(self):
+    def test_the_program_has_what_files_and_an_answer_take(self):
         """Told in KiB; the two questions have ten octets. A capture of which little can be listed has no limit, and a lower one stays."""
         wait = 'sleep 0.5; [ $name = a. ] && { echo "$(ulimit -v) is the limit" >&2; exit 3; }; true'
-        for size, statements, most in ((4097, b"", 101_000_080), (4097, bytes(5000), 101_020_080), (4096, b"", None)):
-            first, _ = self.said(self.files(size, statements), wait)
+        for size, answers, most in ((4097, b"", 101_000_080), (4097, bytes(5000), 101_040_080), (4096, b"", None)):
+            first, _ = self.said(self.files(size, answers), wait)
             self.assertEqual(first, f"- {most // 1024 if most else 'unlimited'} is the limit")
 
     def test_all_files_count_but_the_capture(self):
-        """Of statements each line has long fields, of others it may be a few octets."""
         files = self.files(5000, bytes(300))
-        self.assertEqual(program.memory_for(files, 7), asked.Memory(7 + 100_000_000 + 4 * 300, 7))
+        self.assertEqual(program.memory_for(files, 7), asked.Memory(7 + 100_000_000 + 8 * 300, 7))
         with nameless(bytes(50)) as anchors, nameless(bytes(7)) as questions:
             more = {**files, "anchors": anchors.fileno(), "questions": questions.fileno()}
-            self.assertEqual(program.memory_for(more, 7).most, 7 + 100_000_000 + 4 * 300 + 8 * 57)
+            self.assertEqual(program.memory_for(more, 7).most, 7 + 100_000_000 + 8 * 357)
 
     def test_an_answer_for_which_it_has_too_little_is_a_fault_that_says_so(self):
         text = "- its answer takes more memory than the 101,000,0{}0 octets that it may; --budget-octets OCTETS gives more"

@@ -42,11 +42,18 @@ class Shapes(Judging):
         self.assertIn("80 signatures aren't verified: the exponent of the RSA key has more than 64 bits\n", told)
         self.assertLess(seconds, 1)
 
-    def test_signed_data_of_two_gigabytes_takes_no_200_megabytes(self):
+    def test_signed_data_of_two_gigabytes_takes_no_64_megabytes(self):
         status, lines, told, _, octets, size = self.judged("long-data", 96)
-        self.assertEqual((status, lines, size), (5, ["bind.test. A: Bogus"], 715_048))
-        self.assertIn("more is listed to be verified than the 64,000,000 octets of the budget: ", told)
-        self.assertLess(octets, 200_000_000)
+        self.assertEqual((status, lines, told, size), (5, ["bind.test. A: Bogus"], "", 715_048))
+        self.assertLess(octets, 64_000_000)
+
+    def test_its_list_has_eight_times_its_octets_and_64_an_entry(self):
+        capture = self.room / "capture"
+        capture.write_bytes(b"".join(SHAPES["long-data"][0](96).files["capture"]))
+        status, output, _ = run_program(self.program, "list", "--capture", capture, "--moment", "1500", "--compact")
+        count = sum(line.startswith(b"todo ") for line in output.splitlines())
+        self.assertEqual((status, count), (0, 18_432))
+        self.assertLess(len(output), 8 * capture.stat().st_size + 64 * count)
 
 
 @needs_dns

@@ -1,4 +1,4 @@
-"""Tests of how tools/judge ends by a signal with eight captures at work: no process and no folder is left."""
+"""Tests of how tools/judge ends by a signal with eight captures at work: no process and no file is left."""
 import contextlib
 import os
 import pathlib
@@ -125,8 +125,7 @@ class Ends(Judging):
         judge.wait()
         (self.room / "go").touch()
         wait_for(lambda: not any(map(is_there, self.at_work().values())), TO_END)
-        left, = (self.room / "temporary").iterdir()
-        self.assertEqual(list(left.iterdir()), [])
+        self.assertEqual(list((self.room / "temporary").iterdir()), [])
 
 
 # Looks for the secret in all that the process of the tool, and that which runs the program, have open, and below the

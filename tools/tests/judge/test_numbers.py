@@ -3,7 +3,7 @@ import unittest
 
 from dnssec_check_tools.judging.numbers import fault_text, numbers
 
-WHERE = {"-", "file", "name", "type", "capture", "keys", "macs", "anchors", "statements", "questions"}
+WHERE = {"-", "file", "name", "type", "capture", "keys", "macs", "anchors", "statements", "answers", "questions"}
 
 
 class Numbers(unittest.TestCase):

@@ -36,14 +36,14 @@ TOLD = {
         f"the questions of a capture may take; {BUDGET.questions} seconds, where it isn't given",
         f"whose exponent has more than {rsa.EXPONENT_BITS_MOST} bits isn't verified, and stays Unknown",
         "those of keys for the DNS are recommended to be small (RFC 3110 4)",
-        f"are verified for {SECONDS} seconds of processor time, budget , and in the first {BUDGET.octets:,} octets",
+        f"are verified for {SECONDS} seconds of processor time, budget , where dnssec_check list --compact prints at most {BUDGET.octets:,} octets",
         f"Of a capture of more than {listed.LISTS_LITTLE:,} octets it gets as much memory as these octets and "
         f"{listed.MEMORY_BESIDES:,} more",
         "a line on the standard error says what wasn't verified, and how to raise the budget",
         f"among the last {verifier.KEPT_MOST:,} of the process",
         f"The questions of a capture are asked for {BUDGET.questions} seconds of processor time",
-        f"as the octets of budget-octets and {listed.MEMORY_BESIDES:,} more, {TIMES.get(program.OF_STATEMENTS)} times the octets of the "
-        f"statements, and {TIMES.get(program.OF_OTHERS)} times those of the other files",
+        f"as the octets of budget-octets and {listed.MEMORY_BESIDES:,} more, and {TIMES.get(program.OF_FILES)} times those of the "
+        "files besides the capture",
         f"{frames.MESSAGES_MOST} messages of {messages.MESSAGE_SIZE_MOST:,} octets, and one message more",
         f"A file of another kind may have twice as much, {captures.OTHER_MOST:,} octets, and no more once it is unpacked",
         "FIFOs, sockets and devices in a folder are passed over, each with a note",
@@ -51,18 +51,18 @@ TOLD = {
     ],
     "dnssec_check.1": [f"The capture would pass a limit with it: {splitting.MESSAGES_MOST} messages, {splitting.RECORDS_MOST} records"],
     "PERFORMANCE.md": [
-        f"in `--budget-octets` octets of what `list` prints ({SECONDS} and {BUDGET.octets:,})",
+        f"where `list --compact` prints at most `--budget-octets` octets ({SECONDS} and {BUDGET.octets:,})",
         f"takes no file of another kind that has more than {captures.OTHER_MOST:,} octets",
     ],
     "AUDITING.md": [
-        f"stops verifying after {SECONDS} seconds of processor time (`--budget`) or {BUDGET.octets // 1_000_000} MB of listed signatures",
+        f"stops verifying after {SECONDS} seconds of processor time (`--budget`) or {BUDGET.octets // 1_000_000} MB of a compact list",
         f"Its questions are asked for {BUDGET.questions} seconds of a processor (`--budget-questions`)",
         f"or no worker of it, for {cluster.WAIT_SECONDS} seconds (`--wait`)",
         "With `--keys` the octets include the keys of TSIG: they go to the scheduler's machine and from there to those of the workers",
     ],
     "decisions/TOOLS.md": [
         f"An exponent of more than {rsa.EXPONENT_BITS_MOST} bits isn't raised to",
-        f"verifies for {SECONDS} seconds of processor time a capture and in {BUDGET.octets // 1_000_000} MB of what is listed",
+        f"verifies for {SECONDS} seconds of processor time a capture whose compact list has at most {BUDGET.octets // 1_000_000} MB",
         f"where the capture has at most {listed.LISTS_LITTLE:,} octets",
         "by RFC 8032 5.1.5 a secret is a multiple of eight",
     ],
