@@ -1,10 +1,22 @@
 -- The numbers of the answers that leave an entry open, one answer after another.
-use Rattle.std.proofs.Common.{◌≡◌, ◌<◌, ◌+◌, ◌++◌, ◌∙◌, ℕ, suc, List, [], ◌∷◌, ap, arith, get_or, length, map, sym, take}
+use Rattle.std.proofs.Common.{◌≡◌, ◌<◌, ◌+◌, ◌++◌, ◌∙◌, ℕ, suc, List, [], ◌∷◌, Some, ap, arith, get_or, length, map, refl, subst, sym, take}
 use Rattle.std.proofs.lemmas.List.{length-map, length-take-le, map-append, take_more}
 use Rattle.dnsv_answers.specs.declared.said.SaidAnswer.{SaidAnswer}
 use Rattle.dnsv_verifier.specs.declared.answer.Answer.{Answer}
 use Rattle.dnsv_verifier.specs.declared.answer.Answer.TheVariants.{Invalid, Unknown, Valid}
-use Rattle.dnsv_program.specs.Work.Known.{open_numbers}
+use Rattle.dnsv_canonical.specs.Rrsets.{ReceivedRrset}
+use Rattle.dnsv_answers.specs.AnswerFile.{AnswersContents, answers_in}
+use Rattle.dnsv_answers.specs.Answered.{IsAnsweredTable}
+use Rattle.dnsv_verifier.specs.Statements.{listed_answer}
+use Rattle.dnsv_verifier.specs.Table.{TableContents, table_answer}
+use Rattle.dnsv_verifier.specs.declared.entry.Entry.{Entry}
+use Rattle.dnsv_verifier.specs.declared.statements.statement.Word.{Word}
+use Rattle.dnsv_program.specs.Files.Answers.{AreTooManyOrFew}
+use Rattle.dnsv_program.specs.Told.{IsFaultOf}
+use Rattle.dnsv_program.specs.Work.Known.{AreMeant, AreMiscountedIn, IsKnown, numbers_said, open_numbers}
+use Rattle.dnsv_program.specs.declared.status.Fault.{Fault}
+use Rattle.dnsv_program.specs.declared.work.given.Said.{Said}
+use Rattle.dnsv_program.specs.declared.work.given.Said.TheVariants as said
 
 same_sum : (n k : ℕ) → suc n + k ≡ n + suc k
 same_sum n k = omega arith
@@ -29,3 +41,26 @@ open_more said i d within =
     sym (last_open 1 (i + 1) (map (λ (each : SaidAnswer). each.answer) (take i said)) (get_or said i d).answer (front_size said i within))
     ∙ ap (λ (answers : List Answer). open_numbers 1 answers) (sym (map-append (λ (each : SaidAnswer). each.answer) (take i said) (get_or said i d ∷ [])))
     ∙ ap (λ (some : List SaidAnswer). open_numbers 1 (map (λ (each : SaidAnswer). each.answer) some)) (sym (take_more said i d within))
+
+-- ---- what is known
+
+module _ {Holds : (Entry → Answer) → Type 0} (moment : ℕ) (rrsets : List ReceivedRrset) (what : Said) where
+  abbrev pub IsKnownSo : Said → Type 0
+  IsKnownSo each = (meaning : Entry → Answer) × IsKnown moment rrsets each meaning (numbers_said each) × Holds meaning
+
+  -- by statements
+  pub known_stated : (listed : List (Entry × Word)) → what ≡ said.Statements listed → Holds (listed_answer listed) → IsKnownSo what
+  known_stated listed is holds = subst (λ (each : Said). IsKnownSo each) (sym is) (listed_answer listed, (refl, refl), holds)
+
+  -- by answers
+  pub known_answered : (contents : AnswersContents) (table : TableContents) → what ≡ said.Answers contents → IsAnsweredTable moment rrsets (answers_in contents) table
+      → Holds (table_answer table) → IsKnownSo what
+  known_answered contents table is answered holds =
+      let meant : AreMeant moment rrsets contents (table_answer table) (Some (open_numbers 1 (answers_in contents))) =
+      record { table = table; is_table = answered; says = refl; numbered = refl } in
+      subst (λ (each : Said). IsKnownSo each) (sym is) (table_answer table, meant, holds)
+
+  -- as many answers as entries can't be
+  pub miscounted : (contents : AnswersContents) (told : Fault) → what ≡ said.Answers contents → IsFaultOf (AreTooManyOrFew moment rrsets contents) told
+      → IsFaultOf (AreMiscountedIn moment rrsets what) told
+  miscounted contents told is bad = subst (λ (each : Said). IsFaultOf (AreMiscountedIn moment rrsets each) told) (sym is) bad

@@ -61,6 +61,11 @@ IsKnownReached statements answers _ = ⊥
 
 -- ---- what is read of them, before entries are counted
 
+-- the numbers of the entries that are still open, where answers are read
+abbrev pub numbers_said : Said → Option (List ℕ)
+numbers_said (said.Statements listed) = None
+numbers_said (said.Answers contents) = Some (open_numbers 1 (answers_in contents))
+
 -- what is known, by what is read
 abbrev pub IsKnown : ℕ → List ReceivedRrset → Said → (Entry → Answer) → Option (List ℕ) → Type 0
 IsKnown moment rrsets (said.Statements listed) meaning numbers = (meaning ≡ listed_answer listed) × (numbers ≡ None)

@@ -108,14 +108,23 @@ fn answer_all<W: Write>(
     ensures untouched { IfErr result (λ fault. (fault ≡ Fault.WriteFailed → ⊥) → (fault ≡ Fault.OutOfMemory → ⊥)
         → output.new ≡ output.old) }
 {
-    let mut opened = open_case(alloc, bump, telling.why, moment, given)?;
+    let numbers = OpenNumbers::of(alloc, &given.said)?;
+    let mut judge = open_case(
+        alloc,
+        bump,
+        telling.why,
+        moment,
+        &given.held,
+        &given.anchors,
+        &given.said,
+    )?;
     tell_each(
         alloc,
-        &mut opened.judging,
+        &mut judge,
         telling,
         moment,
         given.held.rrsets(),
-        &opened.numbers,
+        &numbers,
         questions,
         output,
     )

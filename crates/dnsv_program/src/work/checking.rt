@@ -19,7 +19,7 @@ use crate::command_line::question::question_name;
 use crate::status::Fault;
 use crate::work::given::{Given, given_in};
 use crate::work::judging::{Asked, Telling, judge};
-use crate::work::known::open_case;
+use crate::work::known::{OpenNumbers, open_case};
 use crate::work::{Inputs, Outcome};
 use bumpalo::Bump;
 use dnsv_names::RecordType;
@@ -99,13 +99,22 @@ fn judge_given(
         × (error : VerdictError) × IsRefusedFor (basis_of given.now.held.rrsets given.now.anchors asked.now.moment
         ground.meaning) asked.now.name.now asked.now.rtype.0 error × (told ≡ specs.verdict_fault error))) }
 {
-    let mut opened = open_case(alloc, bump, telling.why, asked.moment, given)?;
+    let numbers = OpenNumbers::of(alloc, &given.said)?;
+    let mut judging = open_case(
+        alloc,
+        bump,
+        telling.why,
+        asked.moment,
+        &given.held,
+        &given.anchors,
+        &given.said,
+    )?;
     judge(
         alloc,
-        &mut opened.judging,
+        &mut judging,
         telling,
         asked,
         given.held.rrsets(),
-        &opened.numbers,
+        &numbers,
     )
 }

@@ -1,5 +1,5 @@
 //! The case that questions are judged by, under what is known of signatures.
-ghost use Rattle.std.specs.Prelude.{◌≡◌, ◌∷◌, ◌++◌, [], ℕ, IfErr, IfOk, OnOk, Some, map};
+ghost use Rattle.std.specs.Prelude.{◌≡◌, ◌∷◌, ◌++◌, [], ℕ, IfErr, IfOk, OnOk, map};
 ghost use Rattle.std.specs.Option.{option_map};
 ghost use Rattle.dnsv_answers.specs.AnswerFile.{answers_in};
 ghost use Rattle.dnsv_answers.specs.Answered.{IsAnsweredTable};
@@ -10,16 +10,17 @@ ghost use Rattle.dnsv_verifier.specs.declared.entry.Entry.{Entry};
 ghost use Rattle.dnsv_program.specs.Files.Answers.{AreTooManyOrFew};
 ghost use Rattle.dnsv_program.specs.Told.{IsFaultOf};
 ghost use Rattle.dnsv_program.specs.Work.Judging.{case_of, tells_why};
-ghost use Rattle.dnsv_program.specs.Work.Known.{AreMiscountedIn, IsKnown, open_numbers};
+ghost use Rattle.dnsv_program.specs.Work.Known.{AreMiscountedIn, IsKnown, numbers_said, open_numbers};
 
 use crate::command_line::moment::Moment;
 use crate::files::answers::answers_fault;
 use crate::status::Fault;
-use crate::work::given::{Given, Said};
+use crate::work::given::Said;
 use crate::work::judging::Judging;
 use bumpalo::Bump;
 use dnsv_answers::{Answers, SaidAnswer, answered_table};
 use dnsv_canonical::Capture;
+use dnsv_chain::Anchors;
 use dnsv_verifier::{Answer, Table};
 use std::alloc::{AllocError, Global};
 use std::marker::Model;
@@ -41,14 +42,19 @@ impl Model for OpenNumbers {
 }
 
 impl OpenNumbers {
-    /// Those of the answers.
-    fn of(alloc: Global, answers: &Answers) -> Result<OpenNumbers, AllocError>
-        ensures { IfOk result (λ open. open ≡ Some (open_numbers 1 (answers_in answers.now))) }
+    /// Those of what is said of signatures.
+    pub fn of(alloc: Global, said: &Said) -> Result<OpenNumbers, AllocError>
+        ensures { IfOk result (λ open. open ≡ numbers_said said.now) }
     {
-        let numbers = open_places(alloc, answers.as_slice())?;
-        Ok(OpenNumbers {
-            numbers: Some(numbers),
-        })
+        match said {
+            Said::Statements(_) => Ok(OpenNumbers { numbers: None }),
+            Said::Answers(answers) => {
+                let numbers = open_places(alloc, answers.as_slice())?;
+                Ok(OpenNumbers {
+                    numbers: Some(numbers),
+                })
+            }
+        }
     }
 
     /// The numbers, where there are answers.
@@ -83,13 +89,6 @@ fn push_open(numbers: &mut Vec<usize>, number: usize, answer: Answer) -> Result<
     }
 }
 
-/// A case, and the numbers by which the entries that are still to be checked are reported.
-#[derive(Drop)]
-pub struct OpenedCase<'a> {
-    pub judging: Judging<'a>,
-    pub numbers: OpenNumbers,
-}
-
 /// The case at the moment, under what the files say of signatures. By answers no entry is looked up, where verdicts alone
 /// are asked for.
 ///
@@ -99,26 +98,25 @@ pub fn open_case<'a>(
     bump: &'a Bump,
     why: bool,
     moment: Moment,
-    given: &'a Given<'a>,
-) -> Result<OpenedCase<'a>, Fault>
-    ensures known { IfOk result (λ opened. (meaning : Entry → Answer)
-        × IsKnown moment given.now.held.rrsets given.now.said meaning opened.numbers
-        × IsCaseOf (basis_of given.now.held.rrsets given.now.anchors moment meaning) (case_of opened.judging)) }
-    ensures why { IfOk result (λ opened. tells_why opened.judging ≡ why) }
-    ensures fault { IfErr result (IsFaultOf (AreMiscountedIn moment given.now.held.rrsets given.now.said)) }
+    held: &'a Capture<'a>,
+    anchors: &'a Anchors<'a>,
+    said: &Said,
+) -> Result<Judging<'a>, Fault>
+    ensures known { IfOk result (λ judging. (meaning : Entry → Answer)
+        × IsKnown moment held.now.rrsets said.now meaning (numbers_said said.now)
+        × IsCaseOf (basis_of held.now.rrsets anchors.now moment meaning) (case_of judging)) }
+    ensures why { IfOk result (λ judging. tells_why judging ≡ why) }
+    ensures fault { IfErr result (IsFaultOf (AreMiscountedIn moment held.now.rrsets said.now)) }
 {
-    let (held, anchors) = (&given.held, &given.anchors);
-    match &given.said {
+    match said {
         Said::Statements(statements) => {
             let judging = Judging::new(alloc, bump, why, moment, held, anchors, statements)?;
-            let numbers = OpenNumbers { numbers: None };
-            Ok(OpenedCase { judging, numbers })
+            Ok(judging)
         }
         Said::Answers(answers) => {
             let table = table_of(alloc, bump, held, moment, answers)?;
-            let numbers = OpenNumbers::of(alloc, answers)?;
             let judging = Judging::by_table(alloc, bump, why, moment, held, anchors, table)?;
-            Ok(OpenedCase { judging, numbers })
+            Ok(judging)
         }
     }
 }
