@@ -152,7 +152,7 @@ def with_left(told: Told, answered: Optional[Answered]) -> Told:
     """What is told of a question, and where its verdict hangs on them how many entries are left open: the program
     doesn't list again what answers leave open by number."""
     if answered and told.value and told.status == PENDING:
-        told.value["todo"] = [None] * answered.left
+        told.value.setdefault("todo", [None] * answered.left)
     return told
 
 

@@ -98,7 +98,7 @@ class Aliases(unittest.TestCase):
         for number, told in ((702, "circle"), (703, "eight"), (704, "target")):
             row = self.row(7, errors=f"refused {number}\n")
             self.assertEqual((row.status, row.word, row.evidence), (7, "refused", {"number": number}))
-            self.assertRegex(self.said(row), rf"^refused {number}: the name is an alias.*{told}.*; ")
+            self.assertRegex(self.said(row), rf"^refused {number}: the name is .*{told}.*; ")
 
 
 if __name__ == "__main__":
