@@ -94,9 +94,19 @@ module _ (moment : ℕ) (files : Files) {rrsets : List ReceivedRrset} {anchors :
   -- and are at fault where there are more or fewer answers than entries
   pub none_given : (why : Refusal) (place : Place) → AreMiscountedIn moment rrsets said why place → IsFirstFaultOfFiles moment files (fault.Refused why place)
   none_given why place bad =
-      inr (read.opening, read.opens, inr (read.messages, read.holds, inr ((anchors, read.trusted),
-      subst (λ (each : List ReceivedRrset). IsFaultOfKnown files.capture moment each files.statements files.answers (fault.Refused why place)) read.is
-      (unknown_by files.capture moment rrsets files.statements files.answers said why place read.says bad))))
+      inr (
+        read.opening,
+        read.opens,
+        inr (
+          read.messages,
+          read.holds,
+          inr (
+            (anchors, read.trusted),
+            subst (λ (each : List ReceivedRrset). IsFaultOfKnown files.capture moment each files.statements files.answers (fault.Refused why place)) read.is
+                (unknown_by files.capture moment rrsets files.statements files.answers said why place read.says bad),
+          ),
+        ),
+      )
 
 -- what is judged by what the files say is judged over them
 pub all_checked : (format : Format) (why : Bool) (name : Labels) (rtype moment : ℕ) (files : Files) {rrsets : List ReceivedRrset} {anchors : List Anchor} {said : Said}
