@@ -126,7 +126,7 @@ all_judged {before = before} {after = after} name rtype moment Refused x result 
 -- they are taken, and what they say is refused, or the question is judged or refused
 module _ {G : Type 0} (P : Refusal → Place → Type 0) (Refused : G → VerdictError → Type 0) where
   abbrev pub IsUngiven : Fault → Type 0
-  IsUngiven told = IsFaultOf P told ⊎ ((ground : G) × (error : VerdictError) × Refused ground error × (told ≡ verdict_fault error))
+  IsUngiven told = IsFaultOf P told ⊎ ((knowing : G) × (error : VerdictError) × Refused knowing error × (told ≡ verdict_fault error))
 
   pub ungiven_read : {U : Type 0} (Of : InputFile → Type 0) (result : Result U Fault) → IfErr result IsUngiven → IfErr result (OfFailedRead Of)
   ungiven_read Of (Ok x) only = tt
@@ -141,7 +141,7 @@ module _ {G : Type 0} (P : Refusal → Place → Type 0) (Refused : G → Verdic
   pub given_or_refused : {R S U : Type 0} {remaining : R → Option (List ℕ)} {before after : Inputs R} (name : Labels) (rtype moment : ℕ) (x : S)
       (result : Result U Fault) → TellsFaultsBeside {T = S} (IsFirstFaultOfFiles moment) remaining before after (Ok x) → after.questions ≡ before.questions
       → ((files : Files) → AreToldBeside remaining before files → (why : Refusal) (place : Place) → P why place → IsFirstFaultOfFiles moment files (fault.Refused why place))
-      → ((ground : G) (files : Files) (error : VerdictError) → AreTold remaining before files → Refused ground error → IsStopped name rtype moment files (verdict_fault error))
+      → ((knowing : G) (files : Files) (error : VerdictError) → AreTold remaining before files → Refused knowing error → IsStopped name rtype moment files (verdict_fault error))
       → IfErr result IsUngiven → TellsFaults {T = U} (IsFirstFaultOfName name rtype moment) remaining before after result
   given_or_refused name rtype moment x (Ok y) tells same first stopped only =
       all_judged name rtype moment (λ error. ⊥) x (Ok y) tells same (λ files error are bad. absurd bad) tt
@@ -189,8 +189,8 @@ verdict_unrefused verdicts.Indeterminate same = cc
 
 pub judged_unrefused : {E : Type 0} (format : Format) (why : Bool) (name : Labels) (rtype moment : ℕ) (rrsets : List ReceivedRrset) (anchors : List Anchor) (said : Said)
     (result : Result Outcome E)
-    → IfOk result (λ outcome. (ground : Ground moment rrsets said)
-    × IsJudged format why ground.numbers (basis_of rrsets anchors moment ground.meaning) name rtype outcome.status (string_bytes outcome.text))
+    → IfOk result (λ outcome. (knowing : Ground moment rrsets said)
+    × IsJudged format why knowing.numbers (basis_of rrsets anchors moment knowing.meaning) name rtype outcome.status (string_bytes outcome.text))
     → IfOk result (λ outcome. outcome.status ≡ status.Refused → ⊥)
 judged_unrefused format why name rtype moment rrsets anchors said (Ok outcome) judged = λ same. verdict_unrefused judged.1.report.verdict (sym judged.1.ends ∙ same)
 judged_unrefused format why name rtype moment rrsets anchors said (Err told) judged = tt
@@ -229,18 +229,18 @@ refused_so format why numbers basis asked name rtype (Ok outcome) names types to
     (subst (λ (n : Labels). IsAnswer format why numbers basis (record { name = n; rtype = rtype }) outcome.status (string_bytes outcome.text)) names (inr told))
 
 -- what is judged by a case is judged by what is known
-module _ (name : Labels) (rtype moment : ℕ) (rrsets : List ReceivedRrset) (anchors : List Anchor) (said : Said) (ground : Ground moment rrsets said) where
+module _ (name : Labels) (rtype moment : ℕ) (rrsets : List ReceivedRrset) (anchors : List Anchor) (said : Said) (knowing : Ground moment rrsets said) where
   pub told_by : (format : Format) (why : Bool) {E : Type 0} (result : Result Outcome E)
-      → IfOk result (λ outcome. IsJudged format why ground.numbers (basis_of rrsets anchors moment ground.meaning) name rtype outcome.status (string_bytes outcome.text))
+      → IfOk result (λ outcome. IsJudged format why knowing.numbers (basis_of rrsets anchors moment knowing.meaning) name rtype outcome.status (string_bytes outcome.text))
       → IfOk result (λ outcome. (each : Ground moment rrsets said)
       × IsJudged format why each.numbers (basis_of rrsets anchors moment each.meaning) name rtype outcome.status (string_bytes outcome.text))
-  told_by format why (Ok outcome) judged = (ground, judged)
+  told_by format why (Ok outcome) judged = (knowing, judged)
   told_by format why (Err told) judged = tt
 
   pub refused_by : (P : Refusal → Place → Type 0) {U : Type 0} (result : Result U Fault)
-      → IfErr result (IsUnjudged (IsRefusedFor (basis_of rrsets anchors moment ground.meaning) name rtype))
+      → IfErr result (IsUnjudged (IsRefusedFor (basis_of rrsets anchors moment knowing.meaning) name rtype))
       → IfErr result (λ told. IsFaultOf P told ⊎ ((each : Ground moment rrsets said) × (error : VerdictError)
       × IsRefusedFor (basis_of rrsets anchors moment each.meaning) name rtype error × (told ≡ verdict_fault error)))
   refused_by P (Ok x) only = tt
   refused_by P (Err told) (inl memory) = inl (subst (IsFaultOf P) (sym memory) tt)
-  refused_by P (Err told) (inr refused) = inr (ground, refused.0, refused.1, refused.2)
+  refused_by P (Err told) (inr refused) = inr (knowing, refused.0, refused.1, refused.2)

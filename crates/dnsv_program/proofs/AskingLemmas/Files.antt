@@ -105,41 +105,41 @@ asked_reached P Holds (Err told) (inr failed) = subst (OfFailedRead Holds) (sym 
 
 module _ (format : Format) (why : Bool) (moment : ℕ) (files : Files) (asked : List Asked) (has : HasQuestions (octets_or_none files.questions) asked)
     {rrsets : List ReceivedRrset} {anchors : List Anchor} {said : Said} (read : AreReadFrom moment files rrsets anchors said) where
-  pub answered_by : (ground : Ground moment rrsets said) (end : Status) (text : List ℕ)
-      → AreAnswers format why ground.numbers (basis_of rrsets anchors moment ground.meaning) asked end text → AreAnswered format why moment files end text
-  answered_by ground end text answers =
-      let are = all_given moment files read ground.meaning ground.numbers ground.knows in record {
+  pub answered_by : (knowing : Ground moment rrsets said) (end : Status) (text : List ℕ)
+      → AreAnswers format why knowing.numbers (basis_of rrsets anchors moment knowing.meaning) asked end text → AreAnswered format why moment files end text
+  answered_by knowing end text answers =
+      let are = all_given moment files read knowing.meaning knowing.numbers knowing.knows in record {
         asked = asked;
         has = has;
         given = are.given;
         answers = subst (λ (each : Option (List ℕ)). AreAnswers format why each (basis_in are.given) asked end text) are.told
-            (subst (λ (basis : Basis). AreAnswers format why ground.numbers basis asked end text) are.is answers);
+            (subst (λ (basis : Basis). AreAnswers format why knowing.numbers basis asked end text) are.is answers);
       }
 
-  pub first_answered_by : (ground : Ground moment rrsets said) (count : ℕ) (end : Status) (text : List ℕ)
-      → AreAnswers format why ground.numbers (basis_of rrsets anchors moment ground.meaning) (take count asked) end text
+  pub first_answered_by : (knowing : Ground moment rrsets said) (count : ℕ) (end : Status) (text : List ℕ)
+      → AreAnswers format why knowing.numbers (basis_of rrsets anchors moment knowing.meaning) (take count asked) end text
       → AreFirstAnswered format why moment files text
-  first_answered_by ground count end text answers =
-      let are = all_given moment files read ground.meaning ground.numbers ground.knows in record {
+  first_answered_by knowing count end text answers =
+      let are = all_given moment files read knowing.meaning knowing.numbers knowing.knows in record {
         asked = asked;
         has = has;
         given = are.given;
         count = count;
         end = end;
         answers = subst (λ (each : Option (List ℕ)). AreAnswers format why each (basis_in are.given) (take count asked) end text) are.told
-            (subst (λ (basis : Basis). AreAnswers format why ground.numbers basis (take count asked) end text) are.is answers);
+            (subst (λ (basis : Basis). AreAnswers format why knowing.numbers basis (take count asked) end text) are.is answers);
       }
 
   pub all_done : {E : Type 0} (old new : Option (List ℕ)) (result : Result Status E)
-      → IfOk result (λ end. (ground : Ground moment rrsets said) × (text : List ℕ)
-      × AreAnswers format why ground.numbers (basis_of rrsets anchors moment ground.meaning) asked end text × Appends old new text)
+      → IfOk result (λ end. (knowing : Ground moment rrsets said) × (text : List ℕ)
+      × AreAnswers format why knowing.numbers (basis_of rrsets anchors moment knowing.meaning) asked end text × Appends old new text)
       → IfOk result (λ end. (text : List ℕ) × AreAnswered format why moment files end text × Appends old new text)
   all_done old new (Ok end) done = (done.1, answered_by done.0 end done.1 done.2, done.3)
   all_done old new (Err told) done = tt
 
   pub first_begun : (old new : Option (List ℕ))
-      → (ground : Ground moment rrsets said) × (count : ℕ) × (end : Status) × (text : List ℕ)
-      × AreAnswers format why ground.numbers (basis_of rrsets anchors moment ground.meaning) (take count asked) end text × AppendsBeginning old new text
+      → (knowing : Ground moment rrsets said) × (count : ℕ) × (end : Status) × (text : List ℕ)
+      × AreAnswers format why knowing.numbers (basis_of rrsets anchors moment knowing.meaning) (take count asked) end text × AppendsBeginning old new text
       → (text : List ℕ) × AreFirstAnswered format why moment files text × AppendsBeginning old new text
   first_begun old new begun = (begun.3, first_answered_by begun.0 begun.1 begun.2 begun.3 begun.4, begun.5)
 
@@ -148,8 +148,8 @@ pub first_whole : {Same : Type 0} {AreSo : Files → Type 0} (format : Format) (
     {anchors : List Anchor} {said : Said} (old new : Option (List ℕ))
     → ((files : Files) → AreSo files → HasQuestions (octets_or_none files.questions) asked)
     → ((files : Files) → AreSo files → AreReadFrom moment files rrsets anchors said)
-    → Same ⊎ ((ground : Ground moment rrsets said) × (count : ℕ) × (end : Status) × (text : List ℕ)
-    × AreAnswers format why ground.numbers (basis_of rrsets anchors moment ground.meaning) (take count asked) end text × Appends old new text)
+    → Same ⊎ ((knowing : Ground moment rrsets said) × (count : ℕ) × (end : Status) × (text : List ℕ)
+    × AreAnswers format why knowing.numbers (basis_of rrsets anchors moment knowing.meaning) (take count asked) end text × Appends old new text)
     → Same ⊎ ((files : Files) → AreSo files → (text : List ℕ) × AreFirstAnswered format why moment files text × Appends old new text)
 first_whole format why moment asked old new has given (inl same) = inl same
 first_whole format why moment asked old new has given (inr whole) = inr (λ files are. (
@@ -162,11 +162,11 @@ first_whole format why moment asked old new has given (inr whole) = inr (λ file
 
 -- what is told by a case is told by what is known
 pub told_done : {moment : ℕ} {rrsets : List ReceivedRrset} {said : Said} {E : Type 0} {P : Ground moment rrsets said → Status → List ℕ → Type 0}
-    (ground : Ground moment rrsets said) (Grows : List ℕ → Type 0) (result : Result Status E)
-    → IfOk result (λ end. (text : List ℕ) × P ground end text × Grows text)
-    → IfOk result (λ end. (ground : Ground moment rrsets said) × (text : List ℕ) × P ground end text × Grows text)
-told_done ground Grows (Ok end) done = (ground, done.0, done.1, done.2)
-told_done ground Grows (Err told) done = tt
+    (knowing : Ground moment rrsets said) (Grows : List ℕ → Type 0) (result : Result Status E)
+    → IfOk result (λ end. (text : List ℕ) × P knowing end text × Grows text)
+    → IfOk result (λ end. (knowing : Ground moment rrsets said) × (text : List ℕ) × P knowing end text × Grows text)
+told_done knowing Grows (Ok end) done = (knowing, done.0, done.1, done.2)
+told_done knowing Grows (Err told) done = tt
 
 pub told_only : {T : Type 0} (P : Refusal → Place → Type 0) (result : Result T Fault) → IfErr result (λ told. (told ≡ fault.OutOfMemory) ⊎ (told ≡ fault.WriteFailed))
     → IfErr result (λ told. IsFaultOf P told ⊎ (told ≡ fault.WriteFailed))

@@ -261,8 +261,18 @@ module _ {R U : Type 0} {remaining : R → Option (List ℕ)} {before after : In
             OfOctets-weaker (IsFaultBeforeKnown files.capture moment files.statements files.answers) (IsFirstFaultOfFiles moment files) told
             (λ fault holds.
             let evidence = held files.capture are.capture in
-            inr (opening, opens files are, inr (evidence.0, evidence.1, inr (trusted files.anchors are.anchors,
-            before_known files.capture moment (evidence_of evidence.0).rrsets files.statements files.answers fault holds))))
+            inr (
+              opening,
+              opens files are,
+              inr (
+                evidence.0,
+                evidence.1,
+                inr (
+                  trusted files.anchors are.anchors,
+                  before_known files.capture moment (evidence_of evidence.0).rrsets files.statements files.answers fault holds,
+                ),
+              ),
+            ))
             (faults files are);
         reads = record {
           capture = reads_then x (Err told) tells.reads (about_one_of Statements Answers told about (λ is. cc) (λ is. cc));

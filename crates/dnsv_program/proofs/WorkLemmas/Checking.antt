@@ -94,21 +94,31 @@ module _ (moment : ℕ) (files : Files) {rrsets : List ReceivedRrset} {anchors :
   -- and are at fault where there are more or fewer answers than entries
   pub none_given : (why : Refusal) (place : Place) → AreMiscountedIn moment rrsets said why place → IsFirstFaultOfFiles moment files (fault.Refused why place)
   none_given why place bad =
-      inr (read.opening, read.opens, inr (read.messages, read.holds, inr ((anchors, read.trusted),
-      subst (λ (each : List ReceivedRrset). IsFaultOfKnown files.capture moment each files.statements files.answers (fault.Refused why place)) read.is
-      (unknown_by files.capture moment rrsets files.statements files.answers said why place read.says bad))))
+      inr (
+        read.opening,
+        read.opens,
+        inr (
+          read.messages,
+          read.holds,
+          inr (
+            (anchors, read.trusted),
+            subst (λ (each : List ReceivedRrset). IsFaultOfKnown files.capture moment each files.statements files.answers (fault.Refused why place)) read.is
+                (unknown_by files.capture moment rrsets files.statements files.answers said why place read.says bad),
+          ),
+        ),
+      )
 
 -- what is judged by what the files say is judged over them
 pub all_checked : (format : Format) (why : Bool) (name : Labels) (rtype moment : ℕ) (files : Files) {rrsets : List ReceivedRrset} {anchors : List Anchor} {said : Said}
     → AreReadFrom moment files rrsets anchors said → (result : Result Outcome Fault)
-    → IfOk result (λ outcome. (ground : Ground moment rrsets said)
-    × IsJudged format why ground.numbers (basis_of rrsets anchors moment ground.meaning) name rtype outcome.status (string_bytes outcome.text))
+    → IfOk result (λ outcome. (knowing : Ground moment rrsets said)
+    × IsJudged format why knowing.numbers (basis_of rrsets anchors moment knowing.meaning) name rtype outcome.status (string_bytes outcome.text))
     → IfOk result (λ outcome. IsCheck format why name rtype moment files outcome.status (string_bytes outcome.text))
 all_checked format why name rtype moment files read (Err told) judged = tt
 all_checked format why name rtype moment files read (Ok outcome) judged =
-    let ground = judged.0 in
-    let are = all_given moment files read ground.meaning ground.numbers ground.knows in record {
+    let knowing = judged.0 in
+    let are = all_given moment files read knowing.meaning knowing.numbers knowing.knows in record {
       given = are.given;
       judged = subst (λ (each : Option (List ℕ)). IsJudged format why each (basis_in are.given) name rtype outcome.status (string_bytes outcome.text)) are.told
-          (subst (λ (basis : Basis). IsJudged format why ground.numbers basis name rtype outcome.status (string_bytes outcome.text)) are.is judged.1);
+          (subst (λ (basis : Basis). IsJudged format why knowing.numbers basis name rtype outcome.status (string_bytes outcome.text)) are.is judged.1);
     }

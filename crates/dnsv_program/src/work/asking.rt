@@ -87,23 +87,23 @@ fn answer_all<W: Write>(
     questions: &[StoredQuestion],
     output: &mut Counted<W>,
 ) -> Result<Status, Fault>
-    ensures done { IfOk result (λ end. (ground : Ground moment given.now.held.rrsets given.now.said) × (text : List ℕ)
-        × AreAnswers telling.format telling.why ground.numbers (basis_of given.now.held.rrsets given.now.anchors moment
-        ground.meaning) questions.now end text
+    ensures done { IfOk result (λ end. (knowing : Ground moment given.now.held.rrsets given.now.said) × (text : List ℕ)
+        × AreAnswers telling.format telling.why knowing.numbers (basis_of given.now.held.rrsets given.now.anchors moment
+        knowing.meaning) questions.now end text
         × Appends (W.contents (inner_of output.old)) (W.contents (inner_of output.new)) text) }
     ensures only { IfErr result (λ fault. IsFaultOf (AreMiscountedIn moment given.now.held.rrsets given.now.said) fault
         ⊎ (fault ≡ Fault.WriteFailed)) }
     ensures write { result ≡ Err Fault.WriteFailed
         → failures_of output.old < u64.MAX → failures_of output.old < failures_of output.new }
-    ensures begun { result ≡ Err Fault.WriteFailed → (ground : Ground moment given.now.held.rrsets given.now.said)
+    ensures begun { result ≡ Err Fault.WriteFailed → (knowing : Ground moment given.now.held.rrsets given.now.said)
         × (count : ℕ) × (end : Status) × (text : List ℕ)
-        × AreAnswers telling.format telling.why ground.numbers (basis_of given.now.held.rrsets given.now.anchors moment
-        ground.meaning) (take count questions.now) end text
+        × AreAnswers telling.format telling.why knowing.numbers (basis_of given.now.held.rrsets given.now.anchors moment
+        knowing.meaning) (take count questions.now) end text
         × AppendsBeginning (W.contents (inner_of output.old)) (W.contents (inner_of output.new)) text }
     ensures whole { result ≡ Err Fault.OutOfMemory → (output.new ≡ output.old)
-        ⊎ ((ground : Ground moment given.now.held.rrsets given.now.said) × (count : ℕ) × (end : Status) × (text : List ℕ)
-        × AreAnswers telling.format telling.why ground.numbers (basis_of given.now.held.rrsets given.now.anchors moment
-        ground.meaning) (take count questions.now) end text
+        ⊎ ((knowing : Ground moment given.now.held.rrsets given.now.said) × (count : ℕ) × (end : Status) × (text : List ℕ)
+        × AreAnswers telling.format telling.why knowing.numbers (basis_of given.now.held.rrsets given.now.anchors moment
+        knowing.meaning) (take count questions.now) end text
         × Appends (W.contents (inner_of output.old)) (W.contents (inner_of output.new)) text) }
     ensures untouched { IfErr result (λ fault. (fault ≡ Fault.WriteFailed → ⊥) → (fault ≡ Fault.OutOfMemory → ⊥)
         → output.new ≡ output.old) }

@@ -90,14 +90,14 @@ fn judge_given(
     given: &Given<'_>,
 ) -> Result<Outcome, Fault>
     requires { IsQuestion asked.now.name.now asked.now.rtype.0 }
-    ensures verdict { IfOk result (λ outcome. (ground : Ground asked.now.moment given.now.held.rrsets given.now.said)
-        × IsJudged telling.format telling.why ground.numbers (basis_of given.now.held.rrsets given.now.anchors
-        asked.now.moment ground.meaning) asked.now.name.now asked.now.rtype.0 outcome.status
+    ensures verdict { IfOk result (λ outcome. (knowing : Ground asked.now.moment given.now.held.rrsets given.now.said)
+        × IsJudged telling.format telling.why knowing.numbers (basis_of given.now.held.rrsets given.now.anchors
+        asked.now.moment knowing.meaning) asked.now.name.now asked.now.rtype.0 outcome.status
         (string_bytes outcome.text)) }
     ensures only { IfErr result (λ told. IsFaultOf (AreMiscountedIn asked.now.moment given.now.held.rrsets
-        given.now.said) told ⊎ ((ground : Ground asked.now.moment given.now.held.rrsets given.now.said)
+        given.now.said) told ⊎ ((knowing : Ground asked.now.moment given.now.held.rrsets given.now.said)
         × (error : VerdictError) × IsRefusedFor (basis_of given.now.held.rrsets given.now.anchors asked.now.moment
-        ground.meaning) asked.now.name.now asked.now.rtype.0 error × (told ≡ specs.verdict_fault error))) }
+        knowing.meaning) asked.now.name.now asked.now.rtype.0 error × (told ≡ specs.verdict_fault error))) }
 {
     let numbers = OpenNumbers::of(alloc, &given.said)?;
     let mut judging = open_case(

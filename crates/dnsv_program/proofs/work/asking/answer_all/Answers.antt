@@ -30,9 +30,9 @@ returns-clause-done g c =
     let given = c.args.given.now in
     let known = c.in_ok-judge.ensures.known in
     let basis : Basis = basis_of given.held.rrsets given.anchors c.args.moment known.0 in
-    let ground : Ground c.args.moment given.held.rrsets given.said = record { meaning = known.0; numbers = numbers_said given.said; knows = known.1 } in
-    told_done {P = λ ground end text. AreAnswers c.args.telling.format c.args.telling.why ground.numbers
-    (basis_of given.held.rrsets given.anchors c.args.moment ground.meaning) c.args.questions.now end text} ground _ c.tell_each.result
+    let knowing : Ground c.args.moment given.held.rrsets given.said = record { meaning = known.0; numbers = numbers_said given.said; knows = known.1 } in
+    told_done {P = λ knowing end text. AreAnswers c.args.telling.format c.args.telling.why knowing.numbers
+    (basis_of given.held.rrsets given.anchors c.args.moment knowing.meaning) c.args.questions.now end text} knowing _ c.tell_each.result
     (rw c.in_ok-numbers.ensures at (c.tell_each.ensures.done basis known.2 c.rrsets.ensures.value refl))
 
 pub returns-clause-only : goal.returns-clause-only

@@ -26,12 +26,12 @@ returns-clause-faults g c =
     let given = c.in_ok-given.given in
     let asked = c.args.asked.now in
     given_or_refused (AreMiscountedIn asked.moment given.held.rrsets given.said)
-    (λ (ground : Ground asked.moment given.held.rrsets given.said) (error : VerdictError).
-    IsRefusedFor (basis_of given.held.rrsets given.anchors asked.moment ground.meaning) asked.name.now asked.rtype.0 error)
+    (λ (knowing : Ground asked.moment given.held.rrsets given.said) (error : VerdictError).
+    IsRefusedFor (basis_of given.held.rrsets given.anchors asked.moment knowing.meaning) asked.name.now asked.rtype.0 error)
     asked.name.now asked.rtype.0 asked.moment given c.judge_given.result c.in_ok-given.ensures.faults c.given_in.ensures.questions
     (λ files are. none_given asked.moment files (c.in_ok-given.ensures.given files are))
-    (λ ground files error are refused. stopped_there asked.name.now asked.rtype.0 asked.moment files
-    (all_given asked.moment files (c.in_ok-given.ensures.given files are.beside) ground.meaning ground.numbers ground.knows) error refused)
+    (λ knowing files error are refused. stopped_there asked.name.now asked.rtype.0 asked.moment files
+    (all_given asked.moment files (c.in_ok-given.ensures.given files are.beside) knowing.meaning knowing.numbers knowing.knows) error refused)
     c.judge_given.ensures.only
 
 pub returns-clause-text : goal.returns-clause-text
