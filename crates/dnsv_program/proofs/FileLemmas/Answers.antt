@@ -3,7 +3,7 @@ use Rattle.std.proofs.Common.{◌≡◌, ◌⊎◌, ◌<◌, ℕ, List, Option, 
 use Rattle.std.proofs.lemmas.List.{append-nil}
 use Rattle.std.proofs.lemmas.Option.{slice_get_past}
 use Rattle.std.specs.List.{AllByRecursion, flat_map}
-use Rattle.std.specs.Prelude.{IfErr}
+use Rattle.std.specs.Prelude.{IfErr, ⊤}
 use Rattle.sha2.specs.Sha256.{sha256}
 use Rattle.dnsv_message.specs.Streams.Frames.{IsCapture, IsFramed, frame}
 use Rattle.dnsv_canonical.specs.Rrsets.{ReceivedRrset}
@@ -16,12 +16,13 @@ use Rattle.dnsv_answers.proofs.AnswerLaws.{AreAnswersOf-no_fault, AreAnswersOf-o
 use Rattle.dnsv_answers.proofs.AnsweredLaws.{one_number_asked}
 use Rattle.dnsv_program.specs.declared.status.Fault.{Fault}
 use Rattle.dnsv_program.specs.declared.status.Fault.TheVariants as fault
+use Rattle.dnsv_program.specs.declared.status.InputFile.{InputFile}
 use Rattle.dnsv_program.specs.declared.status.InputFile.TheVariants.{Answers}
 use Rattle.dnsv_program.specs.declared.status.Place.{Place}
 use Rattle.dnsv_program.specs.declared.status.Refusal.{Refusal}
 use Rattle.dnsv_program.specs.declared.status.Refusal.TheVariants as refusal
 use Rattle.dnsv_program.specs.Files.Answers.{AreAnswersRefused, AreFor, AreForOther, AreRefusedBeforeCount, AreRefusedFor, AreSaidFor, AreTooManyOrFew, HasAnswers, IsAtSomeLine, IsFaultBeforeCount, IsFaultOfAnswers, TellsAnswersError}
-use Rattle.dnsv_program.specs.Files.Faults.{IsTextFault, OfOctets}
+use Rattle.dnsv_program.specs.Files.Faults.{IsAbout, IsTextFault, OfFailedRead, OfOctets}
 use Rattle.dnsv_program.specs.Told.{IsAnswersFault, IsFaultOf as IsFaultFor, IsRefusalOf, TellsRefusals}
 use Rattle.dnsv_program.proofs.FileLemmas.Text.{every_told, no_text_fault, one_text_fault, told_by_one}
 
@@ -183,6 +184,43 @@ module _ (capture : List ℕ) (moment : ℕ) (text : List ℕ) where
         stands why place (inr bad) =
             let same = AreAnswersOf-only text bad.0 contents bad.1 said.has.are in
             counted bad.3.0 bad.3.1.0 (so_many bad.3.1.0 bad.3.1.1) (subst (λ (each : AnswersContents). AreMiscounted each bad.3.1.0 bad.3.0) same bad.3.1.2)
+
+-- answers of another list are refused, so no read has failed
+other_found : (line : ℕ) (found : Fault) → IsAnswersFault (answers.OtherList line) found → IsRefusalOf (λ why place. ⊤) found
+other_found line (fault.Refused why place) tells = tt
+other_found line fault.OutOfMemory tells = absurd tells
+other_found line (fault.ReadFailed file) tells = absurd tells
+other_found line (fault.TooLong file) tells = absurd tells
+other_found line (fault.OpenFailed file) tells = absurd tells
+other_found line fault.WriteFailed tells = absurd tells
+
+pub other_refused : (contents : AnswersContents) (digest : List ℕ) (moment : ℕ) (error : AnswersError) (found : Fault) → AreOfOther contents digest moment error
+    → IsAnswersFault error found → IsRefusalOf (λ why place. ⊤) found
+other_refused contents digest moment error found other tells = other_found contents.line found (subst (λ (e : AnswersError). IsAnswersFault e found) other.is tells)
+
+pub refused_unread : (file : InputFile) (told : Fault) → IsRefusalOf (λ why place. ⊤) told → told ≡ fault.ReadFailed file → ⊥
+refused_unread file (fault.Refused why place) refused is = cc
+refused_unread file fault.OutOfMemory refused is = refused
+refused_unread file (fault.ReadFailed other) refused is = refused
+refused_unread file (fault.TooLong other) refused is = refused
+refused_unread file (fault.OpenFailed other) refused is = refused
+refused_unread file fault.WriteFailed refused is = refused
+
+pub refused_about : (file : InputFile) (told : Fault) → IsRefusalOf (λ why place. ⊤) told → IsAbout file told
+refused_about file (fault.Refused why place) refused = tt
+refused_about file fault.OutOfMemory refused = absurd refused
+refused_about file (fault.ReadFailed other) refused = absurd refused
+refused_about file (fault.TooLong other) refused = absurd refused
+refused_about file (fault.OpenFailed other) refused = absurd refused
+refused_about file fault.WriteFailed refused = absurd refused
+
+pub refused_of_reads : (Holds : InputFile → Type 0) (told : Fault) → IsRefusalOf (λ why place. ⊤) told → OfFailedRead Holds told
+refused_of_reads Holds (fault.Refused why place) refused = tt
+refused_of_reads Holds fault.OutOfMemory refused = absurd refused
+refused_of_reads Holds (fault.ReadFailed other) refused = absurd refused
+refused_of_reads Holds (fault.TooLong other) refused = absurd refused
+refused_of_reads Holds (fault.OpenFailed other) refused = absurd refused
+refused_of_reads Holds fault.WriteFailed refused = absurd refused
 
 -- what the text is at fault for is at fault before entries are counted
 pub text_before : (capture : List ℕ) (moment : ℕ) (text : List ℕ) (told : Fault) → OfOctets (IsTextFault Answers AreAnswersRefused text) told

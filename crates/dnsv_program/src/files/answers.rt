@@ -1,5 +1,5 @@
 //! Files of answers by number.
-ghost use Rattle.std.specs.Prelude.{◌≡◌, IfErr, IfOk, List, OnOk, Option, ℕ};
+ghost use Rattle.std.specs.Prelude.{◌≡◌, IfErr, IfOk, List, OnOk, Option, ℕ, ⊤};
 ghost use Rattle.dnsv_answers.specs.AnswersError.{answers_error_code};
 ghost use Rattle.dnsv_message.specs.Streams.Frames.{IsCapture, octets_at_each};
 ghost use Rattle.dnsv_program.specs.Files.Answers.{AreFor, AreForOther, AreSaidFor, IsFaultBeforeCount};
@@ -64,6 +64,7 @@ fn test_list(answers: &Answers, frames: &[&[u8]], moment: Moment) -> Result<(), 
         → OnOk result (AreFor capture moment answers.now) }
     ensures other { (capture : List ℕ) → IsCapture capture (octets_at_each frames.now)
         → IfErr result (IsRefusalOf (AreForOther capture moment answers.now)) }
+    ensures refused { IfErr result (IsRefusalOf (λ _ _. ⊤)) }
 {
     let digest = capture_digest(frames);
     match answers.test_list(&digest, moment.seconds()) {
