@@ -218,21 +218,21 @@ list_values rows all fault =
 
 check_capture : (why : Bool) (rows : List Row) → AreRowsIn (question_shape why).rules rows → check_fault (question_shape why) rows false ≡ [] → HasValueOf built_capture built_capture.id rows
 check_capture why rows all fault =
-    required_value (question_shape why) built_capture rows (λ e. refl, (λ e. cc, (λ e. cc, (λ e. cc, (λ e. cc, (λ e. cc, (λ e. cc, (λ e. cc, (λ e. cc, (λ e. cc, (λ e. cc, tt))))))))))) (inl refl) refl refl all fault
+    required_value (question_shape why) built_capture rows (λ e. refl, (λ e. cc, (λ e. cc, (λ e. cc, (λ e. cc, (λ e. cc, (λ e. cc, (λ e. cc, (λ e. cc, (λ e. cc, (λ e. cc, (λ e. cc, tt)))))))))))) (inl refl) refl refl all fault
 
 check_anchors : (why : Bool) (rows : List Row) → AreRowsIn (question_shape why).rules rows → check_fault (question_shape why) rows false ≡ [] → HasValueOf built_anchors built_anchors.id rows
 check_anchors why rows all fault =
-    required_value (question_shape why) built_anchors rows (λ e. cc, (λ e. refl, (λ e. cc, (λ e. cc, (λ e. cc, (λ e. cc, (λ e. cc, (λ e. cc, (λ e. cc, (λ e. cc, (λ e. cc, tt))))))))))) (inr (inl refl)) refl refl all fault
+    required_value (question_shape why) built_anchors rows (λ e. cc, (λ e. refl, (λ e. cc, (λ e. cc, (λ e. cc, (λ e. cc, (λ e. cc, (λ e. cc, (λ e. cc, (λ e. cc, (λ e. cc, (λ e. cc, tt)))))))))))) (inr (inl refl)) refl refl all fault
 
 check_moment : (why : Bool) (rows : List Row) → AreRowsIn (question_shape why).rules rows → check_fault (question_shape why) rows false ≡ [] → HasValueOf built_moment built_moment.id rows
 check_moment why rows all fault =
-    required_value (question_shape why) built_moment rows (λ e. cc, (λ e. cc, (λ e. refl, (λ e. cc, (λ e. cc, (λ e. cc, (λ e. cc, (λ e. cc, (λ e. cc, (λ e. cc, (λ e. cc, tt))))))))))) (inr (inr (inl refl))) refl refl all fault
+    required_value (question_shape why) built_moment rows (λ e. cc, (λ e. cc, (λ e. refl, (λ e. cc, (λ e. cc, (λ e. cc, (λ e. cc, (λ e. cc, (λ e. cc, (λ e. cc, (λ e. cc, (λ e. cc, tt)))))))))))) (inr (inr (inl refl))) refl refl all fault
 
 check_type : (why : Bool) (rows : List Row) → AreRowsIn (question_shape why).rules rows → MayHaveNumber (codes "type") 65535 rows
-check_type why rows all = type_may (question_shape why) rows (λ e. cc, (λ e. cc, (λ e. cc, (λ e. cc, (λ e. refl, (λ e. cc, (λ e. cc, (λ e. cc, (λ e. cc, (λ e. cc, (λ e. cc, tt))))))))))) all
+check_type why rows all = type_may (question_shape why) rows (λ e. cc, (λ e. cc, (λ e. cc, (λ e. cc, (λ e. refl, (λ e. cc, (λ e. cc, (λ e. cc, (λ e. cc, (λ e. cc, (λ e. cc, (λ e. cc, tt)))))))))))) all
 
 check_json : (why : Bool) (rows : List Row) → AreRowsIn (question_shape why).rules rows → IsFlag (one_of (codes "json") rows)
-check_json why rows all = json_has (question_shape why) rows (λ e. cc, (λ e. cc, (λ e. cc, (λ e. cc, (λ e. cc, (λ e. cc, (λ e. cc, (λ e. cc, (λ e. cc, (λ e. refl, (λ e. cc, tt))))))))))) all
+check_json why rows all = json_has (question_shape why) rows (λ e. cc, (λ e. cc, (λ e. cc, (λ e. cc, (λ e. cc, (λ e. cc, (λ e. cc, (λ e. cc, (λ e. cc, (λ e. cc, (λ e. refl, (λ e. cc, tt)))))))))))) all
 
 pub check_values : (why : Bool) (rows : List Row) → AreRowsIn (question_shape why).rules rows → check_fault (question_shape why) rows false ≡ [] → HasCheckValues rows
 check_values why rows all fault = (
