@@ -3,7 +3,7 @@ use Rattle.std.proofs.Common.{◌≡◌, ◌⊎◌, ◌<◌, ℕ, List, Option, 
 use Rattle.std.proofs.lemmas.List.{append-nil}
 use Rattle.std.proofs.lemmas.Option.{slice_get_past}
 use Rattle.std.specs.List.{AllByRecursion, flat_map}
-use Rattle.std.specs.Prelude.{IfErr}
+use Rattle.std.specs.Prelude.{IfErr, ⊤}
 use Rattle.sha2.specs.Sha256.{sha256}
 use Rattle.dnsv_message.specs.Streams.Frames.{IsCapture, IsFramed, frame}
 use Rattle.dnsv_canonical.specs.Rrsets.{ReceivedRrset}

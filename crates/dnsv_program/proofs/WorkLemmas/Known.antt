@@ -1,5 +1,5 @@
 -- The numbers of the answers that leave an entry open, one answer after another.
-use Rattle.std.proofs.Common.{◌≡◌, ◌<◌, ◌+◌, ◌++◌, ◌∙◌, ℕ, suc, List, [], ◌∷◌, Some, ap, arith, get_or, length, map, refl, subst, sym, take}
+use Rattle.std.proofs.Common.{◌≡◌, ◌<◌, ◌+◌, ◌++◌, ◌∙◌, ℕ, suc, Bool, true, false, List, [], ◌∷◌, Option, Some, None, is_some, ap, arith, get_or, length, map, refl, subst, sym, take}
 use Rattle.std.proofs.lemmas.List.{length-map, length-take-le, map-append, take_more}
 use Rattle.dnsv_answers.specs.declared.said.SaidAnswer.{SaidAnswer}
 use Rattle.dnsv_verifier.specs.declared.answer.Answer.{Answer}
@@ -11,10 +11,13 @@ use Rattle.dnsv_verifier.specs.Statements.{listed_answer}
 use Rattle.dnsv_verifier.specs.Table.{TableContents, table_answer}
 use Rattle.dnsv_verifier.specs.declared.entry.Entry.{Entry}
 use Rattle.dnsv_verifier.specs.declared.statements.statement.Word.{Word}
-use Rattle.dnsv_program.specs.Files.Answers.{AreTooManyOrFew}
+use Rattle.dnsv_program.specs.Files.Answers.{AreSaidFor, AreTooManyOrFew, IsFaultBeforeCount}
+use Rattle.dnsv_program.specs.Files.Faults.{OfOctets}
+use Rattle.dnsv_program.specs.Files.{IsGiven, octets_or_none}
 use Rattle.dnsv_program.specs.Told.{IsFaultOf}
-use Rattle.dnsv_program.specs.Work.Known.{AreMeant, AreMiscountedIn, IsKnown, numbers_said, open_numbers}
+use Rattle.dnsv_program.specs.Work.Known.{AreMeant, AreMiscountedIn, IsFaultBeforeKnown, IsKnown, IsSaidBy, numbers_said, open_numbers}
 use Rattle.dnsv_program.specs.declared.status.Fault.{Fault}
+use Rattle.dnsv_program.specs.declared.status.Fault.TheVariants as fault
 use Rattle.dnsv_program.specs.declared.work.given.Said.{Said}
 use Rattle.dnsv_program.specs.declared.work.given.Said.TheVariants as said
 
@@ -44,7 +47,7 @@ open_more said i d within =
 
 -- ---- what is known
 
-module _ {Holds : (Entry → Answer) → Type 0} (moment : ℕ) (rrsets : List ReceivedRrset) (what : Said) where
+module _ (Holds : (Entry → Answer) → Type 0) (moment : ℕ) (rrsets : List ReceivedRrset) (what : Said) where
   abbrev pub IsKnownSo : Said → Type 0
   IsKnownSo each = (meaning : Entry → Answer) × IsKnown moment rrsets each meaning (numbers_said each) × Holds meaning
 
@@ -60,7 +63,30 @@ module _ {Holds : (Entry → Answer) → Type 0} (moment : ℕ) (rrsets : List R
       record { table = table; is_table = answered; says = refl; numbered = refl } in
       subst (λ (each : Said). IsKnownSo each) (sym is) (table_answer table, meant, holds)
 
-  -- as many answers as entries can't be
-  pub miscounted : (contents : AnswersContents) (told : Fault) → what ≡ said.Answers contents → IsFaultOf (AreTooManyOrFew moment rrsets contents) told
-      → IsFaultOf (AreMiscountedIn moment rrsets what) told
-  miscounted contents told is bad = subst (λ (each : Said). IsFaultOf (AreMiscountedIn moment rrsets each) told) (sym is) bad
+-- more or fewer answers than entries are a fault of what is said
+pub miscounted : (moment : ℕ) (rrsets : List ReceivedRrset) (what : Said) (contents : AnswersContents) (told : Fault) → what ≡ said.Answers contents
+    → IsFaultOf (AreTooManyOrFew moment rrsets contents) told → IsFaultOf (AreMiscountedIn moment rrsets what) told
+miscounted moment rrsets what contents told is bad = subst (λ (each : Said). IsFaultOf (AreMiscountedIn moment rrsets each) told) (sym is) bad
+
+-- ---- which file is read
+
+pub given_some : {T : Type 0} (file : Option T) → is_some file ≡ true → IsGiven file
+given_some None is = let bad : false ≡ true = is in cc
+given_some (Some x) is = λ none. cc
+
+-- where answers are given, they are what is said
+pub said_by : (capture : List ℕ) (moment : ℕ) (stated answered : Option (List ℕ)) (contents : AnswersContents) → IsGiven answered
+    → AreSaidFor capture moment (octets_or_none answered) contents → IsSaidBy capture moment stated answered (said.Answers contents)
+said_by capture moment stated (Some text) contents given are = are
+said_by capture moment stated None contents given are = absurd (given refl)
+
+-- and their fault is the fault
+pub faulty_before : (capture : List ℕ) (moment : ℕ) (stated answered : Option (List ℕ)) (told : Fault) → IsGiven answered
+    → OfOctets (IsFaultBeforeCount capture moment (octets_or_none answered)) told → OfOctets (IsFaultBeforeKnown capture moment stated answered) told
+faulty_before capture moment stated None told given holds = absurd (given refl)
+faulty_before capture moment stated (Some text) (fault.Refused why place) given holds = holds
+faulty_before capture moment stated (Some text) (fault.TooLong file) given holds = holds
+faulty_before capture moment stated (Some text) fault.OutOfMemory given holds = tt
+faulty_before capture moment stated (Some text) (fault.ReadFailed file) given holds = tt
+faulty_before capture moment stated (Some text) (fault.OpenFailed file) given holds = tt
+faulty_before capture moment stated (Some text) fault.WriteFailed given holds = tt

@@ -38,13 +38,13 @@ impl Model for OpenNumbers {
 
     ghost Value = { Option (List ℕ) };
 
-    ghost view = { λ open. option_map (λ numbers. numbers.items) open.numbers };
+    ghost view = { λ each. option_map (λ numbers. numbers.items) each.numbers };
 }
 
 impl OpenNumbers {
     /// Those of what is said of signatures.
     pub fn of(alloc: Global, said: &Said) -> Result<OpenNumbers, AllocError>
-        ensures { IfOk result (λ open. open ≡ numbers_said said.now) }
+        ensures { IfOk result (λ made. made ≡ numbers_said said.now) }
     {
         match said {
             Said::Statements(_) => Ok(OpenNumbers { numbers: None }),
@@ -73,8 +73,8 @@ fn open_places(alloc: Global, said: &[SaidAnswer]) -> Result<Vec<usize>, AllocEr
     ensures { IfOk result (λ numbers. numbers.items ≡ open_numbers 1 (map (λ each. each.answer) said.now)) }
 {
     let mut numbers = Vec::new(alloc);
-    for (index, each) in said.iter().enumerate() {
-        push_open(&mut numbers, index + 1, each.answer)?;
+    for index in 0..said.len() {
+        push_open(&mut numbers, index + 1, said[index].answer)?;
     }
     Ok(numbers)
 }
