@@ -73,17 +73,17 @@ fn open_places(alloc: Global, said: &[SaidAnswer]) -> Result<Vec<usize>, AllocEr
     ensures { IfOk result (λ numbers. numbers.items ≡ open_numbers 1 (map (λ each. each.answer) said.now)) }
 {
     let mut numbers = Vec::new(alloc);
-    for index in 0..said.len() {
-        push_open(&mut numbers, index + 1, said[index].answer)?;
+    for (index, each) in said.iter().enumerate() {
+        push_open(&mut numbers, index + 1, each)?;
     }
     Ok(numbers)
 }
 
 /// Adds the number of the answer, where that leaves an entry open.
-fn push_open(numbers: &mut Vec<usize>, number: usize, answer: Answer) -> Result<(), AllocError>
-    ensures { OnOk result (numbers.new.items ≡ numbers.old.items ++ open_numbers number (answer ∷ [])) }
+fn push_open(numbers: &mut Vec<usize>, number: usize, said: &SaidAnswer) -> Result<(), AllocError>
+    ensures { OnOk result (numbers.new.items ≡ numbers.old.items ++ open_numbers number (said.now.answer ∷ [])) }
 {
-    match answer {
+    match said.answer {
         Answer::Unknown => Ok(numbers.push(number)?),
         Answer::Valid | Answer::Invalid => Ok(()),
     }

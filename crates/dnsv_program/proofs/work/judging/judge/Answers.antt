@@ -7,8 +7,8 @@ use Rattle.dnsv_program.specs.Status.{status_code}
 use Rattle.dnsv_program.specs.Work.Checking.{verdict_fault}
 use Rattle.dnsv_program.proofs.work.judging.judge.Goals as goal
 
-pub returns-in-Ok-clause-verdict : goal.returns-in-Ok-clause-verdict
-returns-in-Ok-clause-verdict c = λ basis is same at. record {
+pub returns-in_ok-outcome_by-in-Ok-clause-verdict : goal.returns-in_ok-outcome_by-in-Ok-clause-verdict
+returns-in_ok-outcome_by-in-Ok-clause-verdict c = λ basis is same at. record {
   report = c.in-Ok.report;
   is_verdict = c.in-Ok.ensures.verdict basis is;
   told = c.in-Ok.told;
@@ -19,8 +19,8 @@ returns-in-Ok-clause-verdict c = λ basis is same at. record {
       (same i) c.in-Ok.report.links c.in-Ok.report.verdict c.in-Ok.told c.args.numbers.now);
 }
 
-pub returns-clause-only : goal.returns-clause-only
-returns-clause-only c = λ basis is.
+pub returns-in-Err-clause-only : goal.returns-in-Err-clause-only
+returns-in-Err-clause-only c = λ basis is.
     let told : (c.in-Err.error ≡ OutOfMemory) ⊎ IsRefusal basis c.args.asked.now.name.now c.args.asked.now.rtype.0 c.in-Err.error = c.in-Err.ensures.refused basis is in
     ⊎_elim (λ (memory : c.in-Err.error ≡ OutOfMemory). inl (c.verdict_fault.ensures.told ∙ ap verdict_fault memory))
     (λ (refusal : IsRefusal basis c.args.asked.now.name.now c.args.asked.now.rtype.0 c.in-Err.error).
