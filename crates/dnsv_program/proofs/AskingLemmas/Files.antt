@@ -161,12 +161,12 @@ first_whole format why moment asked old new has given (inr whole) = inr (λ file
 -- ---- one case
 
 -- what is told by a case is told by what is known
-pub told_done : {moment : ℕ} {rrsets : List ReceivedRrset} {said : Said} {E : Type 0} {P : Ground moment rrsets said → Status → List ℕ → Type 0}
+pub told_done : {moment : ℕ} {rrsets : List ReceivedRrset} {said : Said} {E : Type 0} (P : Ground moment rrsets said → Status → List ℕ → Type 0)
     (knowing : Ground moment rrsets said) (Grows : List ℕ → Type 0) (result : Result Status E)
     → IfOk result (λ end. (text : List ℕ) × P knowing end text × Grows text)
-    → IfOk result (λ end. (knowing : Ground moment rrsets said) × (text : List ℕ) × P knowing end text × Grows text)
-told_done knowing Grows (Ok end) done = (knowing, done.0, done.1, done.2)
-told_done knowing Grows (Err told) done = tt
+    → IfOk result (λ end. (each : Ground moment rrsets said) × (text : List ℕ) × P each end text × Grows text)
+told_done P knowing Grows (Ok end) done = (knowing, done.0, done.1, done.2)
+told_done P knowing Grows (Err told) done = tt
 
 pub told_only : {T : Type 0} (P : Refusal → Place → Type 0) (result : Result T Fault) → IfErr result (λ told. (told ≡ fault.OutOfMemory) ⊎ (told ≡ fault.WriteFailed))
     → IfErr result (λ told. IsFaultOf P told ⊎ (told ≡ fault.WriteFailed))
@@ -174,8 +174,8 @@ told_only P (Ok x) only = tt
 told_only P (Err told) (inl memory) = inl (subst (IsFaultOf P) (sym memory) tt)
 told_only P (Err told) (inr failed) = inr failed
 
-pub told_untouched : {T Same : Type 0} (result : Result T Fault) → IfErr result (λ told. (told ≡ fault.OutOfMemory) ⊎ (told ≡ fault.WriteFailed))
+pub told_untouched : {T : Type 0} (Same : Type 0) (result : Result T Fault) → IfErr result (λ told. (told ≡ fault.OutOfMemory) ⊎ (told ≡ fault.WriteFailed))
     → IfErr result (λ told. (told ≡ fault.WriteFailed → ⊥) → (told ≡ fault.OutOfMemory → ⊥) → Same)
-told_untouched (Ok x) only = tt
-told_untouched (Err told) (inl memory) = λ written wanted. absurd (wanted memory)
-told_untouched (Err told) (inr failed) = λ written wanted. absurd (written failed)
+told_untouched Same (Ok x) only = tt
+told_untouched Same (Err told) (inl memory) = λ written wanted. absurd (wanted memory)
+told_untouched Same (Err told) (inr failed) = λ written wanted. absurd (written failed)

@@ -1,8 +1,9 @@
-use Rattle.std.proofs.Common.{inl, inr, refl}
+use Rattle.std.proofs.Common.{ℕ, List, inl, inr, refl}
 use Rattle.std.proofs.lemmas.Result.{err_from_is_err_and}
 use Rattle.dnsv_verdict.specs.Verdict.{Basis, basis_of}
 use Rattle.dnsv_program.specs.Work.Asking.{AreAnswers}
 use Rattle.dnsv_program.specs.Work.Known.{AreMiscountedIn, Ground, numbers_said}
+use Rattle.dnsv_program.specs.declared.status.Status.{Status}
 use Rattle.dnsv_program.proofs.AskingLemmas.Files.{told_done, told_only, told_untouched}
 use Rattle.dnsv_program.proofs.FileLemmas.Faults.{same_fault}
 use Rattle.dnsv_program.proofs.ReachedLemmas.{refused_unwritten}
@@ -31,8 +32,8 @@ returns-clause-done g c =
     let known = c.in_ok-judge.ensures.known in
     let basis : Basis = basis_of given.held.rrsets given.anchors c.args.moment known.0 in
     let knowing : Ground c.args.moment given.held.rrsets given.said = record { meaning = known.0; numbers = numbers_said given.said; knows = known.1 } in
-    told_done {P = λ knowing end text. AreAnswers c.args.telling.format c.args.telling.why knowing.numbers
-    (basis_of given.held.rrsets given.anchors c.args.moment knowing.meaning) c.args.questions.now end text} knowing _ c.tell_each.result
+    told_done (λ (each : Ground c.args.moment given.held.rrsets given.said) (end : Status) (text : List ℕ). AreAnswers c.args.telling.format c.args.telling.why each.numbers
+    (basis_of given.held.rrsets given.anchors c.args.moment each.meaning) c.args.questions.now end text) knowing _ c.tell_each.result
     (rw c.in_ok-numbers.ensures at (c.tell_each.ensures.done basis known.2 c.rrsets.ensures.value refl))
 
 pub returns-clause-only : goal.returns-clause-only
@@ -55,4 +56,4 @@ returns-clause-whole g c = λ memory.
     inr (record { meaning = known.0; numbers = numbers_said given.said; knows = known.1 }, whole.0, whole.1, whole.2, whole.3, whole.4)
 
 pub returns-clause-untouched : goal.returns-clause-untouched
-returns-clause-untouched g c = told_untouched c.tell_each.result c.tell_each.ensures.only
+returns-clause-untouched g c = told_untouched _ c.tell_each.result c.tell_each.ensures.only
