@@ -37,13 +37,19 @@ front_size said i within =
     omega (arith, size, taken)
 
 -- one answer more
-pub open_more : (said : List SaidAnswer) (i : ℕ) (d : SaidAnswer) → i < length said
+open_more : (said : List SaidAnswer) (i : ℕ) (d : SaidAnswer) → i < length said
     → open_numbers 1 (map (λ (each : SaidAnswer). each.answer) (take i said)) ++ open_numbers (i + 1) ((get_or said i d).answer ∷ [])
     ≡ open_numbers 1 (map (λ (each : SaidAnswer). each.answer) (take (i + 1) said))
 open_more said i d within =
     sym (last_open 1 (i + 1) (map (λ (each : SaidAnswer). each.answer) (take i said)) (get_or said i d).answer (front_size said i within))
     ∙ ap (λ (answers : List Answer). open_numbers 1 answers) (sym (map-append (λ (each : SaidAnswer). each.answer) (take i said) (get_or said i d ∷ [])))
     ∙ ap (λ (some : List SaidAnswer). open_numbers 1 (map (λ (each : SaidAnswer). each.answer) some)) (sym (take_more said i d within))
+
+pub open_step : (said : List SaidAnswer) (i : ℕ) (d : SaidAnswer) (old new : List ℕ) → i < length said
+    → old ≡ open_numbers 1 (map (λ (each : SaidAnswer). each.answer) (take i said)) → new ≡ old ++ open_numbers (i + 1) ((get_or said i d).answer ∷ [])
+    → new ≡ open_numbers 1 (map (λ (each : SaidAnswer). each.answer) (take (i + 1) said))
+open_step said i d old new within so_far is =
+    is ∙ ap (λ (front : List ℕ). front ++ open_numbers (i + 1) ((get_or said i d).answer ∷ [])) so_far ∙ open_more said i d within
 
 -- ---- what is known
 
