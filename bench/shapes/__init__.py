@@ -22,6 +22,8 @@ SHAPES = {
     "key-file": (files.key_file, 4_000),
     "statements": (files.statements, 250_000),
     "scattered": (files.scattered, 250_000),
+    "long-statements": (files.long_statements, 5_000),
+    "long-scattered": (files.long_scattered, 5_000),
     "questions": (files.questions, 25_000),
     "frames": (files.frames, 5_000_000),
     "zeros": (files.zeros, 2**24),
