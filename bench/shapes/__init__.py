@@ -21,7 +21,7 @@ SHAPES = {
     "alias-hashes": (denials.alias_hashes, 3),
     "key-file": (files.key_file, 4_000),
     "statements": (files.statements, 250_000),
-    "scattered": (files.scattered, 250_000),
+    "scattered": (files.scattered, 62_500),
     "long-statements": (files.long_statements, 5_000),
     "long-scattered": (files.long_scattered, 5_000),
     "questions": (files.questions, 25_000),
