@@ -24,10 +24,30 @@ def statements(lines: int) -> Shape:
     return Shape({**NOTHING, "statements": map(statement, range(lines))})
 
 
+def mixed(count: int) -> Iterable[int]:
+    """So many numbers in no order."""
+    # The factor is odd, so no two numbers become one.
+    return (number * 2_654_435_761 % 2**32 for number in range(count))
+
+
 def scattered(lines: int) -> Shape:
     """The same in no order."""
-    # The factor is odd, so no two numbers become one.
-    return Shape({**NOTHING, "statements": (statement(number * 2_654_435_761 % 2**32) for number in range(lines))})
+    return Shape({**NOTHING, "statements": map(statement, mixed(lines))})
+
+
+def long_statement(number: int) -> bytes:
+    """A line of 399 octets, as one on a signature by ECDSA P-256 over 66 octets."""
+    return b"good 13 %s %08x%s %s\n" % (b"5e" * 64, number, b"d5" * 62, b"19" * 64)
+
+
+def long_statements(lines: int) -> Shape:
+    """So many statements of a usual length, each greater than the one before."""
+    return Shape({**NOTHING, "statements": map(long_statement, range(lines))})
+
+
+def long_scattered(lines: int) -> Shape:
+    """The same in no order."""
+    return Shape({**NOTHING, "statements": map(long_statement, mixed(lines))})
 
 
 def frames(count: int) -> Shape:

@@ -29,6 +29,8 @@ SMALL = {
     "key-file": (10, "Indeterminate www.bench.example. 1"),
     "statements": (10, "Indeterminate www.bench.example. 1"),
     "scattered": (10, "Indeterminate www.bench.example. 1"),
+    "long-statements": (10, "Indeterminate www.bench.example. 1"),
+    "long-scattered": (10, "Indeterminate www.bench.example. 1"),
     "questions": (10, "Indeterminate n0000000.example. 1"),
     "frames": (1_000, "refused 201 message 1"),
     "zeros": (2**20, "refused 601 line 1"),

@@ -177,12 +177,13 @@ class Files(unittest.TestCase):
         lines = list(files.key_file(100).files["keys"])
         self.assertEqual((len(set(lines)), {len(line) for line in lines}), (100, {15}))
 
-    def test_statements_have_23_octets_and_differ(self):
-        rising, scattered = (list(make(1_000).files["statements"]) for make in (files.statements, files.scattered))
-        for lines in (rising, scattered):
-            self.assertEqual((len(set(lines)), {len(line) for line in lines}), (1_000, {23}))
-        self.assertEqual(rising, sorted(rising))
-        self.assertNotEqual(scattered, sorted(scattered))
+    def test_statements_have_23_or_399_octets_and_differ(self):
+        for octets, shapes in ((23, (files.statements, files.scattered)), (399, (files.long_statements, files.long_scattered))):
+            rising, scattered = (list(make(1_000).files["statements"]) for make in shapes)
+            for lines in (rising, scattered):
+                self.assertEqual((len(set(lines)), {len(line) for line in lines}), (1_000, {octets}))
+            self.assertEqual(rising, sorted(rising))
+            self.assertNotEqual(scattered, sorted(scattered))
 
     def test_questions_have_names_of_their_own(self):
         lines = b"".join(files.questions(100).files["questions"]).splitlines()
