@@ -5,7 +5,7 @@ use Rattle.std.proofs.lemmas.List.Elements.{Contains-append_right}
 use Rattle.std.specs.Prelude.{◌≢◌}
 use Rattle.std.specs.List.{AllByRecursion, Contains}
 use Rattle.dnsv_timeline.specs.declared.stretch.Stretch.{Stretch}
-use Rattle.dnsv_timeline.specs.Timeline.{AreSaid, AreWithoutGap, DiffersFrom, IsTimelineOf, NeighboursDiffer}
+use Rattle.dnsv_timeline.specs.Timeline.{AreSaid, AreWithoutGap, DiffersFrom, IsJust, IsTimelineOf, NeighboursDiffer}
 use Rattle.dnsv_timeline.proofs.OneTimeline.{gap_within}
 
 head_of : {X : Type 0} (x : X) (xs : List X) → Contains (x ∷ xs) x
@@ -17,7 +17,7 @@ BeginsAt {S} stretches moment what = (x : Stretch S) × Contains stretches x × 
 
 -- where what is said is another than one moment before, a stretch begins
 begins_where_new : {S : Type 0} (said : ℕ → S) (from behind : ℕ) (xs : List (Stretch S)) (moment : ℕ) → AreWithoutGap from behind xs
-    → AreSaid said xs → from ≤ moment → moment < behind → (moment ≡ from) ⊎ (said moment ≢ said (moment - 1))
+    → AreSaid (IsJust said) xs → from ≤ moment → moment < behind → (moment ≡ from) ⊎ (said moment ≢ said (moment - 1))
     → BeginsAt xs moment (said moment)
 begins_where_new said from behind [] moment gap each begun ends new = absurd (omega (arith, gap, begun, ends))
 begins_where_new {S} said from behind (x ∷ xs) moment gap each begun ends new =
@@ -53,7 +53,7 @@ module _ {S K : Type 0} (said : ℕ → S) (kind : S → K) (start last : ℕ) (
 
   -- those behind a moment at which another kind is said than their first one's
   rest_begin : (before : ℕ) (what : K) (kinds : List (Stretch K)) → kind (said before) ≡ what → start ≤ before
-      → AreWithoutGap (before + 1) (last + 1) kinds → AreSaid (λ moment. kind (said moment)) kinds → DiffersFrom what kinds
+      → AreWithoutGap (before + 1) (last + 1) kinds → AreSaid (IsJust (λ moment. kind (said moment))) kinds → DiffersFrom what kinds
       → AllByRecursion (Follows kind stretches) kinds
   rest_begin before what [] at begun gap each differ = tt
   rest_begin before what (y ∷ kinds) at begun gap each differ =
@@ -66,7 +66,7 @@ module _ {S K : Type 0} (said : ℕ → S) (kind : S → K) (start last : ℕ) (
         rest_begin y.to y.said kinds (each.0 y.to gap.1 (omega arith)) (omega (arith, begun, gap.0, gap.1)) gap.2 each.1 differ.1,
       )
 
-  first_begins : (kinds : List (Stretch K)) → AreWithoutGap start (last + 1) kinds → AreSaid (λ moment. kind (said moment)) kinds
+  first_begins : (kinds : List (Stretch K)) → AreWithoutGap start (last + 1) kinds → AreSaid (IsJust (λ moment. kind (said moment))) kinds
       → NeighboursDiffer kinds → AllByRecursion (Follows kind stretches) kinds
   first_begins [] gap each differ = tt
   first_begins (y ∷ kinds) gap each differ =

@@ -1,5 +1,6 @@
 pub mod CircleLemmas
 pub mod CoarserLemmas
+pub mod DateLemmas
 pub mod ExampleLemmas
 pub mod JoinLemmas
 pub mod LawLemmas
@@ -7,3 +8,4 @@ pub mod OneTimeline
 pub mod PointLemmas
 pub mod StretchLemmas
 pub mod WindowLemmas
+pub mod WithinLemmas

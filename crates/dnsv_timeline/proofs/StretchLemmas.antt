@@ -4,7 +4,7 @@ use Rattle.std.proofs.lemmas.Bool.{cases_lt}
 use Rattle.std.specs.Prelude.{◌≢◌}
 use Rattle.dnsv_timeline.specs.declared.stretch.Stretch.{Stretch}
 use Rattle.dnsv_timeline.specs.Joined.{up_to}
-use Rattle.dnsv_timeline.specs.Timeline.{AreSaid, AreWithoutGap, DiffersFrom, IsTimelineOf, NeighboursDiffer, Says}
+use Rattle.dnsv_timeline.specs.Timeline.{AreSaid, AreWithoutGap, DiffersFrom, IsTimelineBy, NeighboursDiffer, Says}
 
 -- ---- the last one
 
@@ -19,15 +19,15 @@ pub gap_join : {S : Type 0} (from behind : ℕ) (xs : List (Stretch S)) (x : Str
 gap_join from behind [] x front within end = (sym front, within, end)
 gap_join from behind (y ∷ ys) x front within end = (front.0, front.1, gap_join (y.to + 1) behind ys x front.2 within end)
 
-pub said_split : {S : Type 0} (said : ℕ → S) (xs : List (Stretch S)) (x : Stretch S) → AreSaid said (xs ++ x ∷ [])
-    → AreSaid said xs × Says said x
-said_split said [] x all = (tt, all.0)
-said_split said (y ∷ ys) x all = let rest = said_split said ys x all.1 in ((all.0, rest.0), rest.1)
+pub said_split : {S : Type 0} (Said : ℕ → S → Type 0) (xs : List (Stretch S)) (x : Stretch S) → AreSaid Said (xs ++ x ∷ [])
+    → AreSaid Said xs × Says Said x
+said_split Said [] x all = (tt, all.0)
+said_split Said (y ∷ ys) x all = let rest = said_split Said ys x all.1 in ((all.0, rest.0), rest.1)
 
-pub said_join : {S : Type 0} (said : ℕ → S) (xs : List (Stretch S)) (x : Stretch S) → AreSaid said xs → Says said x
-    → AreSaid said (xs ++ x ∷ [])
-said_join said [] x all last = (last, tt)
-said_join said (y ∷ ys) x all last = (all.0, said_join said ys x all.1 last)
+pub said_join : {S : Type 0} (Said : ℕ → S → Type 0) (xs : List (Stretch S)) (x : Stretch S) → AreSaid Said xs → Says Said x
+    → AreSaid Said (xs ++ x ∷ [])
+said_join Said [] x all last = (last, tt)
+said_join Said (y ∷ ys) x all last = (all.0, said_join Said ys x all.1 last)
 
 differs_last : {S : Type 0} (said : S) (xs : List (Stretch S)) (x y : Stretch S) → x.said ≡ y.said → DiffersFrom said (xs ++ x ∷ [])
     → DiffersFrom said (xs ++ y ∷ [])
@@ -52,43 +52,46 @@ neighbours_more (z ∷ zs) x y d other = differs_more z.said zs x y d other
 -- ---- what a timeline becomes
 
 -- the last stretch goes on
-pub goes_on : {S : Type 0} (said : ℕ → S) (from to : ℕ) (xs : List (Stretch S)) (last : Stretch S)
-    → IsTimelineOf said from last.to (xs ++ last ∷ []) → last.to ≤ to
-    → ((moment : ℕ) → last.to ≤ moment → moment ≤ to → said moment ≡ said last.to)
-    → IsTimelineOf said from to (xs ++ up_to last to ∷ [])
-goes_on said from to xs last timeline further steady =
+pub goes_on : {S : Type 0} (Said : ℕ → S → Type 0) (from to : ℕ) (xs : List (Stretch S)) (last : Stretch S)
+    → IsTimelineBy Said from last.to (xs ++ last ∷ []) → last.to ≤ to
+    → ((moment : ℕ) → last.to ≤ moment → moment ≤ to → Said moment last.said)
+    → IsTimelineBy Said from to (xs ++ up_to last to ∷ [])
+goes_on Said from to xs last timeline further steady =
     let gap = gap_split from (last.to + 1) xs last timeline.without_gap in
-    let each = said_split said xs last timeline.each in
-    let now : said last.to ≡ last.said = each.1 last.to gap.1 (omega arith) in
+    let each = said_split Said xs last timeline.each in
     let within : last.from ≤ to = omega (arith, gap.1, further) in
-    let says : Says said (up_to last to) = λ moment begins ends.
+    let says : Says Said (up_to last to) = λ moment begins ends.
     ⊎_elim (λ (before : moment < last.to). each.1 moment begins (omega (arith, before)))
-    (λ (behind : last.to ≤ moment). steady moment behind ends ∙ now)
+    (λ (behind : last.to ≤ moment). steady moment behind ends)
     (cases_lt moment last.to) in
     record {
       without_gap = gap_join from (to + 1) xs (up_to last to) gap.0 within refl;
-      each = said_join said xs (up_to last to) each.0 says;
+      each = said_join Said xs (up_to last to) each.0 says;
       differ = neighbours_last xs last (up_to last to) refl timeline.differ;
     }
 
 -- another one begins
-pub begins_anew : {S : Type 0} (said : ℕ → S) (from before : ℕ) (xs : List (Stretch S)) (last new : Stretch S)
-    → IsTimelineOf said from before (xs ++ last ∷ []) → new.from ≡ before + 1 → new.to ≡ before + 1 → new.said ≡ said (before + 1)
-    → last.said ≢ new.said → IsTimelineOf said from (before + 1) ((xs ++ last ∷ []) ++ new ∷ [])
-begins_anew said from before xs last new timeline begins ends is other = record {
+pub begins_anew : {S : Type 0} (Said : ℕ → S → Type 0) (from before : ℕ) (xs : List (Stretch S)) (last new : Stretch S)
+    → IsTimelineBy Said from before (xs ++ last ∷ []) → new.from ≡ before + 1 → new.to ≡ before + 1 → Said (before + 1) new.said
+    → last.said ≢ new.said → IsTimelineBy Said from (before + 1) ((xs ++ last ∷ []) ++ new ∷ [])
+begins_anew Said from before xs last new timeline begins ends is other = record {
   without_gap = gap_join from (before + 1 + 1) (xs ++ last ∷ []) new
       (subst (λ (m : ℕ). AreWithoutGap from m (xs ++ last ∷ [])) (sym begins) timeline.without_gap)
       (omega (arith, begins, ends)) (ap (λ (m : ℕ). m + 1) ends);
-  each = said_join said (xs ++ last ∷ []) new timeline.each
-      (λ moment start end. let at : moment ≡ before + 1 = omega (arith, start, end, begins, ends) in ap said at ∙ sym is);
+  each = said_join Said (xs ++ last ∷ []) new timeline.each
+      (λ moment start end. let at : before + 1 ≡ moment = omega (arith, start, end, begins, ends) in
+      subst (λ (m : ℕ). Said m new.said) at is);
   differ = neighbours_more xs last new timeline.differ other;
 }
 
 -- the first moment alone
-pub one_moment : {S : Type 0} (said : ℕ → S) (from : ℕ) (only : Stretch S) → only.from ≡ from → only.to ≡ from → only.said ≡ said from
-    → IsTimelineOf said from from (only ∷ [])
-one_moment said from only begins ends is = record {
+pub one_moment : {S : Type 0} (Said : ℕ → S → Type 0) (from : ℕ) (only : Stretch S) → only.from ≡ from → only.to ≡ from → Said from only.said
+    → IsTimelineBy Said from from (only ∷ [])
+one_moment Said from only begins ends is = record {
   without_gap = (begins, omega (arith, begins, ends), ap (λ (m : ℕ). m + 1) ends);
-  each = ((λ moment start end. let at : moment ≡ from = omega (arith, start, end, begins, ends) in ap said at ∙ sym is), tt);
+  each = (
+    (λ moment start end. let at : from ≡ moment = omega (arith, start, end, begins, ends) in subst (λ (m : ℕ). Said m only.said) at is),
+    tt,
+  );
   differ = tt;
 }

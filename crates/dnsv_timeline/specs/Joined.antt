@@ -4,10 +4,11 @@ use Rattle.std.specs.List.Sorted.{IsStrictlyIncreasing}
 use Rattle.dnsv_timeline.specs.declared.stretch.Stretch.{Stretch}
 
 -- what is said changes at the points alone, which rise within the range, its first moment left out
-pub record IsSteady {S : Type 0} (said : ℕ → S) (from to : ℕ) (points : List ℕ) : Type 0 where
+pub record IsSteady {S : Type 0} (Said : ℕ → S → Type 0) (from to : ℕ) (points : List ℕ) : Type 0 where
   pub rising : IsStrictlyIncreasing points
   pub within : (point : ℕ) → Contains points point → (from < point) × (point ≤ to)
-  pub steady : (moment : ℕ) → from < moment → moment ≤ to → ¬ Contains points moment → said moment ≡ said (moment - 1)
+  pub steady : (moment : ℕ) → from < moment → moment ≤ to → ¬ Contains points moment → (said : S)
+      → Said (moment - 1) said → Said moment said
 
 -- the stretch up to that moment
 abbrev pub up_to : {S : Type 0} → Stretch S → ℕ → Stretch S

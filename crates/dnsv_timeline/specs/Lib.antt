@@ -1,4 +1,5 @@
 pub mod Borders
+pub mod Dates
 pub mod Examples
 pub mod Joined
 pub mod Points

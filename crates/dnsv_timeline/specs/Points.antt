@@ -8,6 +8,13 @@ use Rattle.dnsv_timeline.specs.declared.times.Times.{Times}
 abbrev pub IsValidAt : Times → ℕ → Type 0
 IsValidAt times moment = ValidAt times.inception.0 times.expiration.0 moment
 
+-- it is valid at some moment of the range
+pub record IsValidWithin (times : Times) (from to : ℕ) : Type 0 where
+  pub moment : ℕ
+  pub begins : from ≤ moment
+  pub ends : moment ≤ to
+  pub valid : IsValidAt times moment
+
 -- it is valid at the moment, and wasn't one second before
 abbrev pub Begins : Times → ℕ → Type 0
 Begins times moment = (¬ IsValidAt times (moment - 1)) × IsValidAt times moment

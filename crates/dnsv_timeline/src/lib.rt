@@ -5,6 +5,7 @@
 #![tactic(auto)]
 
 pub use borders::{Border, DatedSignature, Edge, borders_between};
+pub use dates::times_of_all;
 pub use judge::Judge;
 pub use laws::{
     kinds_begin_where_stretches_do, nothing_changes_between_points, points_of_worked_examples,
@@ -15,8 +16,10 @@ pub use range::Range;
 pub use stretch::Stretch;
 pub use timeline::timeline_of;
 pub use times::Times;
+pub use within::is_valid_within;
 
 mod borders;
+mod dates;
 mod judge;
 mod laws;
 mod points;
@@ -24,3 +27,4 @@ mod range;
 mod stretch;
 mod timeline;
 mod times;
+mod within;

@@ -62,17 +62,17 @@ fn push_behind(moments: &mut Vec<u64>, range: Range, seconds: u32) -> Result<(),
 
 /// When a signature is valid, in seconds behind its inception.
 #[derive(Clone, Copy)]
-struct Window {
+pub(crate) struct Window {
     /// The first of them.
-    start: u32,
+    pub(crate) start: u32,
     /// The first behind them.
-    end: u32,
+    pub(crate) end: u32,
 }
 
 /// When the signature is valid; `None` where it never is. One that ends half of the circle behind its inception or
 /// further is valid at moments that are less than half of it behind the inception, and less than half before the
 /// expiration.
-fn window_of(times: Times) -> Option<Window>
+pub(crate) fn window_of(times: Times) -> Option<Window>
     ensures { MatchOption result ((moment : ℕ) → ¬ IsValidAt times moment)
         (λ window. IsWindow times window.start window.end) }
 {
@@ -93,7 +93,7 @@ fn window_of(times: Times) -> Option<Window>
 }
 
 /// How many seconds the moment is behind the time, around the circle.
-fn seconds_since(time: u32, moment: u64) -> u32
+pub(crate) fn seconds_since(time: u32, moment: u64) -> u32
     ensures { result ≡ seconds_on time moment }
 {
     let now = (moment % (1 << 32)) as u32;

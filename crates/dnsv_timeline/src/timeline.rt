@@ -2,7 +2,7 @@
 ghost use Rattle.std.specs.Prelude.{◌≡◌, ◌<◌, ◌≤◌, ℕ, IfOk};
 ghost use Rattle.dnsv_timeline.specs.Joined.{Goes, IsSteady};
 ghost use Rattle.dnsv_timeline.specs.Points.{ArePoints};
-ghost use Rattle.dnsv_timeline.specs.Timeline.{DependsOn, IsTimelineOf};
+ghost use Rattle.dnsv_timeline.specs.Timeline.{DependsOn, IsTimelineBy};
 
 use crate::judge::Judge;
 use crate::points::points_of_change;
@@ -20,7 +20,7 @@ pub fn timeline_of<S: Drop, J: Judge<S>>(
     judge: &J,
 ) -> Result<Vec<Stretch<S>>, AllocError>
     requires { DependsOn (J.says judge.now) signatures.now }
-    ensures { IfOk result (λ stretches. IsTimelineOf (J.says judge.now) range.from range.to stretches.items) }
+    ensures { IfOk result (λ stretches. IsTimelineBy (J.says judge.now) range.from range.to stretches.items) }
 {
     let points = points_of_change(alloc, range, signatures)?;
     joined(alloc, range, &points, judge)
@@ -34,7 +34,7 @@ fn joined<S: Drop, J: Judge<S>>(
     judge: &J,
 ) -> Result<Vec<Stretch<S>>, AllocError>
     requires { IsSteady (J.says judge.now) range.from range.to points.now }
-    ensures { IfOk result (λ stretches. IsTimelineOf (J.says judge.now) range.from range.to stretches.items) }
+    ensures { IfOk result (λ stretches. IsTimelineBy (J.says judge.now) range.from range.to stretches.items) }
 {
     let mut stretches = Vec::new(alloc);
     let from = range.from();

@@ -1,1 +1,5 @@
+pub mod DerivationLemmas
 pub mod MomentLemmas
+pub mod SaidLemmas
+pub mod ToldLemmas
+pub mod WithinLemmas

@@ -27,15 +27,15 @@ use Rattle.dnsv_timeline_laws.specs.SameValid.{AreSignaturesSameValid, HaveTimes
 -- ---- what is good and trusted
 
 -- what has a number is a member
-numbered_among : {X : Type 0} (xs : List X) (k : ℕ) (x : X) → IsNumbered xs k x → Contains xs x
+pub numbered_among : {X : Type 0} (xs : List X) (k : ℕ) (x : X) → IsNumbered xs k x → Contains xs x
 numbered_among xs k x is = (k - 1, slice_get_within xs (k - 1) x is.1, get_or_from_slice_get xs (k - 1) x x is.1)
 
 -- the signatures that are valid at the moment are valid at the other
-abbrev StayValid : List ReceivedRrset → ℕ → ℕ → Type 0
+abbrev pub StayValid : List ReceivedRrset → ℕ → ℕ → Type 0
 StayValid rrsets moment other = (rrset : ReceivedRrset) (rrsig : Rrsig) → Contains rrsets rrset → IsSignatureOf rrset rrsig
     → ValidAt rrsig.inception.0 rrsig.expiration.0 moment → ValidAt rrsig.inception.0 rrsig.expiration.0 other
 
-admissible_at : (moment other : ℕ) (rrset : ReceivedRrset) (rrsig : Rrsig) (key : DnskeyRecord)
+pub admissible_at : (moment other : ℕ) (rrset : ReceivedRrset) (rrsig : Rrsig) (key : DnskeyRecord)
     → (ValidAt rrsig.inception.0 rrsig.expiration.0 moment → ValidAt rrsig.inception.0 rrsig.expiration.0 other)
     → IsAdmissible moment rrset rrsig key → IsAdmissible other rrset rrsig key
 admissible_at moment other rrset rrsig key stays is = record {
@@ -47,7 +47,7 @@ admissible_at moment other rrset rrsig key stays is = record {
   named = is.named;
 }
 
-good_at : (meaning : Entry → Answer) (moment other : ℕ) (rrset : ReceivedRrset) (rrsig : Rrsig) (key : DnskeyRecord)
+abbrev pub good_at : (meaning : Entry → Answer) (moment other : ℕ) (rrset : ReceivedRrset) (rrsig : Rrsig) (key : DnskeyRecord)
     → (ValidAt rrsig.inception.0 rrsig.expiration.0 moment → ValidAt rrsig.inception.0 rrsig.expiration.0 other)
     → IsGood meaning moment rrset rrsig key → IsGood meaning other rrset rrsig key
 good_at meaning moment other rrset rrsig key stays good = record {
@@ -71,7 +71,7 @@ module _ (meaning : Entry → Answer) (moment other : ℕ) (rrsets : List Receiv
       → SignsItsSet meaning other set key
   signs_at set key among signs = record { stands = signs.stands; signed = signed_at set key among signs.signed }
 
-  trusted_at : {set : ReceivedRrset} → IsTrusted meaning moment rrsets anchors set → IsTrusted meaning other rrsets anchors set
+  pub trusted_at : {set : ReceivedRrset} → IsTrusted meaning moment rrsets anchors set → IsTrusted meaning other rrsets anchors set
   trusted_at (anchored {set = set} {key = key} among signs matching) = anchored among (signs_at set key among signs) matching
   trusted_at (delegated {ds = ds} {set = set} {above = above} {key = key} trusted stands among signed delegates set_among signs) =
       delegated (trusted_at trusted) stands among (signed_at ds above among signed) delegates set_among (signs_at set key set_among signs)
@@ -146,7 +146,7 @@ module _ (basis : Basis) (other : ℕ) (same : AreSignaturesSameValid basis.rrse
       (IsSecured (λ entry. hoped_answer (basis.meaning entry)) basis.moment basis.rrsets basis.anchors)
       (secured_from (λ entry. hoped_answer (basis.meaning entry))) basis.rrsets basis.rrsets (λ k rrset is. is) name t
 
-  settled_as : (name : Labels) (t : ℕ) (verdict : Verdict) → IsSettledAsBy basis name t verdict
+  pub settled_as : (name : Labels) (t : ℕ) (verdict : Verdict) → IsSettledAsBy basis name t verdict
       → IsSettledAsBy (at_moment basis other) name t verdict
   settled_as name t verdict = settled_as_to (IsSecured basis.meaning basis.moment basis.rrsets basis.anchors)
       (IsSecured basis.meaning other basis.rrsets basis.anchors) (secured_to basis.meaning) (secured_from basis.meaning) basis.rrsets name t verdict
@@ -181,7 +181,7 @@ module _ (basis : Basis) (other : ℕ) (same : AreSignaturesSameValid basis.rrse
   lead_to t name (link ∷ links) last leads =
       ((leads.0.0, verdict_to name t (SecureAlias link.rrset link.signature) leads.0.1), leads.1, leads.2, leads.3, lead_to t leads.1 links last leads.4)
 
-  way_to : (t : ℕ) (name : Labels) (links : List Link) (last : Labels) → IsWay basis t name links last → IsWay (at_moment basis other) t name links last
+  pub way_to : (t : ℕ) (name : Labels) (links : List Link) (last : Labels) → IsWay basis t name links last → IsWay (at_moment basis other) t name links last
   way_to t name links last way = record { leads = lead_to t name links last way.leads; apart = way.apart; few = way.few }
 
   pub verdict_of_to : (name : Labels) (t : ℕ) (links : List Link) (last : Labels) (verdict : Verdict) → IsVerdictOf basis name t links last verdict
@@ -192,7 +192,7 @@ module _ (basis : Basis) (other : ℕ) (same : AreSignaturesSameValid basis.rrse
     no_alias = is.no_alias;
   }
 
-  refused_to : (name : Labels) (t : ℕ) (error : VerdictError) → IsRefusedFor basis name t error → IsRefusedFor (at_moment basis other) name t error
+  abbrev pub refused_to : (name : Labels) (t : ℕ) (error : VerdictError) → IsRefusedFor basis name t error → IsRefusedFor (at_moment basis other) name t error
   refused_to name t error is = record {
     links = is.links;
     last = is.last;

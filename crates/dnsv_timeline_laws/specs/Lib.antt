@@ -1,1 +1,4 @@
+pub mod Derived
+pub mod Said
 pub mod SameValid
+pub mod Within

@@ -1,18 +1,27 @@
 //! Laws of moments.
 //!
 //! Each is a function that does nothing and ensures the law, which its caller learns.
-ghost use Rattle.std.specs.Prelude.{ℕ, List};
+ghost use Rattle.std.specs.Prelude.{◌≡◌, ◌↔◌, ◌≤◌, ℕ, List};
 ghost use Rattle.dnsv_canonical.specs.Rrsets.{ReceivedRrset};
 ghost use Rattle.dnsv_names.specs.Name.{Labels};
-ghost use Rattle.dnsv_timeline.specs.Timeline.{AreSameValid};
+ghost use Rattle.dnsv_timeline.specs.Dates.{AreTimesOf};
+ghost use Rattle.dnsv_timeline.specs.Timeline.{AreSameValid, DependsOn, IsTimelineBy};
+ghost use Rattle.dnsv_timeline.specs.declared.stretch.Stretch.{Stretch};
 ghost use Rattle.dnsv_timeline.specs.declared.times.Times.{Times};
+ghost use Rattle.dnsv_lines.specs.declared.line.Line.{Line};
+ghost use Rattle.dnsv_timeline_laws.specs.Derived.{AreLinksDerived, IsDerivationOf};
+ghost use Rattle.dnsv_timeline_laws.specs.Said.{IsKindAt, IsSaid, IsSaidAt, Said, Told};
 ghost use Rattle.dnsv_timeline_laws.specs.SameValid.{AreSignaturesSameValid, HaveTimes, at_moment};
+ghost use Rattle.dnsv_timeline_laws.specs.Within.{IsAskedWithin, IsTableWithin};
 ghost use Rattle.dnsv_verdict.specs.Verdict.{Basis, IsVerdictAt};
 ghost use Rattle.dnsv_verdict.specs.Way.{IsRefusal, IsVerdictOf};
 ghost use Rattle.dnsv_verdict.specs.declared.error.VerdictError.{VerdictError};
 ghost use Rattle.dnsv_verdict.specs.declared.link.Link.{Link};
+ghost use Rattle.dnsv_verifier.specs.declared.answer.Answer.{Answer};
+ghost use Rattle.dnsv_verifier.specs.declared.entry.Entry.{Entry};
+ghost use Rattle.dnsv_verifier.specs.Table.{IsTableOf, TableContents, table_answer};
 
-use dnsv_verdict::Verdict;
+use dnsv_verdict::{Verdict, a_question_leads_one_way};
 
 /// Where the same signatures of the evidence are valid at two moments (RFC 4034 3.1.5), the same is said: the verdict at
 /// a name, the verdict on a question with the way that leads to it, and what a question is refused for.
@@ -30,10 +39,59 @@ pub fn the_same_signatures_give_the_same_verdict()
         → IsRefusal basis name t error → IsRefusal (at_moment basis other) name t error }
 {}
 
+/// And the same is derived: the lines of an explanation that derive the links of the way and the verdict, or what is hoped
+/// of it. So the same signatures are shown.
+pub fn the_same_signatures_derive_the_same()
+    ensures links { (basis : Basis) (other : ℕ) (links : List Link) (lines : List Line)
+        → AreSignaturesSameValid basis.rrsets basis.moment other
+        → AreLinksDerived basis links lines → AreLinksDerived (at_moment basis other) links lines }
+    ensures verdict { (basis : Basis) (other : ℕ) (t : ℕ) (links : List Link) (last : Labels) (verdict : Verdict)
+        (lines : List Line)
+        → AreSignaturesSameValid basis.rrsets basis.moment other
+        → IsDerivationOf basis t links last verdict lines
+        → IsDerivationOf (at_moment basis other) t links last verdict lines }
+{}
+
 /// Where a timeline has the times of each signature of the evidence, moments at which the same times are valid are
 /// moments at which the same signatures are.
 pub fn the_times_of_all_signatures_tell()
-    ensures { (rrsets : List ReceivedRrset) (signatures : List Times) (moment other : ℕ)
+    // `times_of_all` gives such a list.
+    ensures have { (rrsets : List ReceivedRrset) (signatures : List Times)
+        → AreTimesOf rrsets signatures → HaveTimes rrsets signatures }
+    ensures same { (rrsets : List ReceivedRrset) (signatures : List Times) (moment other : ℕ)
         → HaveTimes rrsets signatures → AreSameValid signatures moment other
         → AreSignaturesSameValid rrsets moment other }
+{}
+
+/// What is said of a question at a moment, which is what `check` tells of it with the signatures that derive it, depends
+/// on the moment through the validity of the evidence's signatures alone; so does its kind. So both have timelines.
+pub fn what_is_said_depends_on_signatures()
+    ensures said { (basis : Basis) (name : Labels) (t : ℕ) (signatures : List Times)
+        → HaveTimes basis.rrsets signatures → DependsOn (IsSaidAt basis name t) signatures }
+    ensures kinds { (basis : Basis) (name : Labels) (t : ℕ) (signatures : List Times)
+        → HaveTimes basis.rrsets signatures → DependsOn (IsKindAt basis name t) signatures }
+{}
+
+/// At a moment one thing is told of a question, whichever signatures derive it; and of kinds alone it has at most one
+/// timeline.
+pub fn one_thing_is_told_of_a_question()
+    ensures told { (basis : Basis) (name : Labels) (t : ℕ) (said other : Said)
+        → IsSaid basis name t said → IsSaid basis name t other → said.told ≡ other.told }
+    ensures kinds { (basis : Basis) (name : Labels) (t from to : ℕ) (kinds others : List (Stretch Told))
+        → IsTimelineBy (IsKindAt basis name t) from to kinds → IsTimelineBy (IsKindAt basis name t) from to others
+        → kinds ≡ others }
+{
+    a_question_leads_one_way();
+}
+
+/// A table of what a verifier says of each entry that may be verified at some moment of a range serves in the verifier's
+/// place at each moment of it: so the verifier is asked of each entry once, however many moments are judged.
+pub fn a_table_for_a_range_serves_each_moment()
+    ensures answer { (meaning : Entry → Answer) (from to : ℕ) (rrsets : List ReceivedRrset) (within : TableContents)
+        → IsTableWithin meaning from to rrsets within
+        → (entry : Entry) → IsAskedWithin from to rrsets entry → table_answer within entry ≡ meaning entry }
+    ensures table { (meaning : Entry → Answer) (from to : ℕ) (rrsets : List ReceivedRrset) (within : TableContents)
+        (moment : ℕ) (contents : TableContents)
+        → IsTableWithin meaning from to rrsets within → from ≤ moment → moment ≤ to
+        → (IsTableOf (table_answer within) moment rrsets contents ↔ IsTableOf meaning moment rrsets contents) }
 {}

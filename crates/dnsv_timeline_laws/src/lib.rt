@@ -1,6 +1,11 @@
-//! Laws of what timelines rest on: a verdict depends on the moment through the validity of signatures alone.
+//! Laws of what timelines rest on: a verdict, and what an explanation derives of it, depend on the moment through the
+//! validity of signatures alone.
 #![tactic(auto)]
 
-pub use laws::{the_same_signatures_give_the_same_verdict, the_times_of_all_signatures_tell};
+pub use laws::{
+    a_table_for_a_range_serves_each_moment, one_thing_is_told_of_a_question,
+    the_same_signatures_derive_the_same, the_same_signatures_give_the_same_verdict,
+    the_times_of_all_signatures_tell, what_is_said_depends_on_signatures,
+};
 
 mod laws;

@@ -1,0 +1,7 @@
+use Rattle.std.proofs.Common.{take}
+use Rattle.dnsv_timeline.proofs.DateLemmas.{AddsRead}
+use Rattle.dnsv_timeline.proofs.dates.push_times.Given as goal
+
+-- those of the signatures so far
+abbrev pub invariant-loop-rrsig : goal.invariant-loop-rrsig
+invariant-loop-rrsig l = AddsRead (take l.rrsig-index l.rrsig-items) l.initial.all.items l.all.items

@@ -1,0 +1,7 @@
+use Rattle.std.proofs.Common.{take}
+use Rattle.dnsv_timeline.specs.Dates.{AreTimesOf}
+use Rattle.dnsv_timeline.proofs.dates.times_of_all.Given as goal
+
+-- those of the RRsets so far
+abbrev pub invariant-loop-rrset : goal.invariant-loop-rrset
+invariant-loop-rrset l = AreTimesOf (take l.rrset-index l.rrset-items) l.all.items

@@ -1,0 +1,107 @@
+-- What is said of a question depends on the moment through the validity of signatures alone.
+use Rattle.std.proofs.Common.{◌≡◌, ◌∙◌, ℕ, List, [], ◌∷◌, ◌++◌, refl, sym, ap}
+use Rattle.dnsv_names.specs.Name.{Labels}
+use Rattle.dnsv_canonical.specs.Rrsets.{ReceivedRrset}
+use Rattle.dnsv_verdict.specs.Verdict.{Basis}
+use Rattle.dnsv_verdict.specs.Way.{IsRefusedFor, IsVerdictOf}
+use Rattle.dnsv_verdict.specs.declared.error.VerdictError.{VerdictError}
+use Rattle.dnsv_verdict.specs.declared.link.Link.{Link}
+use Rattle.dnsv_verdict.specs.declared.verdict.Verdict.{Verdict}
+use Rattle.dnsv_timeline.specs.Dates.{AreTimesOf, times_of}
+use Rattle.dnsv_timeline.proofs.OneTimeline.{one_by}
+use Rattle.dnsv_timeline.specs.Timeline.{AreSameValid, DependsOn, IsTimelineBy}
+use Rattle.dnsv_timeline.specs.declared.stretch.Stretch.{Stretch}
+use Rattle.dnsv_timeline.specs.declared.times.Times.{Times}
+use Rattle.dnsv_timeline_laws.proofs.MomentLemmas.{refused_to, same_by_times, verdict_of_to}
+use Rattle.dnsv_timeline_laws.proofs.ToldLemmas.{derivation_of, links_derived}
+use Rattle.dnsv_timeline_laws.specs.Said.{IsKindAt, IsRefusalSaid, IsSaid, IsSaidAt, IsVerdictSaid, Said, Told, alias_of, kind_of, told_verdict}
+use Rattle.dnsv_timeline_laws.specs.Said.IsSaid.{a_refusal, a_verdict}
+use Rattle.dnsv_timeline_laws.specs.Said.Told.{as_refusal}
+use Rattle.dnsv_timeline_laws.specs.SameValid.{AreSignaturesSameValid, HaveTimes, at_moment}
+
+module _ (basis : Basis) (other : ℕ) (same : AreSignaturesSameValid basis.rrsets basis.moment other) (name : Labels) (t : ℕ) where
+  verdict_said : (said : Said) → IsVerdictSaid basis name t said → IsVerdictSaid (at_moment basis other) name t said
+  verdict_said said is = record {
+    links = is.links;
+    last = is.last;
+    verdict = is.verdict;
+    is = verdict_of_to basis other same name t is.links is.last is.verdict is.is;
+    told = is.told;
+    lines = is.lines;
+    derived = derivation_of basis other same t is.links is.last is.verdict is.lines is.derived;
+    by = is.by;
+  }
+
+  refusal_said : (said : Said) → IsRefusalSaid basis name t said → IsRefusalSaid (at_moment basis other) name t said
+  refusal_said said is = record {
+    error = is.error;
+    is = refused_to basis other same name t is.error is.is;
+    told = is.told;
+    lines = is.lines;
+    derived = links_derived basis other same (is.is.links ++ alias_of is.is.last is.is.k is.is.s ∷ []) is.lines is.derived;
+    by = is.by;
+  }
+
+  pub said_too : (said : Said) → IsSaid basis name t said → IsSaid (at_moment basis other) name t said
+  said_too said (a_verdict is) = a_verdict (verdict_said said is)
+  said_too said (a_refusal is) = a_refusal (refusal_said said is)
+
+-- ---- by the times of a timeline
+
+-- a list of the times of all signatures has those of each
+pub all_have : (rrsets : List ReceivedRrset) (signatures : List Times) → AreTimesOf rrsets signatures → HaveTimes rrsets signatures
+all_have rrsets signatures are rrset rrsig among its =
+    (are (times_of rrsig)).1 (rrset, among, (rrsig, its.0, its.1, its.2, refl))
+
+pub said_depends : (basis : Basis) (name : Labels) (t : ℕ) (signatures : List Times) → HaveTimes basis.rrsets signatures
+    → DependsOn (IsSaidAt basis name t) signatures
+said_depends basis name t signatures have moment other said same =
+    said_too (at_moment basis moment) other (same_by_times basis.rrsets signatures moment other have same) name t said
+
+pub kind_depends : (basis : Basis) (name : Labels) (t : ℕ) (signatures : List Times) → HaveTimes basis.rrsets signatures
+    → DependsOn (IsKindAt basis name t) signatures
+kind_depends basis name t signatures have moment other kind same is = record {
+  said = is.said;
+  is = said_depends basis name t signatures have moment other is.said same is.is;
+  kind_is = is.kind_is;
+}
+
+-- ---- one thing is told
+
+-- a question has one way to one verdict
+abbrev pub HasOneVerdict : Type 0
+HasOneVerdict = (basis : Basis) (name : Labels) (t : ℕ) (links others : List Link) (last end : Labels) (a b : Verdict)
+    → IsVerdictOf basis name t links last a → IsVerdictOf basis name t others end b → (links ≡ others) × (last ≡ end) × (a ≡ b)
+
+-- or is refused for one reason
+abbrev pub HasOneRefusal : Type 0
+HasOneRefusal = (basis : Basis) (name : Labels) (t : ℕ) (a b : VerdictError) → IsRefusedFor basis name t a → IsRefusedFor basis name t b → a ≡ b
+
+-- and never both
+abbrev pub HasNotBoth : Type 0
+HasNotBoth = (basis : Basis) (name : Labels) (t : ℕ) (links : List Link) (last : Labels) (verdict : Verdict) (error : VerdictError)
+    → IsVerdictOf basis name t links last verdict → ¬ IsRefusedFor basis name t error
+
+module _ (one_verdict : HasOneVerdict) (one_refusal : HasOneRefusal) (not_both : HasNotBoth) (name : Labels) (t : ℕ) where
+  pub one_told : (basis : Basis) (said other : Said) → IsSaid basis name t said → IsSaid basis name t other → said.told ≡ other.told
+  one_told basis said other (a_verdict p) (a_verdict q) =
+      let same = one_verdict basis name t p.links q.links p.last q.last p.verdict q.verdict p.is q.is in
+      let verdicts : told_verdict basis.rrsets p.links p.verdict ≡ told_verdict basis.rrsets q.links q.verdict =
+      λ i. told_verdict basis.rrsets (same.0 i) (same.2 i) in
+      p.told ∙ verdicts ∙ sym q.told
+  one_told basis said other (a_verdict p) (a_refusal q) =
+      absurd (not_both basis name t p.links p.last p.verdict q.error p.is q.is)
+  one_told basis said other (a_refusal p) (a_verdict q) =
+      absurd (not_both basis name t q.links q.last q.verdict p.error q.is p.is)
+  one_told basis said other (a_refusal p) (a_refusal q) =
+      p.told ∙ ap (λ (error : VerdictError). as_refusal error) (one_refusal basis name t p.error q.error p.is q.is) ∙ sym q.told
+
+  one_kind : (basis : Basis) (moment : ℕ) (kind other : Told) → IsKindAt basis name t moment kind → IsKindAt basis name t moment other
+      → kind ≡ other
+  one_kind basis moment kind other p q =
+      p.kind_is ∙ ap (λ (told : Told). kind_of told) (one_told (at_moment basis moment) p.said q.said p.is q.is) ∙ sym q.kind_is
+
+  pub one_of_kinds : (basis : Basis) (from to : ℕ) (kinds others : List (Stretch Told)) → IsTimelineBy (IsKindAt basis name t) from to kinds
+      → IsTimelineBy (IsKindAt basis name t) from to others → kinds ≡ others
+  one_of_kinds basis from to kinds others =
+      one_by (IsKindAt basis name t) (one_kind basis) from to kinds others
