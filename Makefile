@@ -1,7 +1,8 @@
 # `all`, `try`, `test` and `wrong-bodies` need the kit's command `rt` on the path, and `test` the packages of `packages`
 # besides; `demo`, `examples`, `faults`, `pages`, `install` and `deb` take the program that is built, and build it where there
 # is none. `check` builds nothing.
-.PHONY: all try test check packages lint demo examples faults wrong-bodies test-tools pages pictures install deb
+.PHONY: all try test check packages lint demo examples faults wrong-bodies test-tools pages pictures install deb library \
+	install-library
 
 program = crates/dnssec_check/out/dnssec_check
 rows = crates/dnsv_rows/out/dnsv_rows
@@ -116,7 +117,48 @@ install: | $(program)
 		ln -sf dnssec_check.fish $(of_fish)/dnssec_check-$$tool.fish; \
 	done
 
-# The same as a Debian package, out/dnssec-check_VERSION_amd64.deb; needs the packages debhelper, dh-python and dpkg-dev.
+# The library for C, as an archive and a shared library, into out/library; docs/LIBRARY.md says how it is used. What it does is
+# proved and built by the kit; what of it C sees, and nothing else, is library/calls.c.
+calls = crates/dnssec_check_c/out/libdnssec_check_c.a
+kit = $(dir $(shell rt doc))
+version = $(shell sed -n 's/^VERSION = "\(.*\)"$$/\1/p' tools/$(package)/command.py)
+made = out/library
+library: $(made)/libdnssec_check.a $(made)/libdnssec_check.so.1 $(made)/dnssec_check.pc
+
+$(calls):
+	cd crates/dnssec_check_c && rt lib
+
+# One object, in which only the calls of the header are seen.
+$(made)/dnssec_check.o: library/calls.c library/dnssec_check.h library/symbols $(calls)
+	install -d $(made)
+	$(CC) -std=c99 -O2 -fPIC -Wall -Wextra -Werror -DDNSSEC_CHECK_VERSION='"$(version)"' -c library/calls.c -o $(made)/calls.o
+	$(LD) -r -o $@ $(made)/calls.o --whole-archive $(calls) --no-whole-archive $(kit)c/liblibc_c.a
+	objcopy --keep-global-symbols=library/symbols $@
+
+$(made)/libdnssec_check.a: $(made)/dnssec_check.o
+	rm -f $@
+	$(AR) rcs $@ $<
+
+$(made)/libdnssec_check.so.1: $(made)/dnssec_check.o
+	$(CC) -shared -Wl,-soname,$(notdir $@) -Wl,--gc-sections -Wl,-z,defs -Wl,-z,relro,-z,now -o $@ $<
+	ln -sf $(notdir $@) $(made)/libdnssec_check.so
+
+$(made)/dnssec_check.pc: library/dnssec_check.pc.in
+	install -d $(made)
+	sed 's|@PREFIX@|$(PREFIX)|; s|@VERSION@|$(version)|' $< > $@
+
+# Where Python finds modules below PREFIX, which is another folder for Debian's packages.
+of_python = $(DESTDIR)$(PREFIX)/lib/python3/dist-packages
+install-library: library
+	install -D -m 644 $(made)/libdnssec_check.a $(DESTDIR)$(PREFIX)/lib/libdnssec_check.a
+	install -m 644 $(made)/libdnssec_check.so.1 $(DESTDIR)$(PREFIX)/lib
+	ln -sf libdnssec_check.so.1 $(DESTDIR)$(PREFIX)/lib/libdnssec_check.so
+	install -D -m 644 $(made)/dnssec_check.pc $(DESTDIR)$(PREFIX)/lib/pkgconfig/dnssec_check.pc
+	install -D -m 644 library/dnssec_check.h $(DESTDIR)$(PREFIX)/include/dnssec_check.h
+	install -d $(of_python)/dnssec_check
+	install -m 644 library/python/dnssec_check/*.py library/python/dnssec_check/py.typed $(of_python)/dnssec_check
+
+# The program and the tools as a Debian package, out/dnssec-check_VERSION_amd64.deb; needs the packages debhelper, dh-python and dpkg-dev.
 deb: | $(program)
 	tools/deb
 
