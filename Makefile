@@ -121,7 +121,7 @@ install: | $(program)
 # proved and built by the kit; what of it C sees, and nothing else, is library/calls.c.
 calls = crates/dnssec_check_c/out/libdnssec_check_c.a
 kit = $(dir $(shell rt doc))
-version = $(shell sed -n 's/^VERSION = "\(.*\)"$$/\1/p' tools/$(package)/command.py)
+version = $(shell sed -n 's/^VERSION = "\([^"]*\)".*/\1/p' tools/$(package)/command.py)
 made = out/library
 library: $(made)/libdnssec_check.a $(made)/libdnssec_check.so.1 $(made)/dnssec_check.pc
 

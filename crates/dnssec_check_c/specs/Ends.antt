@@ -49,6 +49,15 @@ told_of_fault (fault.Refused why place) = record
   ; number = fault_number (fault.Refused why place)
   ; file = 0 }
 
+-- the fault of a run that writes into memory, where a failed write is want of it
+abbrev pub in_memory : Fault → Fault
+in_memory fault.WriteFailed = fault.OutOfMemory
+in_memory fault.OutOfMemory = fault.OutOfMemory
+in_memory (fault.ReadFailed file) = fault.ReadFailed file
+in_memory (fault.TooLong file) = fault.TooLong file
+in_memory (fault.OpenFailed file) = fault.OpenFailed file
+in_memory (fault.Refused why place) = fault.Refused why place
+
 -- ---- ends
 
 -- The text's length is told. The text stands at the buffer's beginning, and the status is its end's; or the buffer is too
@@ -88,9 +97,9 @@ abbrev pub IsMisused : (Request → Type 0) → List ℕ → List ℕ → Outcom
 IsMisused Asks old new told status =
     ((request : Request) → Asks request → ⊥) × (told ≡ nothing_told) × (new ≡ old) × (status ≡ 2)
 
--- A call that asks so over these octets ends as the request does that asks so.
+-- A call that asks so over these octets ends as the request does that asks so; or memory is wanting for its name.
 abbrev pub CallEnds : (Request → Type 0) → Files → List ℕ → List ℕ → Outcome → ℕ → Type 0
 CallEnds Asks files old new told status =
     IsMisused Asks old new told status
-    ⊎ ((request : Request) × Asks request × Ends request files old new told status)
+    ⊎ ((request : Request) × Asks request × TellsQuestion request told × Ends request files old new told status)
     ⊎ TellsFault fault.OutOfMemory old new told status

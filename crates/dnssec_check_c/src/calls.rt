@@ -1,15 +1,14 @@
 //! What each call does.
-ghost use Rattle.std.specs.Prelude.{◌≡◌, ◌<◌, ◌^◌, IfOk, None, Some, string_bytes};
+ghost use Rattle.std.specs.Prelude.{None, Some};
 ghost use Rattle.dnssec_check_c.specs.Asked.{AsksEach, AsksOne, AsksToList, AsksToShow, Judges, judged_files, listed_files, shown_files};
 ghost use Rattle.dnssec_check_c.specs.Ends.{CallEnds};
 
 use crate::octets::Octets;
-use crate::options::{Manner, Options, listing_of};
+use crate::options::{Manner, Options, listing_of, type_of};
 use crate::outcome::{Outcome, misuse, refuse};
 use crate::running::run_over;
-use dnsv_names::RecordType;
 use dnsv_program::{Asking, Fault, Request};
-use std::alloc::{AllocError, Global};
+use std::alloc::Global;
 
 /// Shows every message of the capture.
 pub fn show(alloc: Global, capture: &[u8], buffer: &mut [u8], outcome: &mut Outcome) -> u32
@@ -34,7 +33,10 @@ pub fn list<'a>(
     ensures { CallEnds (AsksToList options.now listed) (listed_files options.now capture.now verified.now)
         buffer.old buffer.new outcome.new result }
 {
-    let (Some(manner), Some(listing)) = (options.manner(), listing_of(listed)) else {
+    let Some(manner) = options.manner() else {
+        return misuse(outcome);
+    };
+    let Some(listing) = listing_of(listed) else {
         return misuse(outcome);
     };
     let request = Request::List {
@@ -66,18 +68,19 @@ pub fn check<'a>(
         (judged_files options.now capture.now anchors.now verified.now keys.now macs.now None)
         buffer.old buffer.new outcome.new result }
 {
-    let (Some(manner), Ok(name), Ok(rtype)) =
-        (options.manner(), str::from_utf8(name), u16::try_from(rtype))
-    else {
+    let Some(manner) = options.manner() else {
         return misuse(outcome);
     };
-    let Ok(asked) = String::from_str(alloc, name) else {
+    let Some(rtype) = type_of(rtype) else {
+        return misuse(outcome);
+    };
+    let Ok(name) = str::from_utf8(name) else {
+        return misuse(outcome);
+    };
+    let Ok(name) = String::from_str(alloc, name) else {
         return refuse(&Fault::OutOfMemory, outcome);
     };
-    let asking = Asking::One {
-        name: asked,
-        rtype: RecordType(rtype),
-    };
+    let asking = Asking::One { name, rtype };
     let request = judging(alloc, asking, manner, options.why);
     let octets = Octets::judged(options, capture, anchors, verified, keys, macs, None);
     run_over(alloc, &request, &octets, buffer, outcome)

@@ -1,9 +1,10 @@
 //! How a call asks.
-ghost use Rattle.std.specs.Prelude.{◌≡◌, ◌==◌, ◌&&◌, MatchOption, ℕ};
+ghost use Rattle.std.specs.Prelude.{◌≡◌, ◌<◌, ◌≤◌, ◌^◌, ◌==◌, ◌&&◌, MatchOption, ℕ};
 ghost use Rattle.dnsv_texts.specs.declared.format.Format.{Format};
 ghost use Rattle.dnsv_program.specs.declared.command_line.request.Listing.{Listing};
 ghost use Rattle.dnssec_check_c.specs.Asked.{IsFormat, IsListing, IsManner};
 
+use dnsv_names::RecordType;
 use dnsv_program::{Listing, Moment};
 use dnsv_texts::Format;
 
@@ -41,10 +42,13 @@ impl Options {
         if self.verified > 1 {
             return None;
         }
-        match (Moment::new(self.moment), format_of(self.format)) {
-            (Some(moment), Some(format)) => Some(Manner { moment, format }),
-            _ => None,
-        }
+        let Some(moment) = Moment::new(self.moment) else {
+            return None;
+        };
+        let Some(format) = format_of(self.format) else {
+            return None;
+        };
+        Some(Manner { moment, format })
     }
 
     /// Whether what was verified is given.
@@ -70,6 +74,16 @@ fn format_of(number: u32) -> Option<Format>
         0 => Some(Format::Lines),
         1 => Some(Format::Json),
         _ => None,
+    }
+}
+
+/// The type of a number up to 2^16 - 1.
+pub fn type_of(number: u32) -> Option<RecordType>
+    ensures { MatchOption result (2 ^ 16 ≤ number) (λ rtype. (number < 2 ^ 16) × (rtype.0 ≡ number)) }
+{
+    match u16::try_from(number) {
+        Ok(number) => Some(RecordType(number)),
+        Err(_) => None,
     }
 }
 

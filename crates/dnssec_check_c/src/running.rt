@@ -1,4 +1,6 @@
 //! A request is run over octets, into the buffer of the caller.
+ghost use Rattle.std.specs.Prelude.{◌≡◌};
+ghost use Rattle.dnssec_check_c.specs.Ends as specs;
 ghost use Rattle.dnssec_check_c.specs.Ends.{Ends, TellsQuestion};
 ghost use Rattle.dnssec_check_c.specs.Octets.{files_of};
 
@@ -23,8 +25,20 @@ pub fn run_over(
     let mut output = Counted::new(Vec::new(alloc));
     match run(alloc, request, &mut octets.readers(), &mut output) {
         Ok(status) => give(status, output.get_ref().as_slice(), buffer, outcome),
-        // A `Vec` takes no octets only where it gets no memory.
-        Err(Fault::WriteFailed) => refuse(&Fault::OutOfMemory, outcome),
-        Err(fault) => refuse(&fault, outcome),
+        Err(fault) => refuse(&in_memory(fault), outcome),
+    }
+}
+
+/// The fault of a run into a `Vec`, which takes no octets only where it gets no memory.
+fn in_memory(fault: Fault) -> Fault
+    ensures { result ≡ specs.in_memory fault }
+{
+    match fault {
+        Fault::WriteFailed => Fault::OutOfMemory,
+        Fault::OutOfMemory
+        | Fault::ReadFailed(_)
+        | Fault::TooLong(_)
+        | Fault::OpenFailed(_)
+        | Fault::Refused(_, _) => fault,
     }
 }
