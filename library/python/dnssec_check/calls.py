@@ -4,7 +4,7 @@ The library is that which the environment's DNSSEC_CHECK_LIBRARY names, and else
 """
 import ctypes
 import os
-from typing import Callable, NamedTuple, Optional
+from typing import Any, Callable, List, NamedTuple, Optional
 
 from .faults import Fault, Misused, OutOfMemory, Refused, Unavailable
 
@@ -72,7 +72,7 @@ def library() -> ctypes.CDLL:
 
 
 LIBRARY = library()
-_PLACE = [ctypes.c_void_p, ctypes.c_size_t, ctypes.POINTER(Outcome)]
+_PLACE: List[Any] = [ctypes.c_void_p, ctypes.c_size_t, ctypes.POINTER(Outcome)]
 _CASE, _OCTETS, _NUMBER = ctypes.POINTER(CaseOctets), ctypes.POINTER(Octets), ctypes.c_uint32
 LIBRARY.dnssec_check_version.restype = ctypes.c_char_p
 LIBRARY.dnssec_check_show.argtypes = [_OCTETS, *_PLACE]

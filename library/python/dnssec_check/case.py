@@ -13,11 +13,11 @@ Text = Union[bytes, str]
 class Case:
     """A capture with trust anchors at a moment, and what is known of its signatures.
 
-    `capture` has DNS messages, each behind its length in two octets, `anchors` lines as the program reads them, and `at` is
-    the moment in seconds since 1970. What was verified is told by `statements`, lines as the program reads them, or by a
-    `verifier`: it is called with the algorithm, the key, the data and the signature of each signature that counts, once, and
-    answers whether that is good, or None where it can't tell. `keys` and `macs` open messages that are signed by shared
-    keys (TSIG).
+    `capture` has DNS messages, each behind its length in two octets, `anchors` lines as the program reads them, and
+    `at` is the moment in seconds since 1970. What was verified is told by `statements`, lines as the program reads
+    them, or by a `verifier`: it is called with the algorithm, the key, the data and the signature of each signature
+    that counts, once, and answers whether that is good, or None where it can't tell. `keys` and `macs` open messages
+    that are signed by shared keys (TSIG).
 
     >>> Case(b"", b"", at=0).judge("www.example.com", "A").verdict
     'Indeterminate'
@@ -35,9 +35,7 @@ class Case:
         macs: Optional[Text] = None,
     ) -> None:
         self.verifier = verifier
-        self.given = calls.Given(
-            bytes(capture), octets_of(anchors), at, maybe(statements), maybe(keys), maybe(macs)
-        )
+        self.given = calls.Given(bytes(capture), octets_of(anchors), at, maybe(statements), maybe(keys), maybe(macs))
         self._known: Dict[Unverified, Optional[bool]] = {}
         self._is_verified = verifier is None
 

@@ -42,9 +42,9 @@ class Interval(NamedTuple):
 class Verdict:
     """What the evidence proves of a question at a moment.
 
-    `rrset` and `signature` are those of a secure answer, `records` those that deny, `cut` the name from which on nothing
-    may be signed, `todo` what the verdict depends on. A question that is refused by itself has no verdict and the number
-    `refused`. `why` has the lines of an explanation, as objects of JSON.
+    `rrset` and `signature` are those of a secure answer, `records` those that deny, `cut` the name from which on
+    nothing may be signed, `todo` what the verdict depends on. A question that is refused by itself has no verdict and
+    the number `refused`. `why` has the lines of an explanation, as objects of JSON.
     """
 
     name: str
@@ -87,7 +87,8 @@ class Verdict:
 def verdict_of(line: bytes) -> Verdict:
     """What an object of the program's JSON says.
 
-    >>> found = verdict_of(b'{"command":"check","name":"a.","type":1,"moment":0,"verdict":"Bogus","status":5,"aliases":[]}')
+    >>> said = b'{"command":"check","name":"a.","type":1,"moment":0,"verdict":"Bogus","status":5,"aliases":[]}'
+    >>> found = verdict_of(said)
     >>> found.verdict, found.is_secure, found.todo
     ('Bogus', False, ())
     """
