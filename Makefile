@@ -116,6 +116,7 @@ install: | $(program)
 		ln -sf dnssec_check $(of_bash)/dnssec_check-$$tool; \
 		ln -sf dnssec_check.fish $(of_fish)/dnssec_check-$$tool.fish; \
 	done
+	if test -e $(made)/libdnssec_check.so.1; then $(MAKE) install-library; fi
 
 # The library for C, as an archive and a shared library, into out/library; docs/LIBRARY.md says how it is used. What it does is
 # proved and built by the kit; what of it C sees, and nothing else, is library/calls.c.
@@ -123,7 +124,7 @@ calls = crates/dnssec_check_c/out/libdnssec_check_c.a
 kit = $(dir $(shell rt doc))
 version = $(shell sed -n 's/^VERSION = "\([^"]*\)".*/\1/p' tools/$(package)/command.py)
 made = out/library
-library: $(made)/libdnssec_check.a $(made)/libdnssec_check.so.1 $(made)/dnssec_check.pc
+library: $(made)/libdnssec_check.a $(made)/libdnssec_check.so.1
 
 $(calls):
 	cd crates/dnssec_check_c && rt lib
@@ -143,20 +144,18 @@ $(made)/libdnssec_check.so.1: $(made)/dnssec_check.o
 	$(CC) -shared -Wl,-soname,$(notdir $@) -Wl,--gc-sections -Wl,-z,defs -Wl,-z,relro,-z,now -o $@ $<
 	ln -sf $(notdir $@) $(made)/libdnssec_check.so
 
-$(made)/dnssec_check.pc: library/dnssec_check.pc.in
-	install -d $(made)
-	sed 's|@PREFIX@|$(PREFIX)|; s|@VERSION@|$(version)|' $< > $@
-
-# Where Python finds modules below PREFIX, which is another folder for Debian's packages.
-of_python = $(DESTDIR)$(PREFIX)/lib/python3/dist-packages
-install-library: library
+# Puts the library that is built below PREFIX; `install` does it too, where it is built. Python's place is its own, unless
+# another is told.
+PYTHON_FOLDER ?= $(shell $(PYTHON) -c 'import sysconfig; print(sysconfig.get_path("purelib"))')
+of_python = $(DESTDIR)$(PYTHON_FOLDER)/dnssec_check
+install-library:
 	install -D -m 644 $(made)/libdnssec_check.a $(DESTDIR)$(PREFIX)/lib/libdnssec_check.a
 	install -m 644 $(made)/libdnssec_check.so.1 $(DESTDIR)$(PREFIX)/lib
 	ln -sf libdnssec_check.so.1 $(DESTDIR)$(PREFIX)/lib/libdnssec_check.so
-	install -D -m 644 $(made)/dnssec_check.pc $(DESTDIR)$(PREFIX)/lib/pkgconfig/dnssec_check.pc
 	install -D -m 644 library/dnssec_check.h $(DESTDIR)$(PREFIX)/include/dnssec_check.h
-	install -d $(of_python)/dnssec_check
-	install -m 644 library/python/dnssec_check/*.py library/python/dnssec_check/py.typed $(of_python)/dnssec_check
+	install -d $(DESTDIR)$(PREFIX)/lib/pkgconfig $(of_python)
+	sed 's|@PREFIX@|$(PREFIX)|; s|@VERSION@|$(version)|' library/dnssec_check.pc.in > $(DESTDIR)$(PREFIX)/lib/pkgconfig/dnssec_check.pc
+	install -m 644 library/python/dnssec_check/*.py library/python/dnssec_check/py.typed $(of_python)
 
 # The program and the tools as a Debian package, out/dnssec-check_VERSION_amd64.deb; needs the packages debhelper, dh-python and dpkg-dev.
 deb: | $(program)
