@@ -2,7 +2,7 @@
 # besides; `demo`, `examples`, `faults`, `pages`, `install` and `deb` take the program that is built, and build it where there
 # is none. `check` builds nothing.
 .PHONY: all try test check packages lint demo examples faults wrong-bodies test-tools pages pictures install deb library \
-	install-library
+	install-library deb-library
 
 program = crates/dnssec_check/out/dnssec_check
 rows = crates/dnsv_rows/out/dnsv_rows
@@ -146,16 +146,23 @@ $(made)/libdnssec_check.so.1: $(made)/dnssec_check.o
 
 # Puts the library that is built below PREFIX; `install` does it too, where it is built. Python's place is its own, unless
 # another is told.
+LIBRARY_FOLDER = $(PREFIX)/lib
+of_library = $(DESTDIR)$(LIBRARY_FOLDER)
 PYTHON_FOLDER ?= $(shell $(PYTHON) -c 'import sysconfig; print(sysconfig.get_path("purelib"))')
 of_python = $(DESTDIR)$(PYTHON_FOLDER)/dnssec_check
 install-library:
-	install -D -m 644 $(made)/libdnssec_check.a $(DESTDIR)$(PREFIX)/lib/libdnssec_check.a
-	install -m 644 $(made)/libdnssec_check.so.1 $(DESTDIR)$(PREFIX)/lib
-	ln -sf libdnssec_check.so.1 $(DESTDIR)$(PREFIX)/lib/libdnssec_check.so
+	install -D -m 644 $(made)/libdnssec_check.a $(of_library)/libdnssec_check.a
+	install -m 644 $(made)/libdnssec_check.so.1 $(of_library)
+	ln -sf libdnssec_check.so.1 $(of_library)/libdnssec_check.so
 	install -D -m 644 library/dnssec_check.h $(DESTDIR)$(PREFIX)/include/dnssec_check.h
-	install -d $(DESTDIR)$(PREFIX)/lib/pkgconfig $(of_python)
-	sed 's|@PREFIX@|$(PREFIX)|; s|@VERSION@|$(version)|' library/dnssec_check.pc.in > $(DESTDIR)$(PREFIX)/lib/pkgconfig/dnssec_check.pc
+	install -d $(of_library)/pkgconfig $(of_python)
+	sed 's|@PREFIX@|$(PREFIX)|; s|@FOLDER@|$(LIBRARY_FOLDER)|; s|@VERSION@|$(version)|' library/dnssec_check.pc.in \
+		> $(of_library)/pkgconfig/dnssec_check.pc
 	install -m 644 library/python/dnssec_check/*.py library/python/dnssec_check/py.typed $(of_python)
+
+# The same as Debian packages: libdnssec-check1, libdnssec-check-dev and python3-dnssec-check.
+deb-library:
+	tools/deb library
 
 # The program and the tools as a Debian package, out/dnssec-check_VERSION_amd64.deb; needs the packages debhelper, dh-python and dpkg-dev.
 deb: | $(program)
