@@ -1,51 +1,45 @@
--- Numbers that ask for nothing.
-use Rattle.std.proofs.Common.{◌≡◌, ℕ, List}
-use Rattle.std.specs.Prelude.{IsUtf8, ◌≤◌, ◌<◌, ◌^◌}
+-- A request that judges what is asked is the one that a call asks.
+use Rattle.std.proofs.Common.{◌≡◌, ◌<◌, ◌^◌, ℕ, Bool, List, subst, sym, string_bytes}
+use Rattle.std.specs.Prelude.{⊤, IsUtf8}
 use Rattle.dnsv_texts.specs.declared.format.Format.{Format}
+use Rattle.dnsv_program.specs.declared.command_line.request.Asking.{Asking}
 use Rattle.dnsv_program.specs.declared.command_line.request.Asking.TheVariants as asking
-use Rattle.dnsv_program.specs.declared.command_line.request.Listing.{Listing}
 use Rattle.dnsv_program.specs.declared.command_line.request.Request.{Request}
 use Rattle.dnsv_program.specs.declared.command_line.request.Request.TheVariants as request
-use Rattle.dnssec_check_c.specs.Asked.{AsksEach, AsksOne, AsksToList, IsListing, IsManner}
+use Rattle.dnssec_check_c.specs.Asked.{AsksEach, AsksOne, IsManner, Judges}
 use Rattle.dnssec_check_c.specs.declared.options.Options.{Options}
 
--- the options name no moment and format
-abbrev pub HaveNoManner : Options → Type 0
-HaveNoManner options = (moment : ℕ) (form : Format) → IsManner options moment form → ⊥
+abbrev pub IsOne : List ℕ → ℕ → Asking → Type 0
+IsOne name rtype (asking.One said number) = (string_bytes said ≡ name) × (number.0 ≡ rtype)
+IsOne name rtype (asking.Each questions) = ⊥
 
-pub no_list : (options : Options) (listed : ℕ) → HaveNoManner options → (asked : Request) → AsksToList options listed asked → ⊥
-no_list options listed none (request.Show capture) asks = asks
-no_list options listed none (request.List capture moment statements lists form) asks = none moment form asks.1
-no_list options listed none (request.Check capture anchors moment asked statements keys macs form why) asks = asks
+abbrev pub AreMany : Asking → Type 0
+AreMany (asking.One said number) = ⊥
+AreMany (asking.Each questions) = ⊤
 
-pub no_listing : (options : Options) (listed : ℕ) → ((lists : Listing) → IsListing lists listed → ⊥) → (asked : Request)
-    → AsksToList options listed asked → ⊥
-no_listing options listed none (request.Show capture) asks = asks
-no_listing options listed none (request.List capture moment statements lists form) asks = none lists asks.0
-no_listing options listed none (request.Check capture anchors moment asked statements keys macs form why) asks = asks
+in_manner : (options : Options) (moment at : ℕ) (form written : Format) → at ≡ moment → written ≡ form → IsManner options moment form
+    → IsManner options at written
+in_manner options moment at form written same_moment same_form manner =
+    subst (λ (each : Format). IsManner options at each) (sym same_form) (subst (λ (each : ℕ). IsManner options each form) (sym same_moment) manner)
 
-pub no_each : (options : Options) → HaveNoManner options → (asked : Request) → AsksEach options asked → ⊥
-no_each options none (request.Show capture) asks = asks
-no_each options none (request.List capture moment statements lists form) asks = asks
-no_each options none (request.Check capture anchors moment (asking.One name number) statements keys macs form why) asks = asks
-no_each options none (request.Check capture anchors moment (asking.Each questions) statements keys macs form why) asks = none moment form asks.0
+-- one question
+pub one_asked : (options : Options) (name : List ℕ) (rtype : ℕ) (asks : Asking) (moment : ℕ) (form : Format) (asked : Request)
+    → Judges asks moment form options.why asked → IsOne name rtype asks → IsUtf8 name → rtype < 2 ^ 16 → IsManner options moment form
+    → AsksOne options name rtype asked
+one_asked options name rtype asks moment form (request.Show capture) judges is utf8 low manner = absurd judges
+one_asked options name rtype asks moment form (request.List capture at statements lists written) judges is utf8 low manner = absurd judges
+one_asked options name rtype asks moment form (request.Check capture anchors at (asking.Each questions) statements keys macs written why) judges is utf8 low manner =
+    absurd (subst (λ (each : Asking). IsOne name rtype each) (sym judges.0) is)
+one_asked options name rtype asks moment form (request.Check capture anchors at (asking.One text kind) statements keys macs written why) judges is utf8 low manner =
+    let one : IsOne name rtype (asking.One text kind) = subst (λ (each : Asking). IsOne name rtype each) (sym judges.0) is in
+    (utf8, one.0, low, one.1, in_manner options moment at form written judges.1 judges.2 manner, judges.3)
 
-pub no_question : (options : Options) (name : List ℕ) (rtype : ℕ) → HaveNoManner options → (asked : Request) → AsksOne options name rtype asked → ⊥
-no_question options name rtype none (request.Show capture) asks = asks
-no_question options name rtype none (request.List capture moment statements lists form) asks = asks
-no_question options name rtype none (request.Check capture anchors moment (asking.Each questions) statements keys macs form why) asks = asks
-no_question options name rtype none (request.Check capture anchors moment (asking.One asked number) statements keys macs form why) asks =
-    none moment form asks.4
-
-pub no_type : (options : Options) (name : List ℕ) (rtype : ℕ) → 2 ^ 16 ≤ rtype → (asked : Request) → AsksOne options name rtype asked → ⊥
-no_type options name rtype high (request.Show capture) asks = asks
-no_type options name rtype high (request.List capture moment statements lists form) asks = asks
-no_type options name rtype high (request.Check capture anchors moment (asking.Each questions) statements keys macs form why) asks = asks
-no_type options name rtype high (request.Check capture anchors moment (asking.One asked number) statements keys macs form why) asks =
-    let low : rtype < 2 ^ 16 = asks.2 in omega arith
-
-pub no_text : (options : Options) (name : List ℕ) (rtype : ℕ) → (IsUtf8 name → ⊥) → (asked : Request) → AsksOne options name rtype asked → ⊥
-no_text options name rtype none (request.Show capture) asks = asks
-no_text options name rtype none (request.List capture moment statements lists form) asks = asks
-no_text options name rtype none (request.Check capture anchors moment (asking.Each questions) statements keys macs form why) asks = asks
-no_text options name rtype none (request.Check capture anchors moment (asking.One asked number) statements keys macs form why) asks = none asks.0
+-- the questions of a text
+pub each_asked : (options : Options) (asks : Asking) (moment : ℕ) (form : Format) (asked : Request)
+    → Judges asks moment form options.why asked → AreMany asks → IsManner options moment form → AsksEach options asked
+each_asked options asks moment form (request.Show capture) judges are manner = absurd judges
+each_asked options asks moment form (request.List capture at statements lists written) judges are manner = absurd judges
+each_asked options asks moment form (request.Check capture anchors at (asking.One text kind) statements keys macs written why) judges are manner =
+    absurd (subst AreMany (sym judges.0) are)
+each_asked options asks moment form (request.Check capture anchors at (asking.Each questions) statements keys macs written why) judges are manner =
+    (in_manner options moment at form written judges.1 judges.2 manner, judges.3)

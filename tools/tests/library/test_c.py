@@ -57,6 +57,12 @@ class InC(unittest.TestCase):
         program = self.compiled(pathlib.Path(__file__).with_name("nulls.c"), MADE / "libdnssec_check.a")
         self.assertEqual(subprocess.run([program], check=False).returncode, 0)
 
+    def test_want_of_memory_is_told_wherever_it_is(self):
+        wrapped = [f"-Wl,--wrap={name}" for name in ("malloc", "realloc", "free")]
+        program = self.compiled(pathlib.Path(__file__).with_name("memory.c"), MADE / "libdnssec_check.a", *wrapped)
+        words = [program, EXAMPLE / "capture", ANCHORS, EXAMPLE / "statements"]
+        self.assertEqual(subprocess.run(words, check=False).returncode, 0)
+
 
 if __name__ == "__main__":
     unittest.main()

@@ -1,8 +1,12 @@
-use Rattle.std.proofs.Common.{rules, None, Some, ◌≡◌, ℕ, ◌+◌, ◌-◌, ◌*◌, ◌<◌, ◌≤◌, length, ◌/◌, ◌%◌, Bool, true, false, nat_eq, nat_lt, List, [], ◌∷◌, ◌++◌, slice_index_or, slice_set, bit_and, bit_or, Fits, w8, w32, w64, Bor, MutBor}
-use Rattle.dnssec_check_c.specs.Asked.{AsksEach, AsksOne, AsksToList, AsksToShow, Judges, judged_files, listed_files, shown_files}
-use Rattle.dnssec_check_c.specs.Ends.{CallEnds}
+use Rattle.std.proofs.Common.{◌∙◌}
+use Rattle.dnssec_check_c.specs.Asked.{AsksOne}
+use Rattle.dnssec_check_c.proofs.AskedLemmas.{one_asked}
+use Rattle.dnssec_check_c.proofs.EndLemmas.{request_ends}
 use Rattle.dnssec_check_c.proofs.calls.check.Goals as goal
 
--- src/calls.rt:54:1
 pub returns : goal.returns
-returns c = ?
+returns c =
+    let asks = one_asked c.args.options.now c.args.name.now c.args.rtype _ c.in-Some.manner.moment c.in-Some.manner.format c.judging-request.result
+        c.judging-request.ensures (c.in-Ok-from_str.ensures.ok ∙ c.in-Ok.ensures.cases.0, c.in-Some-type_of.ensures.1) c.in-Ok.ensures.cases.1
+        c.in-Some-type_of.ensures.0 c.in-Some.ensures in
+    request_ends (AsksOne c.args.options.now c.args.name.now c.args.rtype) c.run_over.ensures.ends c.run_over.ensures.question c.judged-octets.ensures asks

@@ -1,8 +1,10 @@
-use Rattle.std.proofs.Common.{rules, None, Some, ◌≡◌, ℕ, ◌+◌, ◌-◌, ◌*◌, ◌<◌, ◌≤◌, length, ◌/◌, ◌%◌, Bool, true, false, nat_eq, nat_lt, List, [], ◌∷◌, ◌++◌, slice_index_or, slice_set, bit_and, bit_or, Fits, w8, w32, w64, Bor, MutBor}
-use Rattle.dnssec_check_c.specs.Asked.{AsksEach, AsksOne, AsksToList, AsksToShow, Judges, judged_files, listed_files, shown_files}
-use Rattle.dnssec_check_c.specs.Ends.{CallEnds}
+use Rattle.dnssec_check_c.specs.Asked.{AsksEach}
+use Rattle.dnssec_check_c.proofs.AskedLemmas.{each_asked}
+use Rattle.dnssec_check_c.proofs.EndLemmas.{request_ends}
 use Rattle.dnssec_check_c.proofs.calls.check_each.Goals as goal
 
--- src/calls.rt:90:1
 pub returns : goal.returns
-returns c = ?
+returns c =
+    let asks = each_asked c.args.options.now _ c.in-Some.manner.moment c.in-Some.manner.format c.judging-request.result
+        c.judging-request.ensures tt c.in-Some.ensures in
+    request_ends (AsksEach c.args.options.now) c.run_over.ensures.ends c.run_over.ensures.question c.judged-octets.ensures asks

@@ -1,9 +1,12 @@
-use Rattle.std.proofs.Common.{rules, ◌≡◌, ℕ, ◌+◌, ◌-◌, ◌*◌, ◌<◌, ◌≤◌, length, ◌/◌, ◌%◌, Bool, true, false, nat_eq, nat_lt, List, [], ◌∷◌, ◌++◌, slice_index_or, slice_set, bit_and, bit_or, Fits, w8, w32, w64, Bor, MutBor}
-use Rattle.dnssec_check_c.specs.Ends as specs
-use Rattle.dnssec_check_c.specs.Ends.{Ends, TellsQuestion}
+use Rattle.std.proofs.Common.{◌≡◌, List, ℕ, [], refl, ◌∙◌}
+use Rattle.dnsv_message.specs.Streams.Counted.{inner_of}
 use Rattle.dnssec_check_c.specs.Octets.{files_of}
+use Rattle.dnssec_check_c.proofs.EndLemmas.{text_ends}
 use Rattle.dnssec_check_c.proofs.running.run_over.Goals as goal
 
--- src/running.rt:24:1
 pub returns-in-Ok-clause-ends : goal.returns-in-Ok-clause-ends
-returns-in-Ok-clause-ends c = ?
+returns-in-Ok-clause-ends c =
+    let done = c.in-Ok.ensures.done (files_of c.args.octets.now) c.readers.ensures in
+    let first : (inner_of c.new-output.result).items ≡ c.new.result.items = rw c.new-output.ensures.inner refl in
+    let shown : c.as_slice.result.now ≡ (inner_of c.run.new.output).items = rw (c.as_slice.ensures.value, c.get_ref.ensures) refl in
+    text_ends c.give.ensures done.1 (shown ∙ done.2) (first ∙ c.new.ensures.items)
