@@ -1,6 +1,6 @@
 //! The exports. C gives each slice as a pointer, which is never null, and a length.
-ghost use Rattle.std.specs.Prelude.{None};
-ghost use Rattle.dnssec_check_c.specs.Asked.{AsksEach, AsksOne, AsksToList, AsksToShow, asked_files, judged_files, listed_files, shown_files};
+ghost use Rattle.std.specs.Prelude.{None, Some};
+ghost use Rattle.dnssec_check_c.specs.Asked.{AsksEach, AsksOne, AsksToList, AsksToShow, judged_files, listed_files, shown_files};
 ghost use Rattle.dnssec_check_c.specs.Ends.{CallEnds};
 
 use crate::calls::{check, check_each, list, show};
