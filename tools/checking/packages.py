@@ -30,10 +30,12 @@ class Package:
 
 
 PACKAGES = (
+    Package("bind9-dnsutils", command="delv"),
     Package("black", module="black"),
     Package("debhelper", command="dh"),
     Package("dh-python", command="dh_python3"),
     Package("dns-root-data", file="/usr/share/dns/root.ds"),
+    Package("dnsviz", command="dnsviz"),
     Package("dpkg-dev", command="dpkg-buildpackage"),
     Package("fish", command="fish"),
     Package("gcc", command="cc"),
@@ -42,6 +44,7 @@ PACKAGES = (
     Package("libc6-dev", file="/usr/include/stdio.h"),
     Package("mandoc", command="mandoc"),
     Package("mypy", module="mypy"),
+    Package("nsd", command="nsd"),
     Package("parallel", command="parallel"),
     Package("pylint", module="pylint"),
     Package("python3-cryptography", module="cryptography"),
@@ -52,7 +55,10 @@ PACKAGES = (
     Package("python3-protobuf", module="google.protobuf"),
     Package("python3-rich", module="rich"),
     Package("python3-zstandard", module="zstandard"),
+    Package("tcpdump", command="tcpdump"),
     Package("tshark", command="tshark"),
+    Package("unbound", command="unbound"),
+    Package("unbound-host", command="unbound-host"),
     Package("zsh", command="zsh"),
 )
 

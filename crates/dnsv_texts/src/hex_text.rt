@@ -6,8 +6,11 @@ ghost use Rattle.dnsv_texts.specs.Hex as specs;
 use std::alloc::AllocError;
 use std::str;
 
+/// How far `a` stands from where it would follow `9`.
+const LETTERS_APART: u8 = b'a' - b'9' - 1;
+
 /// How many octets are written at once.
-const PIECE: usize = 64;
+const PIECE: usize = 128;
 
 /// Adds the octets in lower case hex, and `-` where there are none.
 pub fn push_hex_text(text: &mut String, octets: &[u8]) -> Result<(), AllocError>
@@ -55,14 +58,10 @@ fn write_digits(octets: &[u8], digits: &mut [u8])
     }
 }
 
-/// The digit of a value.
+/// The digit of a value, without a branch, so that many are had at once.
 fn digit(value: u8) -> u8
     requires { value < 16 }
     ensures { result ≡ slice_index lower_digits value }
 {
-    if value < 10 {
-        b'0' + value
-    } else {
-        b'a' - 10 + value
-    }
+    b'0' + value + LETTERS_APART * (value > 9) as u8
 }

@@ -106,27 +106,29 @@ fn push_records(
     ensures { OnOk result (string_bytes text.new
         ≡ string_bytes text.old ++ texts_from record_line (before + 1) records.now) }
 {
+    let mut line = Line::new();
     for (index, resource) in records.iter().enumerate() {
-        push_record(alloc, text, before + index + 1, resource)?;
+        push_record(alloc, text, &mut line, before + index + 1, resource)?;
     }
     Ok(())
 }
 
-/// Adds the line of the record with this number.
+/// Adds the line of the record with this number. Its beginning is put together in `line`, whatever that had before.
 fn push_record(
     alloc: Global,
     text: &mut String,
+    line: &mut Line,
     number: usize,
     resource: &Record<'_>,
 ) -> Result<(), AllocError>
     ensures { OnOk result (string_bytes text.new ≡ string_bytes text.old ++ record_line number resource.now) }
 {
     let octets = resource.rdata.octets(alloc)?;
-    let mut line = Line::new();
+    line.clear();
     line.push_str("record ");
     line.push_str(Buffer::new().format(number));
     line.push_str(" ");
-    push_about(&mut line, &resource.name, resource.rtype, resource.class);
+    push_about(line, &resource.name, resource.rtype, resource.class);
     line.push_str(" ");
     line.push_str(Buffer::new().format(resource.ttl.0));
     line.push_str(" ");

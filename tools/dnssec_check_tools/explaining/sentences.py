@@ -69,7 +69,7 @@ def how_far(told: Explanation) -> List[Said]:
     if not links:
         return []
     last, start = links[-1], start_of(links)
-    whole = "the chain holds down to here" + (f", from anchor {start['anchor']} of {start['zone']} on" if start else "")
+    whole = "the chain holds down to here" + (f", beginning with anchor {start['anchor']} ({start['zone']})" if start else "")
     if last["line"] == "trusted":
         return [Said(HOLDS, told.named(last, owned(last["zone"], DNSKEY)), whole)]
     about = told.named(last, owned(last["owner"], last["type"]))

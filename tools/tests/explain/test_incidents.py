@@ -32,7 +32,7 @@ SAID = {
         "matches it",
         "HAS shop.test. DNSKEY of message 6: key 35841 (ECDSAP256SHA256, ZONE SEP) signs the keys; neither an anchor nor a DS "
         "matches it",
-        "HOLDS shop.test. DS: signed by test.; the chain holds down to here, from anchor 1 of . on"),
+        "HOLDS shop.test. DS: signed by test.; the chain holds down to here, beginning with anchor 1 (.)"),
     "copy-fresh-keys-bad": (
         "FAIL shop.test. DNSKEY of message 6: the signature by key 26644 is bad [EDE 6]",
         "FAIL www.shop.test. A: the signature by key 4165 of shop.test. is good, but no trusted DNSKEY RRset of shop.test. has "
@@ -40,10 +40,10 @@ SAID = {
         "HAS shop.test. DNSKEY of message 5: key 26644 (ECDSAP256SHA256, ZONE SEP) signs the keys; the DS matches it",
         "HAS shop.test. DNSKEY of message 6: key 26644 (ECDSAP256SHA256, ZONE SEP) signs the keys by a signature that is bad; "
         "the DS matches it",
-        "HOLDS shop.test. DNSKEY of message 5: the chain holds down to here, from anchor 1 of . on"),
+        "HOLDS shop.test. DNSKEY of message 5: the chain holds down to here, beginning with anchor 1 (.)"),
     "copy-fresh-ds-bad": (
         "FAIL shop.test. DS of message 5: the signature by key 51393 of test. is bad [EDE 6]",
-        "HOLDS shop.test. DS of message 4: signed by test.; the chain holds down to here, from anchor 1 of . on"),
+        "HOLDS shop.test. DS of message 4: signed by test.; the chain holds down to here, beginning with anchor 1 (.)"),
     "island-proof-expired": (
         "FAIL island.shop.test. NSEC: the signature by key 42437 of shop.test. expired on 2026-11-26T14:39:47Z (24 hours ago) "
         "[EDE 7]",
@@ -68,7 +68,7 @@ SAID = {
         "WHY shop.test. DNSKEY: from here on nothing has a signature: was it asked with DO, and does all that lies between pass "
         "that on?",
         "HAS shop.test. DNSKEY: key 40115 (ECDSAP256SHA256, ZONE SEP) has no good signature over the keys; the DS matches it",
-        "HOLDS shop.test. DS: signed by test.; the chain holds down to here, from anchor 1 of . on"),
+        "HOLDS shop.test. DS: signed by test.; the chain holds down to here, beginning with anchor 1 (.)"),
 }
 # Boxes and edges of the picture, each with how it stands.
 KEY, DOES_NOT_SIGN = "ECDSAP256SHA256 ZONE SEP", (chain.MISSING, "doesn't sign the keys")

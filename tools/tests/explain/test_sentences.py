@@ -103,8 +103,8 @@ class Samples(unittest.TestCase):
             "HAS shop.example.test. DNSKEY: key 29000 (ECDSAP256SHA256, ZONE SEP) signs the keys; "
             "neither an anchor nor a DS matches it",
             "THEN www.shop.example.test. A: signed by key 45316 of shop.example.test., which isn't trusted",
-            "HOLDS shop.example.test. DS: signed by example.test.; the chain holds down to here, from anchor 1 of "
-            "example.test. on"])
+            "HOLDS shop.example.test. DS: signed by example.test.; the chain holds down to here, beginning with "
+            "anchor 1 (example.test.)"])
 
     def test_an_anchor_that_is_another_key_of_the_same_tag(self):
         reason = {"line": "reason", "word": "key-missing", "ede": 9, "zone": "b.", "anchor": 1, "tag": 9, "algorithm": 13}
@@ -135,7 +135,7 @@ class Samples(unittest.TestCase):
             f"(next closer name): its hash is {HASH} [EDE 12]",
             f"FAIL other-name.ldns.test.: no NSEC3 of ldns.test. (iterations 5, salt abcd) is at it: its hash is {HASH} [EDE 12]",
             "FAIL other-name.ldns.test. A: what ldns.test. says doesn't prove that there is none [EDE 12]",
-            "HOLDS ldns.test. DNSKEY: the chain holds down to here, from anchor 1 of . on"])
+            "HOLDS ldns.test. DNSKEY: the chain holds down to here, beginning with anchor 1 (.)"])
 
     def test_a_name_that_may_be_unsigned(self):
         case = {"line": "case", "case": 1, "cut": "b.example.", "zone": "example."}
@@ -160,7 +160,7 @@ class Samples(unittest.TestCase):
                  {**trusted, "zone": "c.", "rrset": 3, "anchor": 2},
                  {**signed, "owner": "d.c.", "type": 43, "rrset": 4, "signer": "c.", "keys": 3},
                  {**trusted, "zone": "d.c.", "rrset": 5, "ds_rrset": 4, "ds_record": 1}]
-        holds = "the chain holds down to here, from anchor {} of {} on"
+        holds = "the chain holds down to here, beginning with anchor {} ({})"
         ends = ((1, "a. DNSKEY", holds.format(1, "a.")), (2, "x.a. CNAME", f"signed by a.; {holds.format(1, 'a.')}"),
                 (3, "c. DNSKEY", holds.format(2, "c.")), (4, "d.c. DS", f"signed by c.; {holds.format(2, 'c.')}"),
                 (5, "d.c. DNSKEY", holds.format(2, "c.")))

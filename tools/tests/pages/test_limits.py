@@ -55,7 +55,7 @@ TOLD = {
         f"takes no file of another kind that has more than {captures.OTHER_MOST:,} octets",
     ],
     "AUDITING.md": [
-        f"verifies only what {SECONDS} seconds of a processor (`--budget`) and {BUDGET.octets // 1_000_000} MB of listed signatures",
+        f"stops verifying after {SECONDS} seconds of processor time (`--budget`) or {BUDGET.octets // 1_000_000} MB of listed signatures",
         f"Its questions are asked for {BUDGET.questions} seconds of a processor (`--budget-questions`)",
         f"or no worker of it, for {cluster.WAIT_SECONDS} seconds (`--wait`)",
         "With `--keys` the octets include the keys of TSIG: they go to the scheduler's machine and from there to those of the workers",
