@@ -33,7 +33,8 @@ enum dnssec_check_status {
     DNSSEC_CHECK_INDETERMINATE = 6, /* no trust anchor is at or above the name */
     DNSSEC_CHECK_REFUSED = 7,       /* what was given is refused, and `number` says why; of many questions, where `number`
                                        is 0: one is refused by itself, and the text says which */
-    DNSSEC_CHECK_NULL = 9,          /* a pointer is NULL that may not be; NULL with the length 0 is no octets */
+    DNSSEC_CHECK_NULL = 9,          /* a pointer is NULL that may not be, or a length above what an object can have; NULL
+                                       with the length 0 is no octets */
     DNSSEC_CHECK_ROOM = 10          /* the buffer is too small, and nothing is written */
 };
 
