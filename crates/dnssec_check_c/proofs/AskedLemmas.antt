@@ -1,5 +1,5 @@
 -- A request that judges what is asked is the one that a call asks.
-use Rattle.std.proofs.Common.{◌≡◌, ◌<◌, ◌^◌, ℕ, Bool, List, subst, sym, string_bytes}
+use Rattle.std.proofs.Common.{◌≡◌, ◌<◌, ◌^◌, ℕ, List, subst, sym, string_bytes}
 use Rattle.std.specs.Prelude.{⊤, IsUtf8}
 use Rattle.dnsv_texts.specs.declared.format.Format.{Format}
 use Rattle.dnsv_program.specs.declared.command_line.request.Asking.{Asking}

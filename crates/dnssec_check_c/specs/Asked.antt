@@ -1,5 +1,5 @@
 -- What the numbers of a call ask of its octets, as the request of the program that says the same.
-use Rattle.std.specs.Prelude.{◌≡◌, ◌≤◌, ◌<◌, ◌^◌, ◌==◌, ◌&&◌, ⊤, Bool, true, ℕ, List, IsUtf8, string_bytes, Option, Some, None}
+use Rattle.std.specs.Prelude.{◌≡◌, ◌≤◌, ◌<◌, ◌^◌, ◌==◌, ◌&&◌, ⊤, Bool, ℕ, List, IsUtf8, string_bytes, Option, Some, None}
 use Rattle.dnsv_texts.specs.declared.format.Format.{Format}
 use Rattle.dnsv_texts.specs.declared.format.Format.TheVariants as format
 use Rattle.dnsv_program.specs.CommandLine.Moment.{IsMoment}

@@ -1,4 +1,4 @@
-use Rattle.std.proofs.Common.{◌≡◌, List, ℕ, [], refl, ◌∙◌}
+use Rattle.std.proofs.Common.{◌≡◌, refl, ◌∙◌}
 use Rattle.dnsv_message.specs.Streams.Counted.{inner_of}
 use Rattle.dnssec_check_c.specs.Octets.{files_of}
 use Rattle.dnssec_check_c.proofs.EndLemmas.{text_ends}
