@@ -72,16 +72,25 @@ Judges asked at form why (request.Check capture anchors moment asks statements k
 
 abbrev pub shown_files : List ℕ → Files
 shown_files capture = record
-  { capture = capture; anchors = None; statements = None; keys = None; macs = None; questions = None }
+    { capture = capture; anchors = None; statements = None; keys = None; macs = None; questions = None }
 
 abbrev pub listed_files : Options → List ℕ → List ℕ → Files
-listed_files options capture verified = record
-  { capture = capture; anchors = None; statements = given_octets verified (options.verified == 1)
-  ; keys = None; macs = None; questions = None }
+listed_files options capture verified = record {
+  capture = capture;
+  anchors = None;
+  statements = given_octets verified (options.verified == 1);
+  keys = None;
+  macs = None;
+  questions = None;
+}
 
 -- keys and MACs are given where the options say so, the MACs only with keys
 abbrev pub judged_files : Options → List ℕ → List ℕ → List ℕ → List ℕ → List ℕ → Option (List ℕ) → Files
-judged_files options capture anchors verified keys macs questions = record
-  { capture = capture; anchors = Some anchors; statements = given_octets verified (options.verified == 1)
-  ; keys = given_octets keys options.has_keys; macs = given_octets macs (options.has_keys && options.has_macs)
-  ; questions = questions }
+judged_files options capture anchors verified keys macs questions = record {
+  capture = capture;
+  anchors = Some anchors;
+  statements = given_octets verified (options.verified == 1);
+  keys = given_octets keys options.has_keys;
+  macs = given_octets macs (options.has_keys && options.has_macs);
+  questions = questions;
+}

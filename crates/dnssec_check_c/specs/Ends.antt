@@ -41,13 +41,14 @@ told_of_fault fault.WriteFailed = record { length = 0; message = 0; «record» =
 told_of_fault (fault.ReadFailed file) = told_of_file file (fault_number (fault.ReadFailed file))
 told_of_fault (fault.TooLong file) = told_of_file file (fault_number (fault.TooLong file))
 told_of_fault (fault.OpenFailed file) = told_of_file file (fault_number (fault.OpenFailed file))
-told_of_fault (fault.Refused why place) = record
-  { length = 0
-  ; message = unwrap_or place.message 0
-  ; «record» = unwrap_or place.«record» 0
-  ; line = unwrap_or place.line 0
-  ; number = fault_number (fault.Refused why place)
-  ; file = 0 }
+told_of_fault (fault.Refused why place) = record {
+  length = 0;
+  message = unwrap_or place.message 0;
+  «record» = unwrap_or place.«record» 0;
+  line = unwrap_or place.line 0;
+  number = fault_number (fault.Refused why place);
+  file = 0;
+}
 
 -- the fault of a run that writes into memory, where a failed write is want of it
 abbrev pub in_memory : Fault → Fault

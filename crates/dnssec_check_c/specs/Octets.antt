@@ -11,10 +11,11 @@ given_octets octets false = None
 
 -- the octets in the place of each file
 abbrev pub files_of : Octets → Files
-files_of octets = record
-  { capture = octets.capture.now
-  ; anchors = option_map (λ each. each.now) octets.anchors
-  ; statements = option_map (λ each. each.now) octets.statements
-  ; keys = option_map (λ each. each.now) octets.keys
-  ; macs = option_map (λ each. each.now) octets.macs
-  ; questions = option_map (λ each. each.now) octets.questions }
+files_of octets = record {
+  capture = octets.capture.now;
+  anchors = option_map (λ each. each.now) octets.anchors;
+  statements = option_map (λ each. each.now) octets.statements;
+  keys = option_map (λ each. each.now) octets.keys;
+  macs = option_map (λ each. each.now) octets.macs;
+  questions = option_map (λ each. each.now) octets.questions;
+}

@@ -111,7 +111,13 @@ pub fn check_each<'a>(
     };
     let request = judging(alloc, asking, manner, options.why);
     let octets = Octets::judged(
-        options, capture, anchors, verified, keys, macs, Some(questions),
+        options,
+        capture,
+        anchors,
+        verified,
+        keys,
+        macs,
+        Some(questions),
     );
     run_over(alloc, &request, &octets, buffer, outcome)
 }

@@ -36,9 +36,7 @@ pub extern "C" fn dnssec_check_c_list(
     ensures { CallEnds (AsksToList options.now listed) (listed_files options.now capture.now verified.now)
         buffer.old buffer.new outcome.new result }
 {
-    list(
-        alloc, capture, verified, options, listed, buffer, outcome,
-    )
+    list(alloc, capture, verified, options, listed, buffer, outcome)
 }
 
 /// Says what the capture proves of a question.
