@@ -55,7 +55,7 @@ enum dnssec_check_listing {
 enum dnssec_check_verified {
     DNSSEC_CHECK_NOTHING = 0,    /* nothing; the octets aren't looked at */
     DNSSEC_CHECK_STATEMENTS = 1, /* lines `good ALG KEY DATA SIG` or `bad ALG KEY DATA SIG`, in hex */
-    DNSSEC_CHECK_ANSWERS = 2     /* answers by the numbers of a list; DNSSEC_CHECK_MISUSED in this version */
+    DNSSEC_CHECK_ANSWERS = 2     /* answers by the numbers of a list; of no use to dnssec_check_list */
 };
 
 /* What octets are too long. */

@@ -7,7 +7,7 @@ use Rattle.dnsv_program.specs.declared.command_line.request.Request.{Request}
 use Rattle.dnsv_program.specs.declared.status.Fault.{Fault}
 use Rattle.dnsv_program.specs.declared.status.Fault.TheVariants as fault
 use Rattle.dnsv_program.specs.declared.status.InputFile.{InputFile}
-use Rattle.dnsv_program.specs.declared.status.InputFile.TheVariants.{Anchors, Capture, Keys, Macs, Questions, Statements}
+use Rattle.dnsv_program.specs.declared.status.InputFile.TheVariants.{Anchors, Answers, Capture, Keys, Macs, Questions, Statements}
 use Rattle.dnsv_program.specs.declared.status.Status.{Status}
 use Rattle.dnssec_check_c.specs.declared.outcome.Outcome.{Outcome}
 
@@ -25,6 +25,7 @@ abbrev pub file_number : InputFile → ℕ
 file_number Capture = 1
 file_number Anchors = 2
 file_number Statements = 3
+file_number Answers = 3
 file_number Keys = 4
 file_number Macs = 5
 file_number Questions = 6

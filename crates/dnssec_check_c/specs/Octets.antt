@@ -15,6 +15,7 @@ files_of octets = record {
   capture = octets.capture.now;
   anchors = option_map (λ each. each.now) octets.anchors;
   statements = option_map (λ each. each.now) octets.statements;
+  answers = option_map (λ each. each.now) octets.answers;
   keys = option_map (λ each. each.now) octets.keys;
   macs = option_map (λ each. each.now) octets.macs;
   questions = option_map (λ each. each.now) octets.questions;

@@ -7,7 +7,7 @@ use crate::octets::Octets;
 use crate::options::{Manner, Options, listing_of, type_of};
 use crate::outcome::{Outcome, misuse, refuse};
 use crate::running::run_over;
-use dnsv_program::{Asking, Fault, Request};
+use dnsv_program::{Asking, Fault, Known, Request};
 use std::alloc::Global;
 
 /// Shows every message of the capture.
@@ -33,7 +33,7 @@ pub fn list<'a>(
     ensures { CallEnds (AsksToList options.now listed) (listed_files options.now capture.now verified.now)
         buffer.old buffer.new outcome.new result }
 {
-    let Some(manner) = options.manner() else {
+    let Some(manner) = options.list_manner() else {
         return misuse(outcome);
     };
     let Some(listing) = listing_of(listed) else {
@@ -71,6 +71,9 @@ pub fn check<'a>(
     let Some(manner) = options.manner() else {
         return misuse(outcome);
     };
+    let Some(known) = options.known(alloc) else {
+        return misuse(outcome);
+    };
     let Some(rtype) = type_of(rtype) else {
         return misuse(outcome);
     };
@@ -81,7 +84,7 @@ pub fn check<'a>(
         return refuse(&Fault::OutOfMemory, outcome);
     };
     let asking = Asking::One { name, rtype };
-    let request = judging(alloc, asking, manner, options.why);
+    let request = judging(alloc, asking, known, manner, options.why);
     let octets = Octets::judged(options, capture, anchors, verified, keys, macs, None);
     run_over(alloc, &request, &octets, buffer, outcome)
 }
@@ -106,10 +109,13 @@ pub fn check_each<'a>(
     let Some(manner) = options.manner() else {
         return misuse(outcome);
     };
+    let Some(known) = options.known(alloc) else {
+        return misuse(outcome);
+    };
     let asking = Asking::Each {
         questions: String::new(alloc),
     };
-    let request = judging(alloc, asking, manner, options.why);
+    let request = judging(alloc, asking, known, manner, options.why);
     let octets = Octets::judged(
         options,
         capture,
@@ -123,15 +129,15 @@ pub fn check_each<'a>(
 }
 
 /// The request to judge what is asked.
-fn judging(alloc: Global, asking: Asking, manner: Manner, why: bool) -> Request
-    ensures { Judges asking manner.moment manner.format why result }
+fn judging(alloc: Global, asking: Asking, known: Known, manner: Manner, why: bool) -> Request
+    ensures { Judges asking known manner.moment manner.format why result }
 {
     Request::Check {
         capture: String::new(alloc),
         anchors: String::new(alloc),
         moment: manner.moment,
         asking,
-        statements: None,
+        known,
         keys: None,
         macs: None,
         format: manner.format,

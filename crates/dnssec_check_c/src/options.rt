@@ -1,12 +1,14 @@
 //! How a call asks.
 ghost use Rattle.std.specs.Prelude.{◌≡◌, ◌<◌, ◌≤◌, ◌^◌, ◌==◌, ◌&&◌, MatchOption, ℕ};
 ghost use Rattle.dnsv_texts.specs.declared.format.Format.{Format};
+ghost use Rattle.dnsv_program.specs.declared.command_line.request.Known.{Known};
 ghost use Rattle.dnsv_program.specs.declared.command_line.request.Listing.{Listing};
-ghost use Rattle.dnssec_check_c.specs.Asked.{IsFormat, IsListing, IsManner};
+ghost use Rattle.dnssec_check_c.specs.Asked.{IsFormat, IsKnown, IsListing, IsManner};
 
 use dnsv_names::RecordType;
-use dnsv_program::{Listing, Moment};
+use dnsv_program::{Known, Listing, Moment};
 use dnsv_texts::Format;
+use std::alloc::Global;
 
 /// At which moment and by what a capture is judged, and how that is written.
 #[repr(C)]
@@ -14,7 +16,7 @@ use dnsv_texts::Format;
 pub struct Options {
     /// The moment in seconds since 1970, up to 2^48 - 1.
     pub moment: u64,
-    /// What it says of signatures that were verified: 0 is nothing, 1 statements.
+    /// What it says of signatures that were verified: 0 is nothing, 1 statements, 2 answers by number.
     pub verified: u32,
     /// How the text is written: 0 is lines, 1 JSON.
     pub format: u32,
@@ -39,9 +41,6 @@ impl Options {
         ensures { MatchOption result ((moment : ℕ) (form : Format) → IsManner self.now moment form → ⊥)
             (λ manner. IsManner self.now manner.moment manner.format) }
     {
-        if self.verified > 1 {
-            return None;
-        }
         let Some(moment) = Moment::new(self.moment) else {
             return None;
         };
@@ -51,11 +50,42 @@ impl Options {
         Some(Manner { moment, format })
     }
 
-    /// Whether what was verified is given.
+    /// The same of a list, which takes no answers.
+    pub fn list_manner(&self) -> Option<Manner>
+        ensures { MatchOption result ((moment : ℕ) (form : Format) → self.now.verified ≤ 1
+            → IsManner self.now moment form → ⊥)
+            (λ manner. (self.now.verified ≤ 1) × IsManner self.now manner.moment manner.format) }
+    {
+        if self.verified > 1 {
+            return None;
+        }
+        self.manner()
+    }
+
+    /// By what it is known which signatures are good, where the number names it.
+    pub fn known(&self, alloc: Global) -> Option<Known>
+        ensures { MatchOption result ((known : Known) → IsKnown known self.now.verified → ⊥)
+            (λ known. IsKnown known self.now.verified) }
+    {
+        match self.verified {
+            0 | 1 => Some(Known::Statements(None)),
+            2 => Some(Known::Answers(String::new(alloc))),
+            _ => None,
+        }
+    }
+
+    /// Whether statements are given.
     pub fn has_statements(&self) -> bool
         ensures { result ≡ (self.now.verified == 1) }
     {
         self.verified == 1
+    }
+
+    /// Whether answers by number are given.
+    pub fn has_answers(&self) -> bool
+        ensures { result ≡ (self.now.verified == 2) }
+    {
+        self.verified == 2
     }
 
     /// Whether the MACs of requests are read.

@@ -86,7 +86,7 @@ fn number_of(file: InputFile) -> u32
     match file {
         InputFile::Capture => 1,
         InputFile::Anchors => 2,
-        InputFile::Statements => 3,
+        InputFile::Statements | InputFile::Answers => 3,
         InputFile::Keys => 4,
         InputFile::Macs => 5,
         InputFile::Questions => 6,

@@ -10,4 +10,4 @@ returns c =
     request_ends (AsksToList c.args.options.now c.args.listed)
     (request.List c.new.result c.in-Some.manner.moment None c.in-Some-listing_of.listing c.in-Some.manner.format)
     (listed_files c.args.options.now c.args.capture.now c.args.verified.now) (files_of c.listed-octets.result) c.run_over.ensures.ends
-    c.run_over.ensures.question c.listed-octets.ensures (c.in-Some-listing_of.ensures, c.in-Some.ensures)
+    c.run_over.ensures.question c.listed-octets.ensures (c.in-Some-listing_of.ensures, c.in-Some.ensures.0, c.in-Some.ensures.1)
