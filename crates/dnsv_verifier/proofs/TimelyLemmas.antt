@@ -1,5 +1,5 @@
 -- Signed data begins with the times of its signature, so what is left of a table at one moment is its table.
-use Rattle.std.proofs.Common.{◌≡◌, ◌↔◌, ℕ, ◌+◌, ◌-◌, ◌*◌, ◌/◌, ◌%◌, ◌^◌, ◌<◌, ◌≤◌, ◌&&◌, Bool, true, false, cond, nat_lt, inl, inr, ⊎_elim, List, [], ◌∷◌, ◌++◌, Some, length, get_or, map, take, refl, sym, ap, ◌∙◌, subst, arith, IsTrue}
+use Rattle.std.proofs.Common.{◌≡◌, ◌↔◌, ℕ, ◌+◌, ◌-◌, ◌*◌, ◌/◌, ◌%◌, ◌^◌, ◌<◌, ◌≤◌, ◌&&◌, Bool, true, false, cond, nat_lt, inl, inr, ⊎_elim, List, [], ◌∷◌, ◌++◌, Some, Result, Ok, Err, IfOk, length, get_or, map, take, refl, sym, ap, ◌∙◌, subst, arith, IsTrue}
 use Rattle.std.proofs.Math.Nat.{add-mul-mod_self_right, div-div-eq-div-mul, mod-mod}
 use Rattle.std.proofs.lemmas.Bool.{true≢false}
 use Rattle.std.proofs.lemmas.Bool.Decides.{nat_tests}
@@ -19,6 +19,7 @@ use Rattle.dnsv_records.specs.declared.rrsig.Rrsig.{Rrsig}
 use Rattle.dnsv_canonical.specs.Rrsets.{ReceivedRrset}
 use Rattle.dnsv_canonical.specs.SignedData.{IsSignedData, signed_front, signed_owner, signed_record}
 use Rattle.dnsv_canonical.proofs.CanonicalLemmas.{IsMember, IsMember-from_contains, Contains-from_member, rising_unique}
+use Rattle.dnsv_timeline.specs.Range.{Moments}
 use Rattle.dnsv_verifier.specs.Admissible.{IsAsked}
 use Rattle.dnsv_verifier.specs.Entry.{entry_cmp}
 use Rattle.dnsv_verifier.specs.EntryLaws.{entry_cmp_total, entry_Equal}
@@ -108,17 +109,18 @@ module _ (moment : ℕ) (entry : Entry) where
 
   pub timely_by : is_timely moment entry ≡ true → IsTimely moment entry
   timely_by passes =
-      let whole = both_pass (nat_lt 15 (length entry.signed_data)) (nat_lt Begun (2 ^ 31) && nat_lt Left (2 ^ 31)) passes in
-      let times = both_pass (nat_lt Begun (2 ^ 31)) (nat_lt Left (2 ^ 31)) whole.1 in
+      let whole = both_pass (nat_lt 15 (length entry.signed_data) && nat_lt Begun (2 ^ 31)) (nat_lt Left (2 ^ 31)) passes in
+      let first = both_pass (nat_lt 15 (length entry.signed_data)) (nat_lt Begun (2 ^ 31)) whole.0 in
       record {
-        long = below_is 15 (length entry.signed_data) whole.0;
-        valid = record { begun = below_is Begun (2 ^ 31) times.0; not_over = below_is Left (2 ^ 31) times.1 };
+        long = below_is 15 (length entry.signed_data) first.0;
+        valid = record { begun = below_is Begun (2 ^ 31) first.1; not_over = below_is Left (2 ^ 31) whole.1 };
       }
 
   pub timely_passes : IsTimely moment entry → is_timely moment entry ≡ true
   timely_passes timely =
-      pass_both (nat_lt 15 (length entry.signed_data)) (nat_lt Begun (2 ^ 31) && nat_lt Left (2 ^ 31)) (is_below 15 (length entry.signed_data) timely.long)
-      (pass_both (nat_lt Begun (2 ^ 31)) (nat_lt Left (2 ^ 31)) (is_below Begun (2 ^ 31) timely.valid.begun) (is_below Left (2 ^ 31) timely.valid.not_over))
+      pass_both (nat_lt 15 (length entry.signed_data) && nat_lt Begun (2 ^ 31)) (nat_lt Left (2 ^ 31))
+      (pass_both (nat_lt 15 (length entry.signed_data)) (nat_lt Begun (2 ^ 31)) (is_below 15 (length entry.signed_data) timely.long) (is_below Begun (2 ^ 31) timely.valid.begun))
+      (is_below Left (2 ^ 31) timely.valid.not_over)
 
   -- what is too short has no times
   pub short_fails : length entry.signed_data < 16 → false ≡ is_timely moment entry
@@ -276,15 +278,15 @@ zip_parts (each ∷ pairs) = ap (λ rest. each ∷ rest) (zip_parts pairs)
 
 module _ (parts : PartLists) (numbers : List EntryNumbers) (answers : List Answer) (each : length answers ≡ length numbers)
     (moment : ℕ) where
-  abbrev Left : List (EntryNumbers × Answer)
-  Left = filter (is_timely_in moment parts) (zip numbers answers)
+  abbrev Kept : List (EntryNumbers × Answer)
+  Kept = filter (is_timely_in moment parts) (zip numbers answers)
 
-  left_numbers : map (λ (pair : EntryNumbers × Answer). pair.0) Left ≡ filter (λ n. is_timely moment (entry_of parts n)) numbers
+  left_numbers : map (λ (pair : EntryNumbers × Answer). pair.0) Kept ≡ filter (λ n. is_timely moment (entry_of parts n)) numbers
   left_numbers =
       sym (filter_mapped (λ (pair : EntryNumbers × Answer). pair.0) (λ n. is_timely moment (entry_of parts n)) (zip numbers answers))
       ∙ ap (filter (λ n. is_timely moment (entry_of parts n))) (firsts-zip numbers answers each)
 
-  pub left_rising : AreRising parts numbers → AreRising parts (map (λ (pair : EntryNumbers × Answer). pair.0) Left)
+  pub left_rising : AreRising parts numbers → AreRising parts (map (λ (pair : EntryNumbers × Answer). pair.0) Kept)
   left_rising are = subst (λ (ns : List EntryNumbers). AreRising parts ns) (sym left_numbers) (record {
     keys = are.keys;
     signatures = are.signatures;
@@ -292,18 +294,26 @@ module _ (parts : PartLists) (numbers : List EntryNumbers) (answers : List Answe
     rising = IsStrictlySortedBy-filter numbers_cmp (λ n. is_timely moment (entry_of parts n)) numbers are.rising;
   })
 
-  pub left_each : length (map (λ (pair : EntryNumbers × Answer). pair.1) Left) ≡ length (map (λ (pair : EntryNumbers × Answer). pair.0) Left)
+  pub left_each : length (map (λ (pair : EntryNumbers × Answer). pair.1) Kept) ≡ length (map (λ (pair : EntryNumbers × Answer). pair.0) Kept)
   left_each =
-      length-map Left (λ (pair : EntryNumbers × Answer). pair.1) ∙ sym (length-map Left (λ (pair : EntryNumbers × Answer). pair.0))
+      length-map Kept (λ (pair : EntryNumbers × Answer). pair.1) ∙ sym (length-map Kept (λ (pair : EntryNumbers × Answer). pair.0))
 
-  pub left_table : (before : ℕ) → record {
+  left_table : (before : ℕ) → record {
     moment = moment;
-    answers = answers_of parts (zip (map (λ (pair : EntryNumbers × Answer). pair.0) Left) (map (λ (pair : EntryNumbers × Answer). pair.1) Left));
+    answers = answers_of parts (zip (map (λ (pair : EntryNumbers × Answer). pair.0) Kept) (map (λ (pair : EntryNumbers × Answer). pair.1) Kept));
   } ≡ left_at (record { moment = before; answers = answers_of parts (zip numbers answers) }) moment
   left_table before =
-      let listed = ap (answers_of parts) (zip_parts Left)
+      let listed = ap (answers_of parts) (zip_parts Kept)
       ∙ sym (filter_mapped (λ (pair : EntryNumbers × Answer). (entry_of parts pair.0, pair.1)) (λ (one : Entry × Answer). is_timely moment one.0) (zip numbers answers)) in
       λ i. record { moment = moment; answers = listed i }
+
+  pub left_by : (before : ℕ) (copied : PartLists) (kept : List EntryNumbers) (said : List Answer) (table result : TableContents)
+      → copied ≡ parts → kept ≡ map (λ (pair : EntryNumbers × Answer). pair.0) Kept → said ≡ map (λ (pair : EntryNumbers × Answer). pair.1) Kept
+      → record { moment = before; answers = answers_of parts (zip numbers answers) } ≡ table
+      → result ≡ record { moment = moment; answers = answers_of copied (zip kept said) } → result ≡ left_at table moment
+  left_by before copied kept said table result same numbers_are answers_are view is =
+      is ∙ (λ i. record { moment = moment; answers = answers_of (same i) (zip (numbers_are i) (answers_are i)) })
+      ∙ left_table before ∙ ap (λ (t : TableContents). left_at t moment) view
 
 -- a range of one moment
 asked_then : (moment : ℕ) (rrsets : List ReceivedRrset) (entry : Entry) → IsAskedWithin moment moment rrsets entry → IsAsked moment rrsets entry
@@ -313,7 +323,7 @@ asked_then moment rrsets entry within =
     let same : within.moment ≡ moment = omega arith in
     subst (λ m. IsAsked m rrsets entry) same within.asked
 
-pub table_then : (meaning : Entry → Answer) (moment : ℕ) (rrsets : List ReceivedRrset) (table : TableContents)
+table_then : (meaning : Entry → Answer) (moment : ℕ) (rrsets : List ReceivedRrset) (table : TableContents)
     → table.moment ≡ moment → IsTableWithin meaning moment moment rrsets table → IsTableOf meaning moment rrsets table
 table_then meaning moment rrsets table of_moment is =
     let itself : moment ≤ moment = omega arith in
@@ -327,6 +337,14 @@ table_then meaning moment rrsets table of_moment is =
       );
       answers = is.answers;
     }
+
+pub ok_then : {E : Type 0} (meaning : Entry → Answer) (moment : ℕ) (rrsets : List ReceivedRrset) (range : Moments) (result : Result TableContents E)
+    → range ≡ record { from = moment; to = moment } → IfOk result (λ table. table.moment ≡ range.from)
+    → IfOk result (λ table. IsTableWithin meaning range.from range.to rrsets table) → IfOk result (λ table. IsTableOf meaning moment rrsets table)
+ok_then meaning moment rrsets range (Ok table) one of_moment is =
+    table_then meaning moment rrsets table (of_moment ∙ ap (λ (r : Moments). r.from) one)
+    (subst (λ (r : Moments). IsTableWithin meaning r.from r.to rrsets table) one is)
+ok_then meaning moment rrsets range (Err error) one of_moment is = tt
 
 -- one list of answers
 pub only_within : (meaning : Entry → Answer) (from to : ℕ) (rrsets : List ReceivedRrset) (a b : TableContents)
