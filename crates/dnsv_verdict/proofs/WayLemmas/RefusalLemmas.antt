@@ -91,7 +91,7 @@ one_refused_for basis name t a b p q =
     (ways_compared basis t name p.links p.last q.links q.last p.way q.way)
 
 -- a question whose way stops is refused so, and where it is refused its way stops
-pub refused_where_stopped : (basis : Basis) (name : Labels) (t : ℕ) (links : List Link) (alias : Link) (error : VerdictError)
+abbrev pub refused_where_stopped : (basis : Basis) (name : Labels) (t : ℕ) (links : List Link) (alias : Link) (error : VerdictError)
     → IsStoppedAt basis name t links alias error → IsRefusedFor basis name t error
 refused_where_stopped basis name t links alias error is = record {
   links = links;
