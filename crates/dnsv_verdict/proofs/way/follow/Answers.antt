@@ -29,7 +29,7 @@ returns-in-Err-clause-end c =
     let last = c.links.way.last in
     let k = c.in-Some.alias.0 in
     let s = c.in-Some.alias.1 in
-    let alias = alias_there case.rrsets case.anchors case.table last c.args.rtype.0 c.in_ok-verdict.verdict k s (MatchOption-at_some _ _ (k, s) c.in-Some.is c.alias_of.ensures) c.in_ok-verdict.ensures.value in
+    let alias = alias_there case.rrsets case.anchors case.table last c.args.rtype.0 c.in_ok-verdict.verdict k s (MatchOption-at_some _ _ c.in-Some.alias c.in-Some.is c.alias_of.ensures) c.in_ok-verdict.ensures.value in
     followed_to_stop case.rrsets case.anchors case.table c.args.rtype.0 c.args.name.now c.args.hashed.now
     c.links.hashed c.links.way.links last k s c.in-Err.error c.links.invariant.0 alias (IfErr-at_err _ c.in-Err.is c.next_name.ensures.stops)
 
@@ -37,7 +37,7 @@ pub returns-in-Err-clause-kept : goal.returns-in-Err-clause-kept
 returns-in-Err-clause-kept c =
     kept_to_stop c.args.case.now c.args.rtype.0 c.links.way.links c.links.way.last c.in-Some.alias.0 c.in-Some.alias.1 c.in_ok-verdict.verdict
     c.args.trail.now c.links.trail c.verdict_at.new.trail
-    (MatchOption-at_some _ _ (c.in-Some.alias.0, c.in-Some.alias.1) c.in-Some.is c.alias_of.ensures) c.links.invariant.1 c.in_ok-verdict.ensures.kept
+    (MatchOption-at_some _ _ c.in-Some.alias c.in-Some.is c.alias_of.ensures) c.links.invariant.1 c.in_ok-verdict.ensures.kept
 
 pub returns-in-Err-clause-unkept : goal.returns-in-Err-clause-unkept
 returns-in-Err-clause-unkept c =
@@ -51,8 +51,8 @@ links-preserved c =
     let k = c.in-Some.alias.0 in
     let s = c.in-Some.alias.1 in
     let target = c.in-Ok.target in
-    let alias = alias_there case.rrsets case.anchors case.table last c.args.rtype.0 c.in_ok-verdict.verdict k s (MatchOption-at_some _ _ (k, s) c.in-Some.is c.alias_of.ensures) c.in_ok-verdict.ensures.value in
-    let is = MatchOption-at_some _ _ (k, s) c.in-Some.is c.alias_of.ensures in
+    let alias = alias_there case.rrsets case.anchors case.table last c.args.rtype.0 c.in_ok-verdict.verdict k s (MatchOption-at_some _ _ c.in-Some.alias c.in-Some.is c.alias_of.ensures) c.in_ok-verdict.ensures.value in
+    let is = MatchOption-at_some _ _ c.in-Some.alias c.in-Some.is c.alias_of.ensures in
     rw (c.longer.ensures.links, c.longer.ensures.last) (
       followed_more case.rrsets case.anchors case.table c.args.rtype.0 c.args.name.now c.args.hashed.now c.links.hashed
           c.verdict_at.new.hashed c.links.way.links last k s target c.links.invariant.0 alias
