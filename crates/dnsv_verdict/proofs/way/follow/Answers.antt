@@ -53,7 +53,7 @@ links-preserved c =
     let target = c.in-Ok.target in
     let alias = alias_there case.rrsets case.anchors case.table last c.args.rtype.0 c.in_ok-verdict.verdict k s (MatchOption-at_some _ _ c.in-Some.alias c.in-Some.is c.alias_of.ensures) c.in_ok-verdict.ensures.value in
     let is = MatchOption-at_some _ _ c.in-Some.alias c.in-Some.is c.alias_of.ensures in
-    rw (c.longer.ensures.links, c.longer.ensures.last) (
+    rw (c.longer-way.ensures.links, c.longer-way.ensures.last) (
       followed_more case.rrsets case.anchors case.table c.args.rtype.0 c.args.name.now c.args.hashed.now c.links.hashed
           c.verdict_at.new.hashed c.links.way.links last k s target c.links.invariant.0 alias
           (counted_last case.rrsets c.links.way.links last c.args.hashed.now c.links.hashed c.verdict_at.new.hashed

@@ -1,6 +1,4 @@
-use Rattle.std.proofs.Common.{List}
 use Rattle.dnsv_verdict.proofs.WayLemmas.RefusalLemmas.{one_stopped, refused_where_stopped, stopped_where_refused}
-use Rattle.dnsv_verdict.specs.declared.link.Link.{Link}
 use Rattle.dnsv_verdict.proofs.ways.a_question_stops_at_one_alias.Goals as goal
 
 pub returns-clause-refusal : goal.returns-clause-refusal
