@@ -127,8 +127,8 @@ impl<'a> Explainer<'a> {
             ⊎ ((error ≡ VerdictError.BadQuestion) × (¬ IsQuestion name.now rtype.0))) }
         ensures same { self.new ≡ self.old }
     {
-        let traced = self.open_case.trace(alloc, name, rtype)?;
         let case = self.open_case.case();
+        let traced = case.trace(alloc, name, rtype)?;
         // What is true of every case.
         let _trust = case.trust();
         let bare = evidence_of(case, None);

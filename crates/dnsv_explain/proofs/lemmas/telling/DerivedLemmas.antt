@@ -80,21 +80,22 @@ is_last : (xs : List Link) (x : Link) → length (xs ++ x ∷ []) ≡ length xs 
 is_last [] x = refl
 is_last (y ∷ xs) x = let more = is_last xs x in omega (arith, more)
 
-module _ (explained : Explained) (links : List Link) (alias : Link) where
+module _ (explained : Explained) (case : CaseContents) (same : explained ≡ explained_by case []) (links : List Link) (alias : Link) where
   abbrev Says : Link → List Line → List Line → Type 0
   Says = IsLinkTold (setting_in explained)
 
   -- its lines are behind those of the links
   pub alias_told : (old mid new : List Line) → old ≡ [] → Adds (AreEach Says links) old mid → Adds (Says alias) mid new
-      → AreLinksTold explained (links ++ alias ∷ []) new
+      → AreLinksTold (explained_by case []) (links ++ alias ∷ []) new
   alias_told old mid new empty front back =
       let all : List Link = links ++ alias ∷ [] in
       let Each : List Link → Type 0 = λ each. Adds (AreEach Says each) old mid in
+      let Told : Explained → Type 0 = λ each. AreLinksTold each all new in
       let long = is_last links alias in
       let taken : Adds (AreEach Says (take (length links) all)) old mid = subst Each (sym (front_of links alias)) front in
-      said_first (AreEach Says all) old new empty
+      subst Told same (said_first (AreEach Says all) old new empty
       (all_added Says all (length links + 1) old new (omega (arith, long))
-      (next_added Says all (length links) alias alias old mid new (omega (arith, long)) (behind_all links alias alias) taken back))
+      (next_added Says all (length links) alias alias old mid new (omega (arith, long)) (behind_all links alias alias) taken back)))
 
 -- ---- what the verifier says
 
