@@ -69,7 +69,7 @@ impl<'a> Explainer<'a> {
     /// That of a case which was made elsewhere, so that nobody is asked anything. The case is of what some verifier says
     /// of its evidence, as each case of `Case::new` is, and each of `Case::of` with a table of the capture.
     pub fn of(alloc: Global, case: Case<'a>) -> Result<Explainer<'a>, AllocError>
-        requires { (basis : Basis) × IsCaseOf basis case.entry }
+        requires { (basis : Basis) × IsCaseOf basis case }
         ensures contents { IfOk result (λ explainer. explainer ≡ case.entry) }
         // Whoever the case is of, it is that verifier's.
         ensures basis { (basis : Basis) → IsCaseOf basis case.entry → IfOk result (IsCaseOf basis) }

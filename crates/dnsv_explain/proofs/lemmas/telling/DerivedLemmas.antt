@@ -1,16 +1,18 @@
 -- What derives a question, of a verdict or of an alias that can't be followed.
-use Rattle.std.proofs.Common.{◌≡◌, ◌∙◌, ◌+◌, ◌<◌, ℕ, zero, suc, List, [], ◌∷◌, ◌++◌, ap, arith, get_or, length, map, refl, sym, subst, take}
+use Rattle.std.proofs.Common.{◌≡◌, ◌∙◌, ◌+◌, ℕ, List, [], ◌∷◌, ◌++◌, ap, arith, get_or, length, refl, sym, subst, take}
 use Rattle.dnsv_names.specs.Name.{Labels}
 use Rattle.dnsv_canonical.specs.Rrsets.{ReceivedRrset}
 use Rattle.dnsv_chain.specs.declared.anchor.Anchor.{Anchor}
 use Rattle.dnsv_verdict.specs.Case.{CaseContents, IsCaseOf}
 use Rattle.dnsv_verdict.specs.Verdict.{Basis}
+use Rattle.dnsv_verdict.specs.Way.{IsStoppedAt}
+use Rattle.dnsv_verdict.specs.declared.error.VerdictError.{VerdictError}
 use Rattle.dnsv_verdict.specs.declared.link.Link.{Link}
 use Rattle.dnsv_verdict.specs.declared.verdict.Verdict.{Verdict}
 use Rattle.dnsv_verdict.specs.declared.verdict.Verdict.TheVariants.{SecureAnswer, SecureAlias, SecureNoName, SecureNoData, Insecure, Pending, Bogus, Indeterminate}
-use Rattle.dnsv_derivations.specs.Explained.{Explained, Setting, setting_in}
+use Rattle.dnsv_derivations.specs.Explained.{Explained, setting_in}
 use Rattle.dnsv_derivations.specs.Saying.{Adds, AreEach}
-use Rattle.dnsv_explain.specs.Derived.{AreLinksDerived, AreLinksTold, IsDerivationOf, IsDerivationTold}
+use Rattle.dnsv_explain.specs.Derived.{AreLinksDerived, AreLinksTold, IsDerivationOf, IsDerivationTold, IsRefusalDerived}
 use Rattle.dnsv_explain.specs.Explained.{explained_by}
 use Rattle.dnsv_explain.specs.Explanation.{IsLinkTold, IsUnproved, IsVerdictTold, IsWayTold}
 use Rattle.dnsv_lines.specs.declared.line.Line.{Line}
@@ -117,3 +119,20 @@ module _ (basis : Basis) (case : CaseContents) (are : IsCaseOf basis case) (link
       let Rrsets : List ReceivedRrset → Type 0 = λ each. By each case.anchors in
       let Anchors : List Anchor → Type 0 = λ each. By basis.rrsets each in
       record { table = case.table; of = are.table; told = subst Anchors are.anchors (subst Rrsets are.rrsets told) }
+
+-- a way that stops at an alias is refused for it
+pub stop_derived : (basis : Basis) (case : CaseContents) (are : IsCaseOf basis case) (name : Labels) (t : ℕ) (links : List Link)
+    (alias : Link) (error : VerdictError) (lines : List Line) → IsStoppedAt basis name t links alias error
+    → AreLinksTold (explained_by case []) (links ++ alias ∷ []) lines → IsRefusalDerived basis name t error lines
+stop_derived basis case are name t links alias error lines stops told = record {
+  is = record {
+    links = links;
+    last = alias.name;
+    way = stops.way;
+    k = alias.rrset;
+    s = alias.signature;
+    is_alias = stops.is_alias;
+    stops = stops.stops;
+  };
+  derived = links_of basis case are (links ++ alias ∷ []) lines told;
+}
