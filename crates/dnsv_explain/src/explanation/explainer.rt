@@ -186,10 +186,10 @@ fn hoped_ways(
 }
 
 /// What is told of a question of the case, and the lines that derive it, by the first ways into its RRsets.
-fn derive_by<'a>(
+fn derive_by<'s, 'a>(
     alloc: Global,
-    open_case: &mut OpenCase<'a>,
-    ways: &[KeptWay],
+    open_case: &'s mut OpenCase<'a>,
+    ways: &'s [KeptWay],
     hoped: &mut Vec<KeptWay>,
     name: &Name,
     rtype: RecordType,
