@@ -1,3 +1,2 @@
-pub mod Derived
 pub mod Said
 pub mod SameValid

@@ -15,7 +15,7 @@ use Rattle.dnsv_verdict.specs.declared.verdict.Verdict.{Verdict}
 use Rattle.dnsv_derivations.specs.intervals.Holding.{signature_shown}
 use Rattle.dnsv_lines.specs.declared.line.Line.{Line}
 use Rattle.dnsv_texts.specs.Checking.{alias_line, reason_lines, verdict_word}
-use Rattle.dnsv_timeline_laws.specs.Derived.{AreLinksDerived, IsDerivationOf}
+use Rattle.dnsv_explain.specs.Derived.{AreLinksDerived, IsDerivationOf, alias_of}
 use Rattle.dnsv_timeline_laws.specs.SameValid.{at_moment}
 
 -- ---- the signatures
@@ -62,10 +62,6 @@ pub record IsVerdictSaid (basis : Basis) (name : Labels) (t : ℕ) (said : Said)
   pub lines : List Line
   pub derived : IsDerivationOf basis t links last verdict lines
   pub by : AreShownIn lines said.by
-
--- an alias at the last name
-abbrev pub alias_of : Labels → ℕ → ℕ → Link
-alias_of last k s = record { name = last; rrset = k; signature = s }
 
 -- it is refused so, and what derives the links and then the alias that can't be followed shows these
 pub record IsRefusalSaid (basis : Basis) (name : Labels) (t : ℕ) (said : Said) : Type 0 where
