@@ -1,4 +1,5 @@
 pub mod Derived
+pub mod Kinds
 pub mod Said
 pub mod SameValid
 pub mod Within
