@@ -2,4 +2,3 @@ pub mod Derived
 pub mod Kinds
 pub mod Said
 pub mod SameValid
-pub mod Within
