@@ -1,4 +1,5 @@
 pub mod At
+pub mod Derived
 pub mod Explained
 pub mod Explanation
 pub mod KeyLines

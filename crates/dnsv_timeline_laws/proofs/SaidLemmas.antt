@@ -14,7 +14,8 @@ use Rattle.dnsv_timeline.specs.declared.stretch.Stretch.{Stretch}
 use Rattle.dnsv_timeline.specs.declared.times.Times.{Times}
 use Rattle.dnsv_timeline_laws.proofs.MomentLemmas.{refused_to, same_by_times, verdict_of_to}
 use Rattle.dnsv_timeline_laws.proofs.ToldLemmas.{derivation_of, links_derived}
-use Rattle.dnsv_timeline_laws.specs.Said.{IsKindAt, IsRefusalSaid, IsSaid, IsSaidAt, IsVerdictSaid, Said, Told, alias_of, told_refusal, told_verdict}
+use Rattle.dnsv_timeline_laws.specs.Said.{IsKindAt, IsRefusalSaid, IsSaid, IsSaidAt, IsVerdictSaid, Said, Told, told_refusal, told_verdict}
+use Rattle.dnsv_explain.specs.Derived.{alias_of}
 use Rattle.dnsv_timeline_laws.specs.Said.IsSaid.{a_refusal, a_verdict}
 use Rattle.dnsv_timeline_laws.specs.SameValid.{AreSignaturesSameValid, HaveTimes, at_moment}
 use Rattle.dnsv_timeline_laws.specs.declared.kind.Kind.{Kind}

@@ -16,7 +16,7 @@ use Rattle.dnsv_lines.specs.declared.line.Line.{Line}
 use Rattle.dnsv_texts.specs.Told.{told_text}
 use Rattle.dnsv_texts.specs.declared.format.Format.{Format}
 use Rattle.dnsv_texts.specs.declared.format.Format.TheVariants.{Lines}
-use Rattle.dnsv_timeline_laws.specs.Derived.{AreLinksDerived, IsDerivationOf}
+use Rattle.dnsv_explain.specs.Derived.{AreLinksDerived, IsDerivationOf, alias_of}
 use Rattle.dnsv_timeline_laws.specs.Kinds.{verdict_kind}
 use Rattle.dnsv_timeline_laws.specs.SameValid.{at_moment}
 use Rattle.dnsv_timeline_laws.specs.declared.kind.Kind.{Kind}
@@ -67,10 +67,6 @@ pub record IsVerdictSaid (format : Format) (basis : Basis) (name : Labels) (t : 
   pub lines : List Line
   pub derived : IsDerivationOf basis t links last verdict lines
   pub by : AreShownIn lines said.by
-
--- an alias at the last name
-abbrev pub alias_of : Labels → ℕ → ℕ → Link
-alias_of last k s = record { name = last; rrset = k; signature = s }
 
 -- it is refused so, and what derives the links and then the alias that can't be followed shows these
 pub record IsRefusalSaid (basis : Basis) (name : Labels) (t : ℕ) (said : Said) : Type 0 where
