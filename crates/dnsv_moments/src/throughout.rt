@@ -33,11 +33,18 @@ fn all_tell(stretches: &[Stretch<Said>], kind: Kind) -> bool
     ensures { IsTrue result ↔ TellKind kind stretches.now }
 {
     for stretch in stretches {
-        if !is_same_kind(stretch.said.kind(), kind) {
+        if !tells(stretch, kind) {
             return false;
         }
     }
     true
+}
+
+/// Whether the stretch tells the kind.
+fn tells(stretch: &Stretch<Said>, kind: Kind) -> bool
+    ensures { IsTrue result ↔ stretch.now.said.told.kind ≡ kind }
+{
+    is_same_kind(stretch.said.kind(), kind)
 }
 
 /// Why each of the kinds is a refusal. `None` where not all are, by one number.
@@ -64,11 +71,18 @@ fn all_have(stretches: &[Stretch<Kind>], kind: Kind) -> bool
     ensures { IsTrue result ↔ HaveKind kind stretches.now }
 {
     for stretch in stretches {
-        if !is_same_kind(stretch.said, kind) {
+        if !has(stretch, kind) {
             return false;
         }
     }
     true
+}
+
+/// Whether the stretch has the kind.
+fn has(stretch: &Stretch<Kind>, kind: Kind) -> bool
+    ensures { IsTrue result ↔ stretch.now.said ≡ kind }
+{
+    is_same_kind(stretch.said, kind)
 }
 
 /// Why a question is refused. `None` where it has a verdict.
