@@ -24,7 +24,7 @@ use Rattle.dnsv_timeline_laws.specs.SameValid.{at_moment}
 use Rattle.dnsv_timeline_laws.specs.declared.kind.Kind.{Kind}
 use Rattle.dnsv_timeline_laws.specs.declared.kind.Kind.TheVariants.{Refused}
 use Rattle.dnsv_moments.specs.Moments.{MomentsContents, basis_with}
-use Rattle.dnsv_moments.specs.Question.{AllTell, IsRefusedThroughout}
+use Rattle.dnsv_moments.specs.Question.{AllTell, AreKindsFor, HaveKind, IsRefusedFor, IsRefusedThroughout, IsTimelineFor, TellKind}
 use Rattle.dnsv_moments.proofs.TimelineLemmas.{lies_within, says_of, some_stretch, stretch_at}
 
 -- ---- refusals
@@ -132,3 +132,67 @@ module _ (one_refusal : HasOneRefusal) (not_both : HasNotBoth) (meaning : Entry 
   pub refused_is_kind : (moment : ℕ) (kind : Kind) (error : VerdictError) → IsKindAt (basis_with meaning moments) name t moment kind
       → IsRefusedAt (at_moment (basis_with meaning moments) moment) name t error → kind ≡ Refused error
   refused_is_kind moment kind error is refused = is.kind_is ∙ refused_is_said Lines moment is.said error is.is refused
+
+-- ---- of a question that can be asked
+
+module _ (one_refusal : HasOneRefusal) (not_both : HasNotBoth) (meaning : Entry → Answer) (moments : MomentsContents) (name : Labels) (t : ℕ)
+    (turned : moments.from ≤ moments.to) (question : IsQuestion name t) where
+  module _ (format : Format) (xs : List (Stretch Said)) (timeline : IsTimelineFor meaning moments format name t xs) where
+    abbrev SaysSo : ℕ → Said → Type 0
+    SaysSo = IsSaidAt format (basis_with meaning moments) name t
+
+    abbrev kind_told : Said → Kind
+    kind_told said = said.told.kind
+
+    pub said_told : (error : VerdictError) → TellKind (Refused error) xs → IsRefusedFor meaning moments name t error
+    said_told error all =
+        throughout SaysSo kind_told (basis_with meaning moments) moments.from moments.to name t turned question
+        (said_is_refused one_refusal not_both meaning moments name t format) (refused_is_said one_refusal not_both meaning moments name t format)
+        xs timeline error all
+
+    pub said_one : (one other : VerdictError) → TellKind (Refused one) xs → IsRefusedFor meaning moments name t other → one ≡ other
+    said_one one other all is =
+        sym (one_throughout SaysSo kind_told (basis_with meaning moments) moments.from moments.to name t turned question
+        (said_is_refused one_refusal not_both meaning moments name t format) (refused_is_said one_refusal not_both meaning moments name t format)
+        xs timeline one other all is)
+
+    pub said_none : ((error : VerdictError) → xs ≢ [] → ¬ TellKind (Refused error) xs) → (error : VerdictError)
+        → ¬ IsRefusedFor meaning moments name t error
+    said_none none error is =
+        none error
+        (not_empty SaysSo kind_told (basis_with meaning moments) moments.from moments.to name t turned question
+        (said_is_refused one_refusal not_both meaning moments name t format) (refused_is_said one_refusal not_both meaning moments name t format)
+        xs timeline)
+        (all_refused SaysSo kind_told (basis_with meaning moments) moments.from moments.to name t turned question
+        (said_is_refused one_refusal not_both meaning moments name t format) (refused_is_said one_refusal not_both meaning moments name t format)
+        xs timeline error is)
+
+  module _ (xs : List (Stretch Kind)) (timeline : AreKindsFor meaning moments name t xs) where
+    abbrev IsSo : ℕ → Kind → Type 0
+    IsSo = IsKindAt (basis_with meaning moments) name t
+
+    abbrev kind_itself : Kind → Kind
+    kind_itself kind = kind
+
+    pub kinds_told : (error : VerdictError) → HaveKind (Refused error) xs → IsRefusedFor meaning moments name t error
+    kinds_told error all =
+        throughout IsSo kind_itself (basis_with meaning moments) moments.from moments.to name t turned question
+        (kind_is_refused one_refusal not_both meaning moments name t) (refused_is_kind one_refusal not_both meaning moments name t)
+        xs timeline error all
+
+    pub kinds_one : (one other : VerdictError) → HaveKind (Refused one) xs → IsRefusedFor meaning moments name t other → one ≡ other
+    kinds_one one other all is =
+        sym (one_throughout IsSo kind_itself (basis_with meaning moments) moments.from moments.to name t turned question
+        (kind_is_refused one_refusal not_both meaning moments name t) (refused_is_kind one_refusal not_both meaning moments name t)
+        xs timeline one other all is)
+
+    pub kinds_none : ((error : VerdictError) → xs ≢ [] → ¬ HaveKind (Refused error) xs) → (error : VerdictError)
+        → ¬ IsRefusedFor meaning moments name t error
+    kinds_none none error is =
+        none error
+        (not_empty IsSo kind_itself (basis_with meaning moments) moments.from moments.to name t turned question
+        (kind_is_refused one_refusal not_both meaning moments name t) (refused_is_kind one_refusal not_both meaning moments name t)
+        xs timeline)
+        (all_refused IsSo kind_itself (basis_with meaning moments) moments.from moments.to name t turned question
+        (kind_is_refused one_refusal not_both meaning moments name t) (refused_is_kind one_refusal not_both meaning moments name t)
+        xs timeline error is)
