@@ -1,3 +1,4 @@
+use Rattle.std.proofs.Common.{sym}
 use Rattle.dnsv_verdict.specs.Verdict.{basis_of}
 use Rattle.dnsv_moments.proofs.SayingLemmas.{case_at}
 use Rattle.dnsv_moments.proofs.moments.Moments.explainer_at.Goals as goal
@@ -21,7 +22,7 @@ returns c = λ meaning by begun within.
       from = inside.range.from;
       to = inside.range.to;
       table = inside.table;
-    }) c.self.view_is meaning c.args.moment c.nearest-nearest.result c.in_ok-explainer.explainer by begun within
+    }) (sym c.self.view_is) meaning c.args.moment c.nearest-nearest.result c.in_ok-explainer.explainer by begun within
     c.nearest-nearest.ensures.same
     (λ is. c.in_ok-explainer.ensures.basis (basis_of inside.capture.now.rrsets inside.anchors.now c.nearest-nearest.result meaning)
     (c.in_ok-case.ensures.basis meaning c.nearest-nearest.result
