@@ -1,5 +1,5 @@
 -- Which signatures lines show, in order.
-use Rattle.std.proofs.Common.{◌≡◌, ◌↔◌, ◌<◌, ◌&&◌, ℕ, Bool, true, false, List, [], ◌∷◌, Some, None, nat_eq, map, refl, sym, ap, ◌∙◌, subst, arith, ⊎_elim}
+use Rattle.std.proofs.Common.{◌≡◌, ◌<◌, ◌&&◌, ℕ, true, false, List, [], ◌∷◌, Some, nat_eq, map, sym, ap, ◌∙◌, subst, arith, ⊎_elim}
 use Rattle.std.proofs.lemmas.Bool.{cases_order}
 use Rattle.std.proofs.lemmas.Bool.Decides.{nat_tests}
 use Rattle.std.proofs.lemmas.Cmp.{eq_by_cmp_equiv, nat_cmp_total, on_total, then_total}
@@ -9,7 +9,6 @@ use Rattle.std.specs.Cmp.{IsTotalOrder, both_tied, nat_cmp_is}
 use Rattle.std.specs.List.{AllByRecursion, Contains, dedup}
 use Rattle.std.specs.List.Sorted.{IsPermutation, IsSorted, IsStrictlySortedBy}
 use Rattle.std.specs.Ordering.{eq_by_cmp, is_eq, nat_cmp}
-use Rattle.std.specs.declared.cmp.Ordering.{Ordering}
 use Rattle.std.specs.declared.cmp.Ordering.TheVariants.{Less, Equal, Greater}
 use Rattle.dnsv_canonical.specs.declared.number.SignatureNumber.{SignatureNumber}
 use Rattle.dnsv_derivations.specs.intervals.Holding.{signature_shown}
@@ -91,10 +90,7 @@ module _ (lines : List Line) (all sorted kept : List Shown) (adds : AddsJust (Co
     );
   }
 
--- a line that shows none, and one that shows one
-pub none_shown : (line : Line) (x : Shown) → None ≡ signature_shown line → Shows line x → ⊥
-none_shown line x none shows = let never : None ≡ Some (number_of x) = none ∙ shows in cc
-
+-- a line shows one
 pub one_shown : (line : Line) (number : SignatureNumber) (x : Shown) → Some number ≡ signature_shown line → Shows line x
     → x ≡ record { rrset = number.rrset; signature = number.signature }
 one_shown line number x some shows =

@@ -1,5 +1,5 @@
 //! What questions are judged by at each moment of a range.
-ghost use Rattle.std.specs.Prelude.{◌≡◌, ◌≤◌, ℕ, IfOk, OnErr, length};
+ghost use Rattle.std.specs.Prelude.{◌≡◌, ◌≤◌, IfOk, OnErr, length};
 ghost use Rattle.dnsv_names.specs.Count.{counted};
 ghost use Rattle.dnsv_timeline.specs.Range.{IsRange};
 ghost use Rattle.dnsv_moments.specs.Moments.{AreMomentsBy, AreMomentsOf, IsSaidBy};

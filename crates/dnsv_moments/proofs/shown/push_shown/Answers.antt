@@ -1,9 +1,9 @@
 use Rattle.std.proofs.Common.{List, sym, subst}
-use Rattle.dnsv_verifier.proofs.AskLemmas.{adds_nothing, adds_one}
+use Rattle.dnsv_verifier.proofs.AskLemmas.{adds_one}
 use Rattle.dnsv_verifier.specs.Asking.{AddsJust}
 use Rattle.dnsv_moments.specs.Shown.{Shows}
 use Rattle.dnsv_moments.specs.declared.shown.Shown.{Shown}
-use Rattle.dnsv_moments.proofs.ShownLemmas.{none_shown, one_shown}
+use Rattle.dnsv_moments.proofs.ShownLemmas.{one_shown}
 use Rattle.dnsv_moments.proofs.shown.push_shown.Goals as goal
 
 pub returns : goal.returns
