@@ -1,0 +1,88 @@
+use Rattle.std.proofs.Common.{◌≡◌, ◌∙◌, [], List, inl, refl, subst, sym}
+use Rattle.std.proofs.lemmas.Result.{err_from_is_err_and}
+use Rattle.dnsv_verdict.specs.Case.{CaseContents, IsCaseOf, basis_by}
+use Rattle.dnsv_verdict.specs.Traced.{IsKeptWith, IsTrace, IsWayTo}
+use Rattle.dnsv_verdict.specs.declared.traced.Traced.{Traced}
+use Rattle.dnsv_derivations.specs.Explained.{Explained, setting_in}
+use Rattle.dnsv_explain.specs.Explained.{explained_by}
+use Rattle.dnsv_explain.specs.SharedWays.{AreHopedWays, AreOfCase}
+use Rattle.dnsv_derivations.specs.derivations.WaySearch.{AreFirstWays}
+use Rattle.dnsv_derivations.specs.declared.derivations.ways.kept.KeptWay.{KeptWay}
+use Rattle.dnsv_explain.proofs.lemmas.telling.DerivedLemmas.{derivation_by, stop_derived}
+use Rattle.dnsv_explain.proofs.explanation.explainer.derive_by.Goals as goal
+
+-- the case that is asked is the one as it was
+case_is : {now after before : CaseContents} → now ≡ after → after ≡ before → before ≡ now
+case_is there same = sym (there ∙ same)
+
+pub with_ways-evidence-requires : goal.with_ways-evidence-requires
+with_ways-evidence-requires c =
+    let same = case_is c.case-case.ensures c.in_ok-traced.ensures.same in
+    let ways = c.args.ways.now in
+    let of_case = subst (λ (each : CaseContents). AreFirstWays (setting_in (explained_by each [])) ways) same c.requires.ways.ways in
+    subst (λ (each : Explained). AreFirstWays (setting_in each) ways) (sym c.evidence_of-bare.ensures) of_case
+
+pub keep_hoped-requires-clause-hoped : goal.keep_hoped-requires-clause-hoped
+keep_hoped-requires-clause-hoped c =
+    let same = case_is c.case-case.ensures c.in_ok-traced.ensures.same in
+    subst (λ (each : CaseContents). AreHopedWays each c.args.hoped.now.items) same c.requires.hoped
+
+pub keep_hoped-requires-clause-verdict : goal.keep_hoped-requires-clause-verdict
+keep_hoped-requires-clause-verdict c =
+    let same = case_is c.case-case.ensures c.in_ok-traced.ensures.same in
+    let To : CaseContents → Traced → Type 0 = λ case each. IsWayTo (basis_by case) c.args.name.now c.args.rtype.0 each in
+    let its = c.requires.ways in
+    (subst (To c.case-case.result.now) c.in-Reached.is
+    (subst (λ case. To case c.in_ok-traced.traced) same (c.in_ok-traced.ensures.by_table its.basis its.of))).is_verdict
+
+pub keep_hoped-requires-clause-hope : goal.keep_hoped-requires-clause-hope
+keep_hoped-requires-clause-hope c =
+    let same = case_is c.case-case.ensures c.in_ok-traced.ensures.same in
+    let With : CaseContents → Traced → Type 0 = λ case each. IsKeptWith case c.args.rtype.0 each in
+    (subst (With c.case-case.result.now) c.in-Reached.is
+    (subst (λ case. With case c.in_ok-traced.traced) same c.in_ok-traced.ensures.kept)).hoped
+
+pub derivation_of-requires-clause-trust : goal.derivation_of-requires-clause-trust
+derivation_of-requires-clause-trust c = c.trust-trust.ensures.of
+
+pub derivation_of-requires-clause-hoped : goal.derivation_of-requires-clause-hoped
+derivation_of-requires-clause-hoped c =
+    subst (λ (ways : List KeptWay). AreHopedWays c.case-case.result.now ways) (sym c.deref.ensures.value) c.in_ok-keep_hoped.ensures
+
+pub derivation_of-requires-clause-kept : goal.derivation_of-requires-clause-kept
+derivation_of-requires-clause-kept c =
+    let same = case_is c.case-case.ensures c.in_ok-traced.ensures.same in
+    let With : CaseContents → Traced → Type 0 = λ case each. IsKeptWith case c.args.rtype.0 each in
+    subst (With c.case-case.result.now) c.in-Reached.is
+    (subst (λ case. With case c.in_ok-traced.traced) same c.in_ok-traced.ensures.kept)
+
+pub derivation_of-requires-clause-verdict : goal.derivation_of-requires-clause-verdict
+derivation_of-requires-clause-verdict c =
+    let same = case_is c.case-case.ensures c.in_ok-traced.ensures.same in
+    let To : CaseContents → Traced → Type 0 = λ case each. IsWayTo (basis_by case) c.args.name.now c.args.rtype.0 each in
+    let its = c.requires.ways in (
+      c.args.name.now,
+      subst (To c.case-case.result.now) c.in-Reached.is
+          (subst (λ case. To case c.in_ok-traced.traced) same (c.in_ok-traced.ensures.by_table its.basis its.of)),
+    )
+
+pub stop_derivation_of-requires-clause-trust : goal.stop_derivation_of-requires-clause-trust
+stop_derivation_of-requires-clause-trust c = c.trust-trust.ensures.of
+
+pub stop_derivation_of-requires-clause-kept : goal.stop_derivation_of-requires-clause-kept
+stop_derivation_of-requires-clause-kept c =
+    let same = case_is c.case-case.ensures c.in_ok-traced.ensures.same in
+    let With : CaseContents → Traced → Type 0 = λ case each. IsKeptWith case c.args.rtype.0 each in
+    subst (With c.case-case.result.now) c.in-Stopped.is
+    (subst (λ case. With case c.in_ok-traced.traced) same c.in_ok-traced.ensures.kept)
+
+pub stop_derivation_of-requires-clause-stopped : goal.stop_derivation_of-requires-clause-stopped
+stop_derivation_of-requires-clause-stopped c =
+    let same = case_is c.case-case.ensures c.in_ok-traced.ensures.same in
+    let To : CaseContents → Traced → Type 0 = λ case each. IsWayTo (basis_by case) c.args.name.now c.args.rtype.0 each in
+    let its = c.requires.ways in (
+      c.args.name.now,
+      c.args.rtype.0,
+      subst (To c.case-case.result.now) c.in-Stopped.is
+          (subst (λ case. To case c.in_ok-traced.traced) same (c.in_ok-traced.ensures.by_table its.basis its.of)),
+    )
