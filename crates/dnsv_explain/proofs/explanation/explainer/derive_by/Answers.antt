@@ -47,7 +47,7 @@ derivation_of-requires-clause-trust c = c.trust-trust.ensures.of
 
 pub derivation_of-requires-clause-hoped : goal.derivation_of-requires-clause-hoped
 derivation_of-requires-clause-hoped c =
-    subst (λ (ways : List KeptWay). AreHopedWays c.case-case.result.now ways) (sym c.deref.ensures.value) c.in_ok-keep_hoped.ensures
+    subst (λ (ways : List KeptWay). AreHopedWays c.case-case.result.now ways) (sym c.deref.ensures.value) c.in_ok-keep_hoped-in-Reached.ensures
 
 pub derivation_of-requires-clause-kept : goal.derivation_of-requires-clause-kept
 derivation_of-requires-clause-kept c =
@@ -86,3 +86,83 @@ stop_derivation_of-requires-clause-stopped c =
       subst (To c.case-case.result.now) c.in-Stopped.is
           (subst (λ case. To case c.in_ok-traced.traced) same (c.in_ok-traced.ensures.by_table its.basis its.of)),
     )
+
+-- ---- an error
+
+pub returns-in_err-traced-clause-question : goal.returns-in_err-traced-clause-question
+returns-in_err-traced-clause-question c = λ not_asked.
+    let p = err_from_is_err_and c.from_residual.result c.from_residual.ensures.1 in
+    rw (p.1, p.2) (c.in_err-traced.ensures.question not_asked)
+
+pub returns-in_err-traced-clause-refused : goal.returns-in_err-traced-clause-refused
+returns-in_err-traced-clause-refused c =
+    let p = err_from_is_err_and c.from_residual.result c.from_residual.ensures.1 in
+    rw (p.1, p.2) c.in_err-traced.ensures.refused
+
+pub returns-in_err-keep_hoped-in-Reached-clause-question : goal.returns-in_err-keep_hoped-in-Reached-clause-question
+returns-in_err-keep_hoped-in-Reached-clause-question c = λ not_asked. absurd (not_asked c.in_ok-traced.ensures.asked)
+
+pub returns-in_err-keep_hoped-in-Reached-clause-refused : goal.returns-in_err-keep_hoped-in-Reached-clause-refused
+returns-in_err-keep_hoped-in-Reached-clause-refused c =
+    let p = err_from_is_err_and c.from_residual-in_err-keep_hoped-in-Reached.result c.from_residual-in_err-keep_hoped-in-Reached.ensures.1 in
+    rw (p.1, p.2) (inl refl)
+
+pub returns-in_err-keep_hoped-in-Reached-clause-hoped : goal.returns-in_err-keep_hoped-in-Reached-clause-hoped
+returns-in_err-keep_hoped-in-Reached-clause-hoped c =
+    subst (λ (each : CaseContents). AreHopedWays each c.keep_hoped.new.hoped.items)
+    (c.case-case.ensures ∙ c.in_ok-traced.ensures.same) c.in_err-keep_hoped-in-Reached.ensures
+
+pub returns-in_err-lines-in-Reached-clause-question : goal.returns-in_err-lines-in-Reached-clause-question
+returns-in_err-lines-in-Reached-clause-question c = λ not_asked. absurd (not_asked c.in_ok-traced.ensures.asked)
+
+pub returns-in_err-lines-in-Reached-clause-refused : goal.returns-in_err-lines-in-Reached-clause-refused
+returns-in_err-lines-in-Reached-clause-refused c =
+    let p = err_from_is_err_and c.from_residual-in_err-lines-in-Reached.result c.from_residual-in_err-lines-in-Reached.ensures.1 in
+    rw (p.1, p.2) (inl refl)
+
+pub returns-in_err-lines-in-Reached-clause-hoped : goal.returns-in_err-lines-in-Reached-clause-hoped
+returns-in_err-lines-in-Reached-clause-hoped c =
+    subst (λ (each : CaseContents). AreHopedWays each c.keep_hoped.new.hoped.items)
+    (c.case-case.ensures ∙ c.in_ok-traced.ensures.same) c.in_ok-keep_hoped-in-Reached.ensures
+
+pub returns-in_err-lines-in-Stopped-clause-question : goal.returns-in_err-lines-in-Stopped-clause-question
+returns-in_err-lines-in-Stopped-clause-question c = λ not_asked. absurd (not_asked c.in_ok-traced.ensures.asked)
+
+pub returns-in_err-lines-in-Stopped-clause-refused : goal.returns-in_err-lines-in-Stopped-clause-refused
+returns-in_err-lines-in-Stopped-clause-refused c =
+    let p = err_from_is_err_and c.from_residual-in_err-lines-in-Stopped.result c.from_residual-in_err-lines-in-Stopped.ensures.1 in
+    rw (p.1, p.2) (inl refl)
+
+-- ---- an outcome
+
+pub returns-in_ok-lines-in-Reached-clause-derived : goal.returns-in_ok-lines-in-Reached-clause-derived
+returns-in_ok-lines-in-Reached-clause-derived c = λ basis is.
+    let same = case_is c.case-case.ensures c.in_ok-traced.ensures.same in
+    let there : IsCaseOf basis c.case-case.result.now = subst (λ (each : CaseContents). IsCaseOf basis each) same is in
+    let report = c.in-Reached.judged.report in
+    let Its : Traced → Type 0 = λ each. IsTrace basis c.args.name.now c.args.rtype.0 each in (
+      subst Its c.in-Reached.is (c.in_ok-traced.ensures.trace basis is),
+      derivation_by basis c.case-case.result.now there report.links c.in_ok-lines-in-Reached.lines.items c.args.rtype.0 report.last
+          report.verdict c.in_ok-lines-in-Reached.ensures,
+    )
+
+pub returns-in_ok-lines-in-Reached-clause-question : goal.returns-in_ok-lines-in-Reached-clause-question
+returns-in_ok-lines-in-Reached-clause-question c = λ not_asked. absurd (not_asked c.in_ok-traced.ensures.asked)
+
+pub returns-in_ok-lines-in-Reached-clause-hoped : goal.returns-in_ok-lines-in-Reached-clause-hoped
+returns-in_ok-lines-in-Reached-clause-hoped c =
+    subst (λ (each : CaseContents). AreHopedWays each c.keep_hoped.new.hoped.items)
+    (c.case-case.ensures ∙ c.in_ok-traced.ensures.same) c.in_ok-keep_hoped-in-Reached.ensures
+
+pub returns-in_ok-lines-in-Stopped-clause-derived : goal.returns-in_ok-lines-in-Stopped-clause-derived
+returns-in_ok-lines-in-Stopped-clause-derived c = λ basis is.
+    let same = case_is c.case-case.ensures c.in_ok-traced.ensures.same in
+    let there : IsCaseOf basis c.case-case.result.now = subst (λ (each : CaseContents). IsCaseOf basis each) same is in
+    let stopped = c.in-Stopped.stopped in
+    let Its : Traced → Type 0 = λ each. IsTrace basis c.args.name.now c.args.rtype.0 each in
+    stop_derived basis c.case-case.result.now there c.args.name.now c.args.rtype.0 stopped.links stopped.alias stopped.error
+    c.in_ok-lines-in-Stopped.lines.items (subst Its c.in-Stopped.is (c.in_ok-traced.ensures.trace basis is))
+    c.in_ok-lines-in-Stopped.ensures
+
+pub returns-in_ok-lines-in-Stopped-clause-question : goal.returns-in_ok-lines-in-Stopped-clause-question
+returns-in_ok-lines-in-Stopped-clause-question c = λ not_asked. absurd (not_asked c.in_ok-traced.ensures.asked)
