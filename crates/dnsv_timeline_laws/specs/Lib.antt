@@ -1,2 +1,3 @@
+pub mod Kinds
 pub mod Said
 pub mod SameValid
