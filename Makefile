@@ -1,7 +1,8 @@
 # `all`, `try`, `test` and `wrong-bodies` need the kit's command `rt` on the path, and `test` the packages of `packages`
 # besides; `demo`, `examples`, `faults`, `pages`, `install` and `deb` take the program that is built, and build it where there
 # is none. `check` builds nothing.
-.PHONY: all try test check packages lint demo examples faults wrong-bodies test-tools pages pictures install deb
+.PHONY: all try test check packages lint demo examples faults wrong-bodies test-tools pages pictures install deb library \
+	install-library deb-library
 
 program = crates/dnssec_check/out/dnssec_check
 rows = crates/dnsv_rows/out/dnsv_rows
@@ -115,8 +116,55 @@ install: | $(program)
 		ln -sf dnssec_check $(of_bash)/dnssec_check-$$tool; \
 		ln -sf dnssec_check.fish $(of_fish)/dnssec_check-$$tool.fish; \
 	done
+	if test -e $(made)/libdnssec_check.so.1; then $(MAKE) install-library; fi
 
-# The same as a Debian package, out/dnssec-check_VERSION_amd64.deb; needs the packages debhelper, dh-python and dpkg-dev.
+# The library for C, as an archive and a shared library, into out/library; docs/LIBRARY.md says how it is used. What it does is
+# proved and built by the kit; what of it C sees, and nothing else, is library/calls.c.
+calls = crates/dnssec_check_c/out/libdnssec_check_c.a
+kit = $(dir $(shell rt doc))
+version = $(shell sed -n 's/^VERSION = "\([^"]*\)".*/\1/p' tools/$(package)/command.py)
+made = out/library
+library: $(made)/libdnssec_check.a $(made)/libdnssec_check.so.1
+
+$(calls):
+	cd crates/dnssec_check_c && rt lib
+
+# One object, in which only the calls of the header are seen.
+$(made)/dnssec_check.o: library/calls.c library/dnssec_check.h library/symbols $(calls)
+	install -d $(made)
+	$(CC) -std=c99 -O2 -fPIC -Wall -Wextra -Werror -DDNSSEC_CHECK_VERSION='"$(version)"' -c library/calls.c -o $(made)/calls.o
+	$(LD) -r -o $@ $(made)/calls.o --whole-archive $(calls) --no-whole-archive $(kit)c/liblibc_c.a
+	objcopy --keep-global-symbols=library/symbols $@
+
+$(made)/libdnssec_check.a: $(made)/dnssec_check.o
+	rm -f $@
+	$(AR) rcs $@ $<
+
+$(made)/libdnssec_check.so.1: $(made)/dnssec_check.o
+	$(CC) -shared -Wl,-soname,$(notdir $@) -Wl,--gc-sections -Wl,-z,defs -Wl,-z,relro,-z,now -o $@ $<
+	ln -sf $(notdir $@) $(made)/libdnssec_check.so
+
+# Puts the library that is built below PREFIX; `install` does it too, where it is built. Python's place is its own, unless
+# another is told.
+LIBRARY_FOLDER = $(PREFIX)/lib
+of_library = $(DESTDIR)$(LIBRARY_FOLDER)
+PYTHON_FOLDER ?= $(shell $(PYTHON) -c 'import sysconfig; print(sysconfig.get_path("purelib"))')
+of_python = $(DESTDIR)$(PYTHON_FOLDER)/dnssec_check
+install-library:
+	install -D -m 644 $(made)/libdnssec_check.a $(of_library)/libdnssec_check.a
+	install -m 644 $(made)/libdnssec_check.so.1 $(of_library)
+	ln -sf libdnssec_check.so.1 $(of_library)/libdnssec_check.so
+	install -D -m 644 library/dnssec_check.h $(DESTDIR)$(PREFIX)/include/dnssec_check.h
+	install -d $(of_library)/pkgconfig $(of_python)
+	sed 's|@PREFIX@|$(PREFIX)|; s|@FOLDER@|$(LIBRARY_FOLDER)|; s|@VERSION@|$(version)|' library/dnssec_check.pc.in \
+		> $(of_library)/pkgconfig/dnssec_check.pc
+	install -m 644 library/python/dnssec_check/*.py library/python/dnssec_check/py.typed $(of_python)
+
+# The same as Debian packages: libdnssec-check1, libdnssec-check-dev and python3-dnssec-check.
+deb-library:
+	tools/deb library
+
+# The program and the tools as a Debian package, out/dnssec-check_VERSION_amd64.deb; needs the packages debhelper, dh-python and dpkg-dev.
 deb: | $(program)
 	tools/deb
 
