@@ -4,7 +4,7 @@ The library is that which the environment's DNSSEC_CHECK_LIBRARY names, and else
 """
 import ctypes
 import os
-from typing import Any, Callable, List, NamedTuple, Optional
+from typing import Any, Callable, List, NamedTuple, Optional, Tuple
 
 from .faults import Fault, Misused, OutOfMemory, Refused, Unavailable
 
@@ -13,8 +13,9 @@ FAILED, MISUSED, REFUSED, NULL, ROOM = 1, 2, 7, 9, 10
 NO_MEMORY = 90
 LINES, JSON = 0, 1
 OPEN, COMPACT, ALL = 0, 1, 2
-NOTHING, STATEMENTS = 0, 1
+NOTHING, STATEMENTS, ANSWERS = 0, 1, 2
 ROOM_FIRST = 1 << 14
+VERIFIED = 3
 INPUTS = ("", "capture", "anchors", "statements", "keys", "macs", "questions")
 
 
@@ -53,7 +54,7 @@ class Answer(NamedTuple):
 
 
 class Given(NamedTuple):
-    """What is given to a call, as the files that the program reads."""
+    """What is given to a call, as the files that the program reads: statements or answers, or neither."""
 
     capture: bytes
     anchors: bytes = b""
@@ -61,6 +62,7 @@ class Given(NamedTuple):
     statements: Optional[bytes] = None
     keys: Optional[bytes] = None
     macs: Optional[bytes] = None
+    answers: Optional[bytes] = None
 
 
 def library() -> ctypes.CDLL:
@@ -94,15 +96,25 @@ def maybe(octets: Optional[bytes]) -> "Optional[ctypes._Pointer[Octets]]":
 def case_of(given: Given) -> CaseOctets:
     if not 0 <= given.moment < 1 << 64:
         raise Misused("a moment is a number of seconds from 0 to 2^48 - 1")
+    form, verified = verified_of(given)
     return CaseOctets(
         octets_of(given.capture),
         octets_of(given.anchors),
-        octets_of(given.statements or b""),
-        NOTHING if given.statements is None else STATEMENTS,
+        octets_of(verified),
+        form,
         given.moment,
         maybe(given.keys),
         maybe(given.macs),
     )
+
+
+def verified_of(given: Given) -> Tuple[int, bytes]:
+    """What says which signatures were verified, and in which form."""
+    if given.answers is not None:
+        if given.statements is not None:
+            raise Misused("statements and answers don't go together")
+        return ANSWERS, given.answers
+    return (NOTHING, b"") if given.statements is None else (STATEMENTS, given.statements)
 
 
 def version() -> str:
@@ -120,7 +132,7 @@ def show(capture: bytes) -> Answer:
 
 def listed(given: Given, listing: int, form: int) -> Answer:
     case = case_of(given)
-    return answer(lambda *place: LIBRARY.dnssec_check_list(ctypes.byref(case), listing, form, *place))
+    return answer(lambda *place: LIBRARY.dnssec_check_list(ctypes.byref(case), listing, form, *place), given)
 
 
 def judged(given: Given, name: bytes, kind: int, form: int, why: bool) -> Answer:
@@ -130,16 +142,16 @@ def judged(given: Given, name: bytes, kind: int, form: int, why: bool) -> Answer
         raise Misused("a type is a number from 0 to 65535")
     call = LIBRARY.dnssec_check_explain if why else LIBRARY.dnssec_check_check
     case = case_of(given)
-    return answer(lambda *place: call(ctypes.byref(case), name, kind, form, *place))
+    return answer(lambda *place: call(ctypes.byref(case), name, kind, form, *place), given)
 
 
 def judged_each(given: Given, questions: bytes, form: int, why: bool) -> Answer:
     call = LIBRARY.dnssec_check_explain_each if why else LIBRARY.dnssec_check_check_each
     case, each = case_of(given), octets_of(questions)
-    return answer(lambda *place: call(ctypes.byref(case), ctypes.byref(each), form, *place))
+    return answer(lambda *place: call(ctypes.byref(case), ctypes.byref(each), form, *place), given)
 
 
-def answer(call: Callable[..., int]) -> Answer:
+def answer(call: Callable[..., int], given: Given = Given(b"")) -> Answer:
     """What the call answers, with some room and else with enough; raises the fault that it tells."""
     room = ROOM_FIRST
     while True:
@@ -149,15 +161,16 @@ def answer(call: Callable[..., int]) -> Answer:
             break
         room = outcome.length
     if outcome.number:
-        raise fault_of(status, outcome)
+        raise fault_of(status, outcome, given)
     if status in (MISUSED, NULL):
         raise Misused("an argument names nothing: a name that isn't UTF-8, or a moment above 2^48 - 1")
     return Answer(status, ctypes.string_at(buffer, outcome.length))
 
 
-def fault_of(status: int, outcome: Outcome) -> Fault:
+def fault_of(status: int, outcome: Outcome, given: Given) -> Fault:
     if outcome.number == NO_MEMORY:
         return OutOfMemory(outcome.number)
     place = (outcome.message or None, outcome.record or None, outcome.line or None)
     kind = Refused if status == REFUSED else Fault
-    return kind(outcome.number, *place, given=INPUTS[outcome.input])
+    is_by_number = outcome.input == VERIFIED and given.answers is not None
+    return kind(outcome.number, *place, given="answers" if is_by_number else INPUTS[outcome.input])

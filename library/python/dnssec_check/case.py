@@ -2,6 +2,7 @@
 from typing import Callable, Dict, Iterable, List, Optional, Tuple, Union
 
 from . import calls
+from .faults import Misused
 from .types import type_number
 from .verdict import Json, Unverified, Verdict, unverified_of, verdict_of
 
@@ -14,10 +15,10 @@ class Case:
     """A capture with trust anchors at a moment, and what is known of its signatures.
 
     `capture` has DNS messages, each behind its length in two octets, `anchors` lines as the program reads them, and
-    `at` is the moment in seconds since 1970. What was verified is told by `statements`, lines as the program reads
-    them, or by a `verifier`: it is called with the algorithm, the key, the data and the signature of each signature
-    that counts, once, and answers whether that is good, or None where it can't tell. `keys` and `macs` open messages
-    that are signed by shared keys (TSIG).
+    `at` is the moment in seconds since 1970. What was verified is told by `statements` or by `answers`, lines as the
+    program reads them, or by a `verifier`: it is called with the algorithm, the key, the data and the signature of each
+    signature that counts, once, and answers whether that is good, or None where it can't tell. `keys` and `macs` open
+    messages that are signed by shared keys (TSIG).
 
     >>> Case(b"", b"", at=0).judge("www.example.com", "A").verdict
     'Indeterminate'
@@ -30,12 +31,17 @@ class Case:
         *,
         at: int,
         statements: Optional[Text] = None,
+        answers: Optional[Text] = None,
         verifier: Optional[Verifier] = None,
         keys: Optional[Text] = None,
         macs: Optional[Text] = None,
     ) -> None:
+        if answers is not None and (statements is not None or verifier is not None):
+            raise Misused("answers say all that was verified: they go without statements and a verifier")
         self.verifier = verifier
-        self.given = calls.Given(bytes(capture), octets_of(anchors), at, maybe(statements), maybe(keys), maybe(macs))
+        self.given = calls.Given(
+            bytes(capture), octets_of(anchors), at, maybe(statements), maybe(keys), maybe(macs), maybe(answers)
+        )
         self._known: Dict[Unverified, Optional[bool]] = {}
         self._is_verified = verifier is None
 
@@ -55,12 +61,12 @@ class Case:
         return [verdict_of(line) for line in answer.text.splitlines()]
 
     def todo(self) -> List[Unverified]:
-        """The signatures that a verifier still has to check.
+        """The signatures that a verifier still has to check; by answers nothing is told of these.
 
         >>> Case(b"", b"", at=0).todo()
         []
         """
-        listed = json_of(calls.listed(self.given, calls.OPEN, calls.JSON))
+        listed = json_of(calls.listed(self.given._replace(answers=None), calls.OPEN, calls.JSON))
         return [unverified_of(entry) for entry in listed["todo"]]
 
     def verify(self) -> None:

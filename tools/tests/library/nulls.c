@@ -44,6 +44,10 @@ int main(void) {
     given.moment--;
     IS(dnssec_check_check(&given, "a.", 1, DNSSEC_CHECK_LINES, text, sizeof text, &told), DNSSEC_CHECK_INDETERMINATE);
     given.verified_form = DNSSEC_CHECK_ANSWERS;
+    IS(dnssec_check_check(&given, "a.", 1, DNSSEC_CHECK_LINES, text, sizeof text, &told), DNSSEC_CHECK_REFUSED);
+    IS(told.number, 805);
+    IS(dnssec_check_list(&given, DNSSEC_CHECK_OPEN, DNSSEC_CHECK_LINES, text, sizeof text, &told), DNSSEC_CHECK_MISUSED);
+    given.verified_form = 3;
     IS(dnssec_check_check(&given, "a.", 1, DNSSEC_CHECK_LINES, text, sizeof text, &told), DNSSEC_CHECK_MISUSED);
     given.verified_form = DNSSEC_CHECK_NOTHING;
     given.capture = one;
