@@ -1,6 +1,7 @@
 """The library's calls by ctypes, which lets go of the interpreter's lock while one runs.
 
 The library is that which the environment's DNSSEC_CHECK_LIBRARY names, and else the system's `libdnssec_check.so.1`.
+Where that is set and empty, none is used.
 """
 import ctypes
 import os
@@ -14,7 +15,7 @@ NO_MEMORY = 90
 LINES, JSON = 0, 1
 OPEN, COMPACT, ALL = 0, 1, 2
 NOTHING, STATEMENTS, ANSWERS = 0, 1, 2
-ROOM_FIRST = 1 << 14
+ROOM_FIRST = 1 << 16
 VERIFIED = 3
 INPUTS = ("", "capture", "anchors", "statements", "keys", "macs", "questions")
 
@@ -67,6 +68,8 @@ class Given(NamedTuple):
 
 def library() -> ctypes.CDLL:
     path = os.environ.get(PATH, NAME)
+    if not path:
+        raise Unavailable(f"{PATH} is empty")
     try:
         return ctypes.CDLL(path)
     except OSError as fault:
