@@ -6,6 +6,8 @@
 
 program = crates/dnssec_check/out/dnssec_check
 rows = crates/dnsv_rows/out/dnsv_rows
+made = out/library
+shared = $(made)/libdnssec_check.so.1
 PREFIX = /usr/local
 # What runs the tools, installed or not, and their tests: Debian's, which Debian's packages serve. Another one needs the
 # packages that pyproject.toml names.
@@ -67,8 +69,9 @@ test-tools:
 
 # The commands of the pages, against what the pages show, with the program and the tools as they are installed.
 # CAPTURING.md and BREAKS.md need root, and the packages that they name; `check` runs the others. So does the table of
-# incidents in BREAKS.md, of which `check` makes three where root has what they need.
-pages: | $(program)
+# incidents in BREAKS.md, of which `check` makes three where root has what they need. LIBRARY.md runs over the library that
+# is built and not installed.
+pages: | $(program) $(shared)
 	tools/pages --installed docs/CAPTURING.md
 	tools/pages --installed docs/BREAKS.md
 	tools/incidents --against docs/BREAKS.md
@@ -80,6 +83,7 @@ pages: | $(program)
 	tools/pages --installed docs/VERDICTS.md
 	tools/pages --installed docs/COMPACT.md
 	tools/pages --installed docs/EXPLANATION.md
+	tools/pages docs/LIBRARY.md
 
 # The pictures that README.md shows, from the examples; needs chromium, fonts-liberation and pngquant besides what the page
 # of `dnssec_check-judge --html` needs, and no program.
@@ -116,15 +120,14 @@ install: | $(program)
 		ln -sf dnssec_check $(of_bash)/dnssec_check-$$tool; \
 		ln -sf dnssec_check.fish $(of_fish)/dnssec_check-$$tool.fish; \
 	done
-	if test -e $(made)/libdnssec_check.so.1; then $(MAKE) install-library; fi
+	if test -e $(shared); then $(MAKE) install-library; fi
 
-# The library for C, as an archive and a shared library, into out/library; docs/LIBRARY.md says how it is used. What it does is
-# proved and built by the kit; what of it C sees, and nothing else, is library/calls.c.
+# The library for C, as an archive and a shared library; docs/LIBRARY.md says how it is used. What it does is proved and built
+# by the kit; what of it C sees, and nothing else, is library/calls.c.
 calls = crates/dnssec_check_c/out/libdnssec_check_c.a
 kit = $(dir $(shell rt doc))
 version = $(shell sed -n 's/^VERSION = "\([^"]*\)".*/\1/p' tools/$(package)/command.py)
-made = out/library
-library: $(made)/libdnssec_check.a $(made)/libdnssec_check.so.1
+library: $(made)/libdnssec_check.a $(shared)
 
 $(calls):
 	cd crates/dnssec_check_c && rt lib
@@ -140,19 +143,20 @@ $(made)/libdnssec_check.a: $(made)/dnssec_check.o
 	rm -f $@
 	$(AR) rcs $@ $<
 
-$(made)/libdnssec_check.so.1: $(made)/dnssec_check.o
+$(shared): $(made)/dnssec_check.o
 	$(CC) -shared -Wl,-soname,$(notdir $@) -Wl,--gc-sections -Wl,-z,defs -Wl,-z,relro,-z,now -o $@ $<
 	ln -sf $(notdir $@) $(made)/libdnssec_check.so
 
-# Puts the library that is built below PREFIX; `install` does it too, where it is built. Python's place is its own, unless
-# another is told.
+# Puts the library that is built below PREFIX; `install` does it too, where it is built. Python's module goes where the
+# interpreter looks, where that lies below PREFIX, and else to the folder that has this place for one of that PREFIX.
 LIBRARY_FOLDER = $(PREFIX)/lib
 of_library = $(DESTDIR)$(LIBRARY_FOLDER)
-PYTHON_FOLDER ?= $(shell $(PYTHON) -c 'import sysconfig; print(sysconfig.get_path("purelib"))')
+PYTHON_FOLDER ?= $(shell $(PYTHON) -c 'import sys, sysconfig; place = sysconfig.get_path("purelib"); \
+	print(place if place.startswith("$(PREFIX)/lib/") else "$(PREFIX)/lib/python%d.%d/site-packages" % sys.version_info[:2])')
 of_python = $(DESTDIR)$(PYTHON_FOLDER)/dnssec_check
 install-library:
 	install -D -m 644 $(made)/libdnssec_check.a $(of_library)/libdnssec_check.a
-	install -m 644 $(made)/libdnssec_check.so.1 $(of_library)
+	install -m 644 $(shared) $(of_library)
 	ln -sf libdnssec_check.so.1 $(of_library)/libdnssec_check.so
 	install -D -m 644 library/dnssec_check.h $(DESTDIR)$(PREFIX)/include/dnssec_check.h
 	install -d $(of_library)/pkgconfig $(of_python)

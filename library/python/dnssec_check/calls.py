@@ -1,10 +1,11 @@
 """The library's calls by ctypes, which lets go of the interpreter's lock while one runs.
 
-The library is that which the environment's DNSSEC_CHECK_LIBRARY names, and else the system's `libdnssec_check.so.1`.
-Where that is set and empty, none is used.
+The library is that which the environment's DNSSEC_CHECK_LIBRARY names, and none where that is empty; else the system's
+`libdnssec_check.so.1`, unless there is one in the folder `lib` in which this module was put.
 """
 import ctypes
 import os
+import pathlib
 from typing import Any, Callable, List, NamedTuple, Optional, Tuple
 
 from .faults import Fault, Misused, OutOfMemory, Refused, Unavailable
@@ -70,8 +71,9 @@ def library() -> ctypes.CDLL:
     path = os.environ.get(PATH, NAME)
     if not path:
         raise Unavailable(f"{PATH} is empty")
+    beside = pathlib.Path(__file__).resolve().parents[3] / NAME  # behind lib/python3.N/site-packages/dnssec_check
     try:
-        return ctypes.CDLL(path)
+        return ctypes.CDLL(path if path != NAME or not beside.exists() else str(beside))
     except OSError as fault:
         raise Unavailable(f"{path}: {fault}") from fault
 

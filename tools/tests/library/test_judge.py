@@ -1,7 +1,9 @@
 """Judge asks the library where it's installed, and gets what the program says, octet for octet."""
 import contextlib
+import pathlib
 import subprocess
 import sys
+import tempfile
 import unittest
 from unittest import mock
 
@@ -15,6 +17,7 @@ from dnssec_check_tools.program import CHECK, EXPLAIN, Manner, Program
 from dnssec_check_tools.started import nameless
 from . import LIBRARY, SHARED
 
+CASE, ANCHORS = (TOOLS.parent / "examples" / name for name in ("bind-www-a", "anchors"))
 NOWHERE = "/nowhere/program"
 NOON = 1795348800
 FILES = ("capture", "anchors", "answers", "keys", "macs", "questions")
@@ -31,6 +34,13 @@ def small():
 
 def is_small(example):
     return example.files["capture"].stat().st_size <= LISTS_LITTLE
+
+
+def judged(folder, library, *words):
+    """What judge does with the program of a folder, and the library, or none."""
+    place = {"PATH": f"{folder}:/usr/bin:/bin", "PYTHONPATH": str(LIBRARY / "python"), "DNSSEC_CHECK_LIBRARY": str(library)}
+    command = [sys.executable, TOOLS / "judge", "--at", str(NOON), "--anchors", ANCHORS, *words]
+    return subprocess.run(command, env=place, capture_output=True, check=False)
 
 
 @contextlib.contextmanager
@@ -93,15 +103,24 @@ class InProcess(unittest.TestCase):
             self.assertIsNone(in_process.calls_of_library.__wrapped__())
 
 
+@unittest.skipUnless(SHARED.exists(), "needs the library that `make library` builds")
+class Started(unittest.TestCase):
+    def test_no_program_is_started_for_a_small_capture(self):
+        with tempfile.TemporaryDirectory() as room:
+            program = pathlib.Path(room) / "dnssec_check"
+            program.write_text("#!/bin/sh\nexit 1\n")
+            program.chmod(0o755)
+            words = [CASE / "capture", "www.bind.test/A", "--tsv"]
+            told = [judged(room, library, *words).stdout.decode().splitlines()[1].split("\t")[5] for library in (SHARED, "")]
+            self.assertEqual(told, ["SecureAnswer", "fault"])
+
+
 @unittest.skipUnless(SHARED.exists() and PROGRAM.exists(), "needs the library and the program that are built")
 class Judged(unittest.TestCase):
     def test_all_captures_of_the_examples_are_judged_alike(self):
-        words = [sys.executable, TOOLS / "judge", "--at", str(NOON), "--anchors", TOOLS.parent / "examples" / "anchors", "--every", "--jsonl"]
-        path = f"{PROGRAM.parent}:/usr/bin:/bin"
         told = []
         for library in (SHARED, ""):
-            place = {"PATH": path, "PYTHONPATH": str(LIBRARY / "python"), "DNSSEC_CHECK_LIBRARY": str(library)}
-            done = subprocess.run([*words, TOOLS.parent / "examples"], env=place, capture_output=True, check=False)
+            done = judged(PROGRAM.parent, library, "--every", "--jsonl", TOOLS.parent / "examples")
             told.append((done.returncode, done.stdout, done.stderr))
         self.assertGreater(told[0][1].count(b"\n"), 150)
         self.assertEqual(*told)
