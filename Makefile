@@ -71,7 +71,7 @@ test-tools:
 # CAPTURING.md and BREAKS.md need root, and the packages that they name; `check` runs the others. So does the table of
 # incidents in BREAKS.md, of which `check` makes three where root has what they need. LIBRARY.md runs over the library that
 # is built and not installed.
-pages: | $(program) $(shared)
+pages: | $(program)
 	tools/pages --installed docs/CAPTURING.md
 	tools/pages --installed docs/BREAKS.md
 	tools/incidents --against docs/BREAKS.md
@@ -83,7 +83,7 @@ pages: | $(program) $(shared)
 	tools/pages --installed docs/VERDICTS.md
 	tools/pages --installed docs/COMPACT.md
 	tools/pages --installed docs/EXPLANATION.md
-	tools/pages docs/LIBRARY.md
+	if test -e $(shared); then tools/pages docs/LIBRARY.md; fi
 
 # The pictures that README.md shows, from the examples; needs chromium, fonts-liberation and pngquant besides what the page
 # of `dnssec_check-judge --html` needs, and no program.
@@ -148,7 +148,8 @@ $(shared): $(made)/dnssec_check.o
 	ln -sf $(notdir $@) $(made)/libdnssec_check.so
 
 # Puts the library that is built below PREFIX; `install` does it too, where it is built. Python's module goes where the
-# interpreter looks, where that lies below PREFIX, and else to the folder that has this place for one of that PREFIX.
+# interpreter looks, where that lies below PREFIX, and else to the folder that has this place for one of that PREFIX; where
+# the tools are installed, their package, of which it takes the verifier, is found beside it.
 LIBRARY_FOLDER = $(PREFIX)/lib
 of_library = $(DESTDIR)$(LIBRARY_FOLDER)
 PYTHON_FOLDER ?= $(shell $(PYTHON) -c 'import sys, sysconfig; place = sysconfig.get_path("purelib"); \
@@ -163,6 +164,9 @@ install-library:
 	sed 's|@PREFIX@|$(PREFIX)|; s|@FOLDER@|$(LIBRARY_FOLDER)|; s|@VERSION@|$(version)|' library/dnssec_check.pc.in \
 		> $(of_library)/pkgconfig/dnssec_check.pc
 	install -m 644 library/python/dnssec_check/*.py library/python/dnssec_check/py.typed $(of_python)
+	if test -d $(lib)/$(package) && ! test -e $(of_python)_tools; then \
+		ln -s $(PREFIX)/lib/dnssec_check/$(package) $(of_python)_tools; \
+	fi
 
 # The same as Debian packages: libdnssec-check1, libdnssec-check-dev and python3-dnssec-check.
 deb-library:
