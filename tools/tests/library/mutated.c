@@ -50,7 +50,7 @@ static int one(uint64_t *seed, unsigned char *changes, unsigned char *text, size
         each[file]->length = changed(changes + file * MOST, file, seed);
         each[file]->data = each[file]->length == 0 ? NULL : changes + file * MOST;
     }
-    given.verified_form = next(seed) % 8 == 0 ? 0 : 1;
+    given.verified_form = next(seed) % 8 == 0 ? (uint32_t)(next(seed) % 4) : 1;
     given.moment = next(seed) % 16 == 0 ? next(seed) : 1795348800;
     uint64_t form = next(seed);
     int little = call(kind, &given, form, text, next(seed) % 64, &first);

@@ -1,12 +1,15 @@
 """The library from Python: verdicts, a verifier, faults, docstrings and threads."""
 import doctest
 import importlib
+import os
 import pkgutil
+import subprocess
+import sys
 import unittest
 from concurrent.futures import ThreadPoolExecutor
 
 from tool import TOOLS
-from . import SHARED
+from . import LIBRARY, SHARED
 
 EXAMPLES = TOOLS.parent / "examples"
 CASE = EXAMPLES / "bind-www-a"
@@ -67,6 +70,23 @@ class InPython(unittest.TestCase):
         lines = octets(CASE / "list.stdout").decode().splitlines()
         told = [f"todo {each.algorithm} {each.key.hex()} {each.data.hex()} {each.signature.hex()}" for each in case.todo()]
         self.assertEqual(told, lines)
+
+    def test_answers_by_number_say_what_was_verified(self):
+        answers = octets(EXAMPLES / "answers-bind-www-a" / "answers")
+        case = self.case(answers=answers)
+        self.assertEqual(case.judge("www.bind.test").verdict, "SecureAnswer")
+        self.assertEqual(len(case.todo()), answers.count(b"good"))
+        for words in ({"statements": b""}, {"verifier": self.module.verify}):
+            self.assertRaises(self.module.Misused, self.case, answers=b"", **words)
+        with self.assertRaises(self.module.Refused) as told:
+            self.case(answers=b"of\n").judge("www.bind.test")
+        self.assertEqual((told.exception.number, told.exception.line), (805, 1))
+
+    def test_no_library_is_taken_for_an_empty_name(self):
+        words = [sys.executable, "-c", "import dnssec_check"]
+        place = {**os.environ, "PYTHONPATH": str(LIBRARY / "python"), "DNSSEC_CHECK_LIBRARY": ""}
+        done = subprocess.run(words, env=place, capture_output=True, text=True, check=False)
+        self.assertIn("Unavailable: DNSSEC_CHECK_LIBRARY is empty", done.stderr)
 
     def test_many_questions_are_answered_in_their_order(self):
         case = self.case(statements=octets(CASE / "statements"))
