@@ -1,16 +1,16 @@
 -- How a run over octets ends a call.
 use Rattle.std.proofs.Common.{◌≡◌, ℕ, List, [], ◌++◌, inl, inr, refl, subst, ap, ◌∙◌}
 use Rattle.std.specs.Prelude.{Err, Result}
-use Rattle.dnsv_program.specs.Files.{Files}
-use Rattle.dnsv_program.specs.Files.Faults.{OfFailedRead, OfOctets}
+use Rattle.dnsv_files.specs.Files.{Files}
+use Rattle.dnsv_files.specs.Files.Faults.{OfFailedRead, OfOctets}
 use Rattle.dnsv_program.specs.Run.{AsksRefused, IsFirstFault, IsReached, IsTextAskedFor}
 use Rattle.dnsv_program.specs.declared.command_line.request.Asking.TheVariants as asking
 use Rattle.dnsv_program.specs.declared.command_line.request.Request.{Request}
 use Rattle.dnsv_program.specs.declared.command_line.request.Request.TheVariants as request
-use Rattle.dnsv_program.specs.declared.status.Fault.{Fault}
-use Rattle.dnsv_program.specs.declared.status.Fault.TheVariants as fault
-use Rattle.dnsv_program.specs.declared.status.InputFile.{InputFile}
-use Rattle.dnsv_program.specs.declared.status.Status.{Status}
+use Rattle.dnsv_files.specs.declared.status.Fault.{Fault}
+use Rattle.dnsv_files.specs.declared.status.Fault.TheVariants as fault
+use Rattle.dnsv_files.specs.declared.status.InputFile.{InputFile}
+use Rattle.dnsv_files.specs.declared.status.Status.{Status}
 use Rattle.dnssec_check_c.specs.Ends.{CallEnds, Ends, GivesText, TellsFault, TellsQuestion, in_memory, told_of_fault}
 use Rattle.dnssec_check_c.specs.declared.outcome.Outcome.{Outcome}
 

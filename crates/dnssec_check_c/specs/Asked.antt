@@ -2,8 +2,8 @@
 use Rattle.std.specs.Prelude.{◌≡◌, ◌≤◌, ◌<◌, ◌^◌, ◌==◌, ◌&&◌, ⊤, Bool, ℕ, List, IsUtf8, string_bytes, Option, Some, None}
 use Rattle.dnsv_texts.specs.declared.format.Format.{Format}
 use Rattle.dnsv_texts.specs.declared.format.Format.TheVariants as format
-use Rattle.dnsv_program.specs.CommandLine.Moment.{IsMoment}
-use Rattle.dnsv_program.specs.Files.{Files}
+use Rattle.dnsv_files.specs.Moment.{IsMoment}
+use Rattle.dnsv_files.specs.Files.{Files}
 use Rattle.dnsv_program.specs.declared.command_line.request.Asking.{Asking}
 use Rattle.dnsv_program.specs.declared.command_line.request.Asking.TheVariants as asking
 use Rattle.dnsv_program.specs.declared.command_line.request.Known.{Known}

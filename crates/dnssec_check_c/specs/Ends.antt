@@ -1,14 +1,14 @@
 -- How a call ends: what it writes and tells, and with which status.
 use Rattle.std.specs.Prelude.{◌≡◌, ◌⊎◌, ◌≤◌, ◌<◌, ◌++◌, ℕ, List, length, drop, unwrap_or}
-use Rattle.dnsv_program.specs.Files.{Files}
+use Rattle.dnsv_files.specs.Files.{Files}
 use Rattle.dnsv_program.specs.Run.{AsksRefused, IsFirstFault, IsReached, IsTextAskedFor}
-use Rattle.dnsv_program.specs.Status.{fault_code, fault_number, status_code}
+use Rattle.dnsv_files.specs.Status.{fault_code, fault_number, status_code}
 use Rattle.dnsv_program.specs.declared.command_line.request.Request.{Request}
-use Rattle.dnsv_program.specs.declared.status.Fault.{Fault}
-use Rattle.dnsv_program.specs.declared.status.Fault.TheVariants as fault
-use Rattle.dnsv_program.specs.declared.status.InputFile.{InputFile}
-use Rattle.dnsv_program.specs.declared.status.InputFile.TheVariants.{Anchors, Answers, Capture, Keys, Macs, Questions, Statements}
-use Rattle.dnsv_program.specs.declared.status.Status.{Status}
+use Rattle.dnsv_files.specs.declared.status.Fault.{Fault}
+use Rattle.dnsv_files.specs.declared.status.Fault.TheVariants as fault
+use Rattle.dnsv_files.specs.declared.status.InputFile.{InputFile}
+use Rattle.dnsv_files.specs.declared.status.InputFile.TheVariants.{Anchors, Answers, Capture, Keys, Macs, Questions, Statements}
+use Rattle.dnsv_files.specs.declared.status.Status.{Status}
 use Rattle.dnssec_check_c.specs.declared.outcome.Outcome.{Outcome}
 
 -- ---- what is told

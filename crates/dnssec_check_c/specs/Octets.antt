@@ -1,7 +1,7 @@
 -- The octets of a call as the files of a request.
 use Rattle.std.specs.Prelude.{Bool, true, false, ℕ, List, Option, Some, None}
 use Rattle.std.specs.Option.{option_map}
-use Rattle.dnsv_program.specs.Files.{Files}
+use Rattle.dnsv_files.specs.Files.{Files}
 use Rattle.dnssec_check_c.specs.declared.octets.Octets.{Octets}
 
 -- octets that are given where this is so

@@ -7,7 +7,8 @@ use crate::octets::Octets;
 use crate::options::{Manner, Options, listing_of, type_of};
 use crate::outcome::{Outcome, misuse, refuse};
 use crate::running::run_over;
-use dnsv_program::{Asking, Fault, Known, Request};
+use dnsv_files::Fault;
+use dnsv_program::{Asking, Known, Request};
 use std::alloc::Global;
 
 /// Shows every message of the capture.

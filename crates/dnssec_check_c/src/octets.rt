@@ -1,13 +1,13 @@
 //! The octets that a request is run over, in place of files.
 ghost use Rattle.std.specs.Prelude.{◌≡◌, None, Some};
 ghost use Rattle.std.specs.Option.{option_map};
-ghost use Rattle.dnsv_program.specs.Files.{AreTold, IsToldBy};
+ghost use Rattle.dnsv_files.specs.Files.{AreTold, IsToldBy};
 ghost use Rattle.dnssec_check_c.specs.Asked.{judged_files, listed_files, shown_files};
 ghost use Rattle.dnssec_check_c.specs.Octets.{files_of, given_octets};
 
 use crate::options::Options;
+use dnsv_files::Inputs;
 use dnsv_message::Counted;
-use dnsv_program::Inputs;
 
 /// The octets in the place of each file, where that is given.
 #[derive(Clone, Copy)]

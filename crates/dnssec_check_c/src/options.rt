@@ -5,8 +5,9 @@ ghost use Rattle.dnsv_program.specs.declared.command_line.request.Known.{Known};
 ghost use Rattle.dnsv_program.specs.declared.command_line.request.Listing.{Listing};
 ghost use Rattle.dnssec_check_c.specs.Asked.{IsFormat, IsKnown, IsListing, IsManner};
 
+use dnsv_files::Moment;
 use dnsv_names::RecordType;
-use dnsv_program::{Known, Listing, Moment};
+use dnsv_program::{Known, Listing};
 use dnsv_texts::Format;
 use std::alloc::Global;
 

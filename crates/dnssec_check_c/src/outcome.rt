@@ -1,9 +1,9 @@
 //! What a call tells of its end.
 ghost use Rattle.std.specs.Prelude.{◌≡◌, unwrap_or};
-ghost use Rattle.dnsv_program.specs.Status.{fault_code};
+ghost use Rattle.dnsv_files.specs.Status.{fault_code};
 ghost use Rattle.dnssec_check_c.specs.Ends.{GivesText, file_number, nothing_told, told_of_fault, told_of_text};
 
-use dnsv_program::{Fault, InputFile, Place, Status};
+use dnsv_files::{Fault, InputFile, Place, Status};
 
 /// What a call tells besides its status.
 #[repr(C)]

@@ -6,8 +6,9 @@ ghost use Rattle.dnssec_check_c.specs.Octets.{files_of};
 
 use crate::octets::Octets;
 use crate::outcome::{Outcome, give, refuse};
+use dnsv_files::Fault;
 use dnsv_message::Counted;
-use dnsv_program::{Fault, Request, run};
+use dnsv_program::{Request, run};
 use std::alloc::Global;
 
 /// Runs the request over the octets, and tells how it ends: its text in the buffer and its status, or 10 where the text

@@ -1,6 +1,6 @@
 use Rattle.std.proofs.Common.{◌≡◌, refl, ap, ◌∙◌}
 use Rattle.dnsv_message.specs.Streams.Counted.{inner_of}
-use Rattle.dnsv_program.specs.Status.{fault_code}
+use Rattle.dnsv_files.specs.Status.{fault_code}
 use Rattle.dnssec_check_c.specs.Ends.{told_of_fault}
 use Rattle.dnssec_check_c.specs.Octets.{files_of}
 use Rattle.dnssec_check_c.proofs.EndLemmas.{fault_ends, question_told, text_ends}
