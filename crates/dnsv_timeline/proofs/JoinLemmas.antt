@@ -10,7 +10,7 @@ use Rattle.dnsv_timeline.specs.declared.times.Times.{Times}
 use Rattle.dnsv_timeline.specs.Joined.{Goes, IsSteady, up_to}
 use Rattle.dnsv_timeline.specs.Points.{ArePoints, IsChange, IsValidAt}
 use Rattle.dnsv_timeline.specs.Range.{IsRange}
-use Rattle.dnsv_timeline.specs.Timeline.{AreSameValid, DependsOn, IsTimelineBy}
+use Rattle.dnsv_timeline.specs.Timeline.{AreSameValid, DependsOnWithin, IsTimelineBy}
 use Rattle.dnsv_timeline.proofs.CircleLemmas.{on}
 use Rattle.dnsv_timeline.proofs.StretchLemmas.{begins_anew, gap_split, goes_on, one_moment, said_split}
 
@@ -196,12 +196,12 @@ pub all_unchanged : (from to : ℕ) (signatures : List Times) (points : List ℕ
 all_unchanged from to signatures points moment are behind within none times among =
     unchanged times moment (λ change. none ((are.members moment).1 (times, among, record { behind = behind; within = within; changes = change })))
 
-pub steady_of : {S : Type 0} (Said : ℕ → S → Type 0) (from to : ℕ) (signatures : List Times) (points : List ℕ) → DependsOn Said signatures
-    → ArePoints from to signatures points → IsSteady Said from to points
+pub steady_of : {S : Type 0} (Said : ℕ → S → Type 0) (from to : ℕ) (signatures : List Times) (points : List ℕ)
+    → DependsOnWithin from to Said signatures → ArePoints from to signatures points → IsSteady Said from to points
 steady_of Said from to signatures points depends are = record {
   rising = are.rising;
   within = λ point among. let is = (are.members point).0 among in (is.2.behind, is.2.within);
   steady = λ moment behind within none said was.
-      depends (moment - 1) moment said
+      depends (moment - 1) moment said (omega (arith, behind)) (omega (arith, within)) (omega (arith, behind)) within
       (λ times among. let is = all_unchanged from to signatures points moment are behind within none times among in (is.1, is.0)) was;
 }

@@ -53,3 +53,9 @@ AreSameValid signatures moment other =
 abbrev pub DependsOn : {S : Type 0} → (ℕ → S → Type 0) → List Times → Type 0
 DependsOn {S} Said signatures =
     (moment other : ℕ) (said : S) → AreSameValid signatures moment other → Said moment said → Said other said
+
+-- and so at the moments of a range: what is said at others may be anything
+abbrev pub DependsOnWithin : {S : Type 0} → ℕ → ℕ → (ℕ → S → Type 0) → List Times → Type 0
+DependsOnWithin {S} from to Said signatures =
+    (moment other : ℕ) (said : S) → from ≤ moment → moment ≤ to → from ≤ other → other ≤ to
+    → AreSameValid signatures moment other → Said moment said → Said other said

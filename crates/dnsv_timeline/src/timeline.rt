@@ -2,7 +2,7 @@
 ghost use Rattle.std.specs.Prelude.{◌≡◌, ◌<◌, ◌≤◌, ℕ, IfOk};
 ghost use Rattle.dnsv_timeline.specs.Joined.{Goes, IsSteady};
 ghost use Rattle.dnsv_timeline.specs.Points.{ArePoints};
-ghost use Rattle.dnsv_timeline.specs.Timeline.{DependsOn, IsTimelineBy};
+ghost use Rattle.dnsv_timeline.specs.Timeline.{DependsOnWithin, IsTimelineBy};
 
 use crate::judge::Judge;
 use crate::points::points_of_change;
@@ -11,15 +11,16 @@ use crate::stretch::Stretch;
 use crate::times::Times;
 use std::alloc::{AllocError, Global};
 
-/// The timeline of what the judge says, from the first moment of the range to its last. What it says depends on the
-/// moment through the validity of the signatures alone, so it is asked at the first moment and at each point of change.
+/// The timeline of what the judge says, from the first moment of the range to its last. At the moments of the range, what
+/// it says depends on the moment through the validity of the signatures alone, so it is asked at the first moment and at
+/// each point of change.
 pub fn timeline_of<S: Drop, J: Judge<S>>(
     alloc: Global,
     range: Range,
     signatures: &[Times],
     judge: &J,
 ) -> Result<Vec<Stretch<S>>, AllocError>
-    requires { DependsOn (J.says judge.now) signatures.now }
+    requires { DependsOnWithin range.from range.to (J.says judge.now) signatures.now }
     ensures { IfOk result (λ stretches. IsTimelineBy (J.says judge.now) range.from range.to stretches.items) }
 {
     let points = points_of_change(alloc, range, signatures)?;

@@ -16,7 +16,7 @@ use Rattle.dnsv_verifier.specs.declared.answer.Answer.{Answer}
 use Rattle.dnsv_verifier.specs.declared.answer.Answer.TheVariants.{Unknown}
 use Rattle.dnsv_verifier.specs.declared.entry.Entry.{Entry}
 use Rattle.dnsv_derivations.proofs.lemmas.intervals.MomentLemmas.{is_behind, is_first}
-use Rattle.dnsv_timeline_laws.specs.Within.{IsAskedWithin, IsTableWithin}
+use Rattle.dnsv_verifier.specs.Within.{IsAskedWithin, IsTableWithin}
 
 -- what two meanings say alike of each is the same list
 alike : (a b : Entry → Answer) (entries : List Entry) → ((entry : Entry) → Contains entries entry → a entry ≡ b entry)

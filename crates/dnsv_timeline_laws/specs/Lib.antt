@@ -1,4 +1,3 @@
 pub mod Derived
 pub mod Said
 pub mod SameValid
-pub mod Within

@@ -12,7 +12,7 @@ ghost use Rattle.dnsv_lines.specs.declared.line.Line.{Line};
 ghost use Rattle.dnsv_timeline_laws.specs.Derived.{AreLinksDerived, IsDerivationOf};
 ghost use Rattle.dnsv_timeline_laws.specs.Said.{IsKindAt, IsSaid, IsSaidAt, Said, Told};
 ghost use Rattle.dnsv_timeline_laws.specs.SameValid.{AreSignaturesSameValid, HaveTimes, at_moment};
-ghost use Rattle.dnsv_timeline_laws.specs.Within.{IsAskedWithin, IsTableWithin};
+ghost use Rattle.dnsv_verifier.specs.Within.{IsAskedWithin, IsTableWithin};
 ghost use Rattle.dnsv_verdict.specs.Verdict.{Basis, IsVerdictAt};
 ghost use Rattle.dnsv_verdict.specs.Way.{IsRefusal, IsVerdictOf};
 ghost use Rattle.dnsv_verdict.specs.declared.error.VerdictError.{VerdictError};

@@ -16,8 +16,9 @@ pub use link::{Link, Links};
 pub use report::{Judged, Report, validate};
 pub use search::Found;
 pub use settled::opt_out_wildcard;
+pub use traced::{StoppedWay, Traced};
 pub use verdict::Verdict;
-pub use ways::a_question_leads_one_way;
+pub use ways::{a_question_leads_one_way, a_question_stops_at_one_alias};
 
 mod at_name;
 mod case;
@@ -29,6 +30,7 @@ mod report;
 mod search;
 mod settled;
 mod target;
+mod traced;
 mod trail;
 mod verdict;
 mod way;

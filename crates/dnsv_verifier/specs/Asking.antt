@@ -1,5 +1,5 @@
 -- How the entries that are asked are found. No public clause cites this module.
-use Rattle.std.specs.Prelude.{◌≡◌, ◌↔◌, ◌⊎◌, ⊤, ℕ, IsTrue, IsBitSet, List, Contains, Some}
+use Rattle.std.specs.Prelude.{◌≡◌, ◌≤◌, ◌↔◌, ◌⊎◌, ⊤, ℕ, IsTrue, IsBitSet, List, Contains, Some}
 use Rattle.std.specs.Ordering.{nat_cmp, ordering_then}
 use Rattle.std.specs.declared.cmp.Ordering.{Ordering}
 use Rattle.dnsv_names.specs.Name.{Labels}
@@ -110,18 +110,26 @@ pub record MadeSignature : Type 0 where
 abbrev pub IsMadeBySome : List DnskeyRecord → Rrsig → Type 0
 IsMadeBySome keys rrsig = (key : DnskeyRecord) × Contains keys key × MayHaveMade key rrsig
 
--- the signature of the RRset can be verified at the moment, and one of the keys may have made it
-pub record IsMadeOf (moment : ℕ) (keys : List DnskeyRecord) (rrset : ReceivedRrset) (rrsig : Rrsig)
+-- some key might verify the signature of the RRset at some moment of the range
+pub record IsVerifiableWithin (from to : ℕ) (rrset : ReceivedRrset) (rrsig : Rrsig) : Type 0 where
+  pub moment : ℕ
+  pub begins : from ≤ moment
+  pub ends : moment ≤ to
+  pub verifiable : IsVerifiable moment rrset rrsig
+
+-- the signature of the RRset can be verified within the range, and one of the keys may have made it
+pub record IsMadeOf (from to : ℕ) (keys : List DnskeyRecord) (rrset : ReceivedRrset) (rrsig : Rrsig)
     (made : MadeSignature) : Type 0 where
   pub same : made.rrsig ≡ rrsig
-  pub verifiable : IsVerifiable moment rrset rrsig
+  pub verifiable : IsVerifiableWithin from to rrset rrsig
   pub by_some : IsMadeBySome keys rrsig
   pub part_of : IsPartOf rrset rrsig made.part
 
 -- the same of some signature of the RRset
-pub record IsMadeIn (moment : ℕ) (keys : List DnskeyRecord) (rrset : ReceivedRrset) (made : MadeSignature) : Type 0 where
+pub record IsMadeIn (from to : ℕ) (keys : List DnskeyRecord) (rrset : ReceivedRrset) (made : MadeSignature)
+    : Type 0 where
   pub its : IsSignatureOf rrset made.rrsig
-  pub is : IsMadeOf moment keys rrset made.rrsig made
+  pub is : IsMadeOf from to keys rrset made.rrsig made
 
 -- the entry is that of the signature and one of the keys, which may have made it
 abbrev pub IsEntryOfMade : List DnskeyRecord → MadeSignature → Entry → Type 0

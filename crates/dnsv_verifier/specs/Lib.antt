@@ -11,3 +11,4 @@ pub mod StatementsError
 pub mod StatementsLaws
 pub mod StatementsReading
 pub mod Table
+pub mod Within

@@ -1,12 +1,13 @@
 -- Entries by the numbers of their parts. No public clause cites this module.
-use Rattle.std.specs.Prelude.{◌≡◌, ◌<◌, ℕ, List, [], Contains, length, map, unwrap_or}
+use Rattle.std.specs.Prelude.{◌≡◌, ◌<◌, ◌^◌, ◌&&◌, ℕ, Bool, nat_lt, List, [], Contains, length, map, unwrap_or}
 use lib.ListN.{get_or}
 use Rattle.std.specs.List.Sorted.{IsStrictlySortedBy}
 use Rattle.std.specs.Map.{lookup}
 use Rattle.std.specs.Ordering.{is_eq, nat_cmp, ordering_then}
 use Rattle.std.specs.declared.cmp.Ordering.{Ordering}
 use Rattle.std.specs.declared.cmp.Ordering.TheVariants.{Equal}
-use Rattle.dnsv_names.specs.Octets.{octets_cmp}
+use Rattle.dnsv_names.specs.Octets.{number_at, octets_cmp}
+use Rattle.dnsv_records.specs.Rrsig.Time.{seconds_on}
 use Rattle.dnsv_verifier.specs.Admissible.{DnskeyRecord}
 use Rattle.dnsv_verifier.specs.Asking.{CanSign, ComesOfSome, MadeSignature, NumberedName, key_name_cmp, name_of_key, named_by}
 use Rattle.dnsv_verifier.specs.declared.answer.Answer.{Answer}
@@ -81,6 +82,17 @@ answers_of parts answers = map (λ each. (entry_of parts each.0, each.1)) answer
 -- the answer that is listed for the numbers, Unknown where none is
 abbrev pub listed_answer : List (EntryNumbers × Answer) → EntryNumbers → Answer
 listed_answer answers numbers = unwrap_or (lookup (λ each. is_eq (numbers_cmp numbers each)) answers) Unknown
+
+-- whether the signature of the entry is valid at the moment, by what its signed data begins with
+abbrev pub is_timely : ℕ → Entry → Bool
+is_timely moment entry =
+    nat_lt 15 (length entry.signed_data)
+    && nat_lt (seconds_on (number_at entry.signed_data 12 4) moment) (2 ^ 31)
+    && nat_lt (seconds_on moment (number_at entry.signed_data 8 4)) (2 ^ 31)
+
+-- the same of an entry by its numbers
+abbrev pub is_timely_in : ℕ → PartLists → EntryNumbers × Answer → Bool
+is_timely_in moment parts each = is_timely moment (entry_of parts each.0)
 
 -- what a key gives to its entries
 abbrev pub part_of_key : DnskeyRecord → KeyPart

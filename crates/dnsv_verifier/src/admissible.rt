@@ -1,13 +1,16 @@
 //! Which DNSKEY may be used to verify which signature (RFC 4035 5.3.1).
-ghost use Rattle.std.specs.Prelude.{◌↔◌, IsTrue};
+ghost use Rattle.std.specs.Prelude.{◌↔◌, ℕ, IsTrue};
 ghost use Rattle.dnsv_names.specs.Name.{SameName};
+ghost use Rattle.dnsv_records.specs.Rrsig.Time.{ValidAt};
 ghost use Rattle.dnsv_canonical.specs.SignedData.{IsExpanded};
 ghost use Rattle.dnsv_verifier.specs.Admissible.{IsAdmissible, IsOver, IsVerifiable, IsZoneKeyOf, MayHaveMade, MaySign, Names, is_unexpanded};
+ghost use Rattle.dnsv_verifier.specs.Asking.{IsVerifiableWithin};
 
 use crate::key::KeyRecord;
 use dnsv_canonical::{Rrset, is_expanded, signed_label_count};
 use dnsv_names::{Name, RecordType};
 use dnsv_records::{Rrsig, time_valid};
+use dnsv_timeline::{Range, Times, is_valid_within};
 
 /// The numbers of the types that no wildcard stands for: DS, NSEC, DNSKEY and NSEC3.
 const UNEXPANDED: [u16; 4] = [43, 47, 48, 50];
@@ -25,8 +28,26 @@ pub fn is_admissible(moment: u64, rrset: &Rrset<'_>, rrsig: &Rrsig<'_>, key: &Ke
 pub fn is_verifiable(moment: u64, rrset: &Rrset<'_>, rrsig: &Rrsig<'_>) -> bool
     ensures { IsTrue result ↔ IsVerifiable moment rrset.now rrsig.now }
 {
+    time_valid(rrsig.inception, rrsig.expiration, moment) && is_fit(rrset, rrsig)
+}
+
+/// Whether some key might verify the signature of the RRset at some moment of the range.
+pub(crate) fn is_verifiable_within(range: Range, rrset: &Rrset<'_>, rrsig: &Rrsig<'_>) -> bool
+    ensures { IsTrue result ↔ IsVerifiableWithin range.from range.to rrset.now rrsig.now }
+{
+    let times = Times {
+        inception: rrsig.inception,
+        expiration: rrsig.expiration,
+    };
+    is_valid_within(times, range) && is_fit(rrset, rrsig)
+}
+
+/// Whether some key might verify the signature of the RRset at the moments at which it is valid.
+fn is_fit(rrset: &Rrset<'_>, rrsig: &Rrsig<'_>) -> bool
+    ensures { (moment : ℕ) → ValidAt rrsig.now.inception.0 rrsig.now.expiration.0 moment
+        → (IsTrue result ↔ IsVerifiable moment rrset.now rrsig.now) }
+{
     is_over(rrset, rrsig)
-        && time_valid(rrsig.inception, rrsig.expiration, moment)
         && may_sign(&rrsig.signer.to_name(), rrset.rtype(), rrset.owner())
         && !is_wrongly_expanded(rrset.rtype(), rrset.owner(), rrsig)
 }

@@ -3,13 +3,14 @@
 mod made;
 mod numbers;
 
-ghost use Rattle.std.specs.Prelude.{◌≡◌, ◌↔◌, Contains, IfOk, OnErr, OnOk, length, map};
+ghost use Rattle.std.specs.Prelude.{◌≡◌, ◌↔◌, Contains, IfOk, OnErr, length, map};
 ghost use Rattle.std.specs.List.Sorted.{IsStrictlySortedBy};
 ghost use Rattle.dnsv_names.specs.Count.{counted};
-ghost use Rattle.dnsv_verifier.specs.Admissible.{DnskeyRecord, IsAsked};
+ghost use Rattle.dnsv_verifier.specs.Admissible.{DnskeyRecord};
 ghost use Rattle.dnsv_verifier.specs.Asking.{MadeSignature};
 ghost use Rattle.dnsv_verifier.specs.Numbers.{AreRising, entry_of, key_cmp, part_of_key, signature_cmp};
 ghost use Rattle.dnsv_verifier.specs.Table.{IsTableOf};
+ghost use Rattle.dnsv_verifier.specs.Within.{IsAskedWithin, IsTableWithin};
 ghost use Rattle.dnsv_verifier.specs.declared.entry.Entry.{Entry};
 
 use crate::ask::made::{Made, made_signatures};
@@ -22,6 +23,7 @@ use crate::verifier::Verifier;
 use bumpalo::Bump;
 use dnsv_canonical::{Capture, Rrset};
 use dnsv_names::Count;
+use dnsv_timeline::Range;
 use std::alloc::{AllocError, Global};
 use std::rc::Rc;
 
@@ -42,9 +44,36 @@ pub fn ask_all<'b, V: Verifier>(
     ensures count { IfOk result (λ table. count.new ≡ counted count.old (length table.answers)) }
     ensures refused { OnErr result (count.new ≡ count.old) }
 {
+    // One moment is a range.
+    let Some(range) = Range::new(moment, moment) else {
+        unreachable!();
+    };
+    ask_within(alloc, bump, capture, range, verifier, count)
+}
+
+/// Asks the verifier about each signature of the capture under each key that may be used for it at some moment of the
+/// range (RFC 4035 5.3.1), each distinct entry once. So of each moment of the range the table says what the verifier
+/// does: `Table::at` gives the table of the moment. The table's own moment is the first of the range.
+///
+/// The count grows by the number of entries, which are those of the table. A refusal, for want of memory, asks
+/// nothing.
+pub fn ask_within<'b, V: Verifier>(
+    alloc: Global,
+    bump: &'b Bump,
+    capture: &'b Capture<'b>,
+    range: Range,
+    verifier: &V,
+    count: &mut Count,
+) -> Result<Table<'b>, AllocError>
+    ensures moment { IfOk result (λ table. table.moment ≡ range.from) }
+    ensures table { IfOk result (λ table. IsTableWithin (V.meaning verifier.now) range.from range.to capture.now.rrsets
+        table) }
+    ensures count { IfOk result (λ table. count.new ≡ counted count.old (length table.answers)) }
+    ensures refused { OnErr result (count.new ≡ count.old) }
+{
     // What is true of every count.
     let _ = count.value();
-    let asked = asked_entries(alloc, bump, moment, capture.rrsets())?;
+    let asked = asked_entries(alloc, bump, range, capture.rrsets())?;
     let Asked { parts, numbers } = asked;
     let mut answers = Vec::with_capacity(alloc, numbers.len())?;
     let numbers = Rc::new(alloc, numbers)?;
@@ -56,7 +85,7 @@ pub fn ask_all<'b, V: Verifier>(
             unreachable!();
         };
     }
-    Ok(Table::new(moment, parts, numbers, answers))
+    Ok(Table::new(range.from(), parts, numbers, answers))
 }
 
 /// The entries that are asked, each once, rising.
@@ -66,19 +95,20 @@ struct Asked<'b> {
     numbers: Vec<EntryNumbers>,
 }
 
-/// The entries that are asked of the RRsets.
+/// The entries that are asked of the RRsets within the range.
 fn asked_entries<'b>(
     alloc: Global,
     bump: &'b Bump,
-    moment: u64,
+    range: Range,
     rrsets: &'b [Rrset<'b>],
 ) -> Result<Asked<'b>, AllocError>
     ensures rising { IfOk result (λ asked. AreRising asked.parts asked.numbers.items) }
     ensures asked { IfOk result (λ asked. (entry : Entry)
-        → Contains (map (entry_of asked.parts) asked.numbers.items) entry ↔ IsAsked moment rrsets.now entry) }
+        → Contains (map (entry_of asked.parts) asked.numbers.items) entry
+        ↔ IsAskedWithin range.from range.to rrsets.now entry) }
 {
     let keys = Keys::of(alloc, rrsets)?;
-    let made = made_signatures(alloc, bump, moment, &keys, rrsets)?;
+    let made = made_signatures(alloc, bump, range, &keys, rrsets)?;
     let parts = parts_of(bump, keys.as_slice(), made.as_slice())?;
     let numbers = entry_numbers(alloc, keys.as_slice(), made.as_slice(), &parts)?;
     Ok(Asked { parts, numbers })

@@ -3,7 +3,7 @@
 
 pub use admissible::{is_admissible, is_verifiable, may_have_made, may_sign};
 pub use answer::Answer;
-pub use ask::ask_all;
+pub use ask::{ask_all, ask_within};
 pub use entries::Entries;
 pub use entry::{Entry, entry_over};
 pub use hex_field::hex_octets;

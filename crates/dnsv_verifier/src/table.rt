@@ -1,22 +1,30 @@
 //! What a verifier says of the evidence, worked out once.
-ghost use Rattle.std.specs.Prelude.{◌≡◌, ◌↔◌, [], IfOk, IsTrue, filter, length, map};
+
+mod timely;
+
+ghost use Rattle.std.specs.Prelude.{◌≡◌, ◌↔◌, ◌≤◌, ℕ, List, [], IfOk, IsTrue, filter, length, map};
 ghost use Rattle.std.specs.List.{zip};
 ghost use Rattle.std.specs.List.Sorted.{IsStrictlySortedBy};
 ghost use Rattle.dnsv_verifier.specs.Entry.{entry_cmp};
 ghost use Rattle.dnsv_verifier.specs.Numbers.{AreRising, answers_of, listed_answer, numbers_cmp};
-ghost use Rattle.dnsv_verifier.specs.Table.{hoped_answer, hopeful, is_unknown, unknown_entries, with_answers};
+ghost use Rattle.dnsv_canonical.specs.Rrsets.{ReceivedRrset};
+ghost use Rattle.dnsv_verifier.specs.Table.{IsTableOf, hoped_answer, hopeful, is_unknown, unknown_entries, with_answers};
+ghost use Rattle.dnsv_verifier.specs.Within.{IsTableAt, IsTableWithin};
+ghost use Rattle.dnsv_verifier.specs.declared.answer.Answer.{Answer};
+ghost use Rattle.dnsv_verifier.specs.declared.entry.Entry.{Entry};
 
 use crate::answer::Answer;
 use crate::entries::Entries;
 use crate::entry::Entry;
 use crate::entry::parts::{EntryNumbers, Parts};
+use crate::table::timely::{Timely, timely_entries};
 use crate::verifier::Verifier;
 use std::alloc::{AllocError, Global};
 use std::marker::Model;
 use std::rc::Rc;
 
-/// What a verifier says at a moment: the entries that it was asked, each once, with its answers. A table is itself a
-/// verifier, which says Unknown of any other entry.
+/// What a verifier says at a moment, or at the moments of a range: the entries that it was asked, each once, with its
+/// answers. A table is itself a verifier, which says Unknown of any other entry.
 #[derive(Drop)]
 pub struct Table<'b> {
     moment: u64,
@@ -67,7 +75,7 @@ impl<'b> Table<'b> {
         }
     }
 
-    /// The moment, in seconds since 1970.
+    /// The moment, in seconds since 1970: of a range its first.
     pub fn moment(&self) -> u64
         ensures { result ≡ self.now.moment }
     {
@@ -111,6 +119,26 @@ impl<'b> Table<'b> {
         let numbers = self.numbers.clone()?;
         let answers = hoped_answers(alloc, &self.answers)?;
         Ok(Table::new(self.moment, self.parts.copied(), numbers, answers))
+    }
+
+    /// The table of the moment, in seconds since 1970: the entries whose signature is valid at it (RFC 4034 3.1.5), with
+    /// their answers. Of a table for a range it is what the verifier says at this moment of it. It asks nobody, and makes
+    /// no signed data: the octets stay the table's.
+    pub fn at(&self, alloc: Global, moment: u64) -> Result<Table<'b>, AllocError>
+        ensures value { IfOk result (IsTableAt self.now moment) }
+        ensures within { (meaning : Entry → Answer) (from to : ℕ) (rrsets : List ReceivedRrset)
+            → IsTableWithin meaning from to rrsets self.now → from ≤ moment → moment ≤ to
+            → IfOk result (IsTableOf meaning moment rrsets) }
+    {
+        let Timely { numbers, answers } = timely_entries(
+            alloc,
+            moment,
+            &self.parts,
+            &self.numbers,
+            &self.answers,
+        )?;
+        let numbers = Rc::new(alloc, numbers)?;
+        Ok(Table::new(moment, self.parts.copied(), numbers, answers))
     }
 
     /// The same moment and entries with answers that were given by number: the first is that of the first entry, and so

@@ -3,7 +3,7 @@ ghost use Rattle.std.specs.Prelude.{◌≡◌, ◌↔◌, ◌<◌, [], IfOk, IsT
 ghost use Rattle.dnsv_canonical.specs.SignedData.{signed_label_count};
 ghost use Rattle.dnsv_verifier.specs.Asking.{AddsJust, ComesOfSome, IsMadeBySome, IsMadeIn, IsMadeOf, IsPartOf, named_by};
 
-use crate::admissible::{is_verifiable, may_have_made};
+use crate::admissible::{is_verifiable_within, may_have_made};
 use crate::entry::parts::SignaturePart;
 use crate::key::KeyRecord;
 use crate::key::keys::Keys;
@@ -11,6 +11,7 @@ use crate::key::numbered::Numbered;
 use bumpalo::Bump;
 use dnsv_canonical::{Rrset, SigningRoom, make_signed_data};
 use dnsv_records::{Octets, Rrsig};
+use dnsv_timeline::Range;
 use std::alloc::{AllocError, Global};
 use std::marker::Model;
 
@@ -44,20 +45,20 @@ impl<'a> Made<'a> {
     }
 }
 
-/// The signatures of the RRsets that can be verified at the moment, and that some key may have made.
+/// The signatures of the RRsets that can be verified at some moment of the range, and that some key may have made.
 pub(crate) fn made_signatures<'a>(
     alloc: Global,
     bump: &'a Bump,
-    moment: u64,
+    range: Range,
     keys: &Keys<'_>,
     rrsets: &'a [Rrset<'a>],
 ) -> Result<Vec<Made<'a>>, AllocError>
-    ensures { IfOk result (λ made. AddsJust (ComesOfSome (IsMadeIn moment keys.now) rrsets.now) [] made.items) }
+    ensures { IfOk result (λ made. AddsJust (ComesOfSome (IsMadeIn range.from range.to keys.now) rrsets.now) [] made.items) }
 {
     let mut made = Vec::new(alloc);
     let mut room = SigningRoom::new(alloc);
     for rrset in rrsets {
-        add_rrset(alloc, bump, &mut room, moment, keys, rrset, &mut made)?;
+        add_rrset(alloc, bump, &mut room, range, keys, rrset, &mut made)?;
     }
     Ok(made)
 }
@@ -67,15 +68,15 @@ fn add_rrset<'a>(
     alloc: Global,
     bump: &'a Bump,
     room: &mut SigningRoom,
-    moment: u64,
+    range: Range,
     keys: &Keys<'_>,
     rrset: &'a Rrset<'a>,
     made: &mut Vec<Made<'a>>,
 ) -> Result<(), AllocError>
-    ensures { OnOk result (AddsJust (IsMadeIn moment keys.now rrset.now) made.old.items made.new.items) }
+    ensures { OnOk result (AddsJust (IsMadeIn range.from range.to keys.now rrset.now) made.old.items made.new.items) }
 {
     for rrsig in rrset.signatures() {
-        add_signature(alloc, bump, room, moment, keys, rrset, rrsig, made)?;
+        add_signature(alloc, bump, room, range, keys, rrset, rrsig, made)?;
     }
     Ok(())
 }
@@ -85,15 +86,15 @@ fn add_signature<'a>(
     alloc: Global,
     bump: &'a Bump,
     room: &mut SigningRoom,
-    moment: u64,
+    range: Range,
     keys: &Keys<'_>,
     rrset: &Rrset<'_>,
     rrsig: &'a Rrsig<'a>,
     made: &mut Vec<Made<'a>>,
 ) -> Result<(), AllocError>
-    ensures { OnOk result (AddsJust (IsMadeOf moment keys.now rrset.now rrsig.now) made.old.items made.new.items) }
+    ensures { OnOk result (AddsJust (IsMadeOf range.from range.to keys.now rrset.now rrsig.now) made.old.items made.new.items) }
 {
-    if !is_verifiable(moment, rrset, rrsig) {
+    if !is_verifiable_within(range, rrset, rrsig) {
         return Ok(());
     }
     if !is_made_by_some(keys, rrsig) {

@@ -1,6 +1,8 @@
--- Tables for a range: what a verifier says of each entry that is asked at some moment of it.
-use Rattle.std.specs.Prelude.{◌≡◌, ◌↔◌, ◌≤◌, ℕ, List, Contains, map}
+-- Tables for a range of moments, and what is left of a table at one moment.
+use Rattle.std.specs.Prelude.{◌≡◌, ◌↔◌, ◌≤◌, ℕ, List, Contains, length, map}
 use Rattle.std.specs.List.Sorted.{IsStrictlySortedBy}
+use Rattle.dnsv_names.specs.Octets.{number_at}
+use Rattle.dnsv_records.specs.Rrsig.Time.{ValidAt}
 use Rattle.dnsv_canonical.specs.Rrsets.{ReceivedRrset}
 use Rattle.dnsv_verifier.specs.Admissible.{IsAsked}
 use Rattle.dnsv_verifier.specs.Entry.{entry_cmp}
@@ -26,3 +28,16 @@ pub record IsTableWithin (meaning : Entry → Answer) (from to : ℕ) (rrsets : 
   pub entries : List Entry
   pub asked : AreAskedWithin from to rrsets entries
   pub answers : contents.answers ≡ map (λ entry. (entry, meaning entry)) entries
+
+-- The signature of the entry is valid at the moment: its signed data begins with the RRSIG's RDATA, which has the
+-- expiration behind its first eight octets, and then the inception (RFC 4034 3.1, 3.1.5, 3.1.8.1).
+pub record IsTimely (moment : ℕ) (entry : Entry) : Type 0 where
+  pub long : 16 ≤ length entry.signed_data
+  pub valid : ValidAt (number_at entry.signed_data 12 4) (number_at entry.signed_data 8 4) moment
+
+-- the contents are of the moment, and have just those entries of the table, with their answers, that are timely at it
+pub record IsTableAt (table : TableContents) (moment : ℕ) (contents : TableContents) : Type 0 where
+  pub of_moment : contents.moment ≡ moment
+  pub rising : IsStrictlySortedBy entry_cmp (map (λ each. each.0) contents.answers)
+  pub members : (each : Entry × Answer)
+      → Contains contents.answers each ↔ (Contains table.answers each × IsTimely moment each.0)
