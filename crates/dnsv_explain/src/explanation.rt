@@ -1,33 +1,33 @@
 //! Why a verdict stands.
 
 pub mod at;
+pub mod derivation;
 mod end;
 pub mod explainer;
 mod failure;
+mod links;
 mod told;
 mod verdict;
 mod wildcard_cut;
 
-ghost use Rattle.std.specs.Prelude.{◌≡◌, [], IfOk, OnOk};
+ghost use Rattle.std.specs.Prelude.{◌≡◌, [], IfOk};
 ghost use Rattle.dnsv_names.specs.Name.{Labels};
 ghost use Rattle.dnsv_verdict.specs.Case.{HasTrust, basis_by};
 ghost use Rattle.dnsv_verdict.specs.Report.{IsKept, IsReport, Refuses, hashes_in};
 ghost use Rattle.dnsv_verdict.specs.Verdict.{basis_of};
 ghost use Rattle.dnsv_verdict.specs.Way.{IsVerdictOf};
-ghost use Rattle.dnsv_derivations.specs.Explained.{setting_in};
 ghost use Rattle.dnsv_explain.specs.Explained.{explained_by};
-ghost use Rattle.dnsv_explain.specs.Explanation.{IsExplanation, IsExplanationOf, IsLinkTold, IsUnproved};
-ghost use Rattle.dnsv_derivations.specs.Saying.{Adds, AreEach};
+ghost use Rattle.dnsv_explain.specs.Explanation.{IsExplanation, IsExplanationOf, IsUnproved};
 ghost use Rattle.dnsv_explain.specs.SharedWays.{AreHopedWays};
 
 use crate::explanation::at::At;
 use crate::explanation::end::{add_end, add_places_named};
 use crate::explanation::explainer::Explainer;
 use crate::explanation::failure::{add_failure, is_unproved};
-use crate::explanation::told::add_set;
+use crate::explanation::links::add_links;
 use crate::explanation::verdict::{add_verdict, is_settled};
 use bumpalo::Bump;
-use dnsv_canonical::{Capture, SignatureNumber, is_question};
+use dnsv_canonical::{Capture, is_question};
 use dnsv_chain::Anchors;
 use dnsv_derivations::{Evidence, KeptWay};
 use dnsv_lines::Line;
@@ -112,7 +112,8 @@ fn explanation_of<'a>(
         return Ok(failed(alloc, evidence, case, judged, hoped, rtype)?);
     }
     let mut lines = Vec::new(alloc);
-    add_links(alloc, evidence, case, judged, &mut lines, rtype)?;
+    let links = judged.report.links.as_slice();
+    add_links(alloc, evidence, case, links, &judged.hashes, &mut lines)?;
     let hashes = judged.hashes_at(judged.report.links.as_slice().len());
     add_verdict(
         alloc, evidence, case, judged, hashes, hoped, &mut lines, rtype,
@@ -153,44 +154,11 @@ fn failed<'a>(
         name: &judged.report.last,
     };
     add_failure(alloc, evidence, &at, &mut lines, rtype)?;
-    add_links(alloc, evidence, case, judged, &mut lines, rtype)?;
+    let links = judged.report.links.as_slice();
+    add_links(alloc, evidence, case, links, &judged.hashes, &mut lines)?;
     add_verdict(
         alloc, evidence, case, judged, last, hoped, &mut lines, rtype,
     )?;
     add_places_named(alloc, evidence, &mut lines)?;
     Ok(Explanation { lines })
-}
-
-/// Adds what holds for each link, in order.
-fn add_links<'a>(
-    alloc: Global,
-    evidence: &Evidence<'_>,
-    case: &Case<'a>,
-    judged: &Judged<'a>,
-    lines: &mut Vec<Line>,
-    rtype: RecordType,
-) -> Result<(), AllocError>
-    requires trust { HasTrust case.now }
-    requires evidence { evidence.now ≡ explained_by case.now [] }
-    requires kept { IsKept case.now rtype.0 judged.now.report.links judged.now.report.last
-        judged.now.report.verdict (hashes_in judged.now) judged.now.hope }
-    requires verdict { (name : Labels) × IsVerdictOf (basis_by case.now) name rtype.0 judged.now.report.links
-        judged.now.report.last judged.now.report.verdict }
-    ensures { OnOk result (Adds (AreEach (IsLinkTold (setting_in evidence.now)) judged.now.report.links) lines.old.items
-        lines.new.items) }
-{
-    for (place, link) in judged.report.links.as_slice().iter().enumerate() {
-        let number = SignatureNumber {
-            rrset: link.rrset,
-            signature: link.signature,
-        };
-        let hashes = judged.hashes_at(place);
-        let at = At {
-            case,
-            hashes,
-            name: &link.name,
-        };
-        add_set(alloc, evidence, &at, lines, number)?;
-    }
-    Ok(())
 }

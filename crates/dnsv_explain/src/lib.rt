@@ -3,6 +3,7 @@
 //! The lines are those of `dnsv_lines`; `dnsv_derivations` makes those of signatures, keys and denials.
 #![tactic(auto)]
 
+pub use explanation::derivation::{Derivation, Outcome};
 pub use explanation::explainer::Explainer;
 pub use explanation::{Explanation, explain};
 pub use laws::{

@@ -7,4 +7,5 @@ pub mod Parts
 pub mod Refused
 pub mod Showing
 pub mod Todo
+pub mod Told
 pub mod Why

@@ -11,6 +11,7 @@ pub use listing::listing_text;
 pub use refused::refused_text;
 pub use showing::push_message;
 pub use todo::todo_text;
+pub use told::told_text;
 
 mod checking;
 mod compact;
@@ -24,3 +25,5 @@ mod reason;
 mod refused;
 mod showing;
 mod todo;
+mod told;
+mod words;

@@ -14,14 +14,17 @@ use Rattle.dnsv_timeline.specs.declared.stretch.Stretch.{Stretch}
 use Rattle.dnsv_timeline.specs.declared.times.Times.{Times}
 use Rattle.dnsv_timeline_laws.proofs.MomentLemmas.{refused_to, same_by_times, verdict_of_to}
 use Rattle.dnsv_timeline_laws.proofs.ToldLemmas.{derivation_of, links_derived}
-use Rattle.dnsv_timeline_laws.specs.Said.{IsKindAt, IsRefusalSaid, IsSaid, IsSaidAt, IsVerdictSaid, Said, Told, alias_of, kind_of, told_verdict}
+use Rattle.dnsv_timeline_laws.specs.Said.{IsKindAt, IsRefusalSaid, IsSaid, IsSaidAt, IsVerdictSaid, Said, Told, told_refusal, told_verdict}
+use Rattle.dnsv_explain.specs.Derived.{alias_of}
 use Rattle.dnsv_timeline_laws.specs.Said.IsSaid.{a_refusal, a_verdict}
-use Rattle.dnsv_timeline_laws.specs.Said.Told.{as_refusal}
 use Rattle.dnsv_timeline_laws.specs.SameValid.{AreSignaturesSameValid, HaveTimes, at_moment}
+use Rattle.dnsv_timeline_laws.specs.declared.kind.Kind.{Kind}
+use Rattle.dnsv_texts.specs.declared.format.Format.{Format}
+use Rattle.dnsv_texts.specs.declared.format.Format.TheVariants.{Lines}
 
 module _ (basis : Basis) (other : ℕ) (same : AreSignaturesSameValid basis.rrsets basis.moment other) (name : Labels) (t : ℕ) where
-  verdict_said : (said : Said) → IsVerdictSaid basis name t said → IsVerdictSaid (at_moment basis other) name t said
-  verdict_said said is = record {
+  verdict_said : (format : Format) (said : Said) → IsVerdictSaid format basis name t said → IsVerdictSaid format (at_moment basis other) name t said
+  verdict_said format said is = record {
     links = is.links;
     last = is.last;
     verdict = is.verdict;
@@ -42,9 +45,9 @@ module _ (basis : Basis) (other : ℕ) (same : AreSignaturesSameValid basis.rrse
     by = is.by;
   }
 
-  pub said_too : (said : Said) → IsSaid basis name t said → IsSaid (at_moment basis other) name t said
-  said_too said (a_verdict is) = a_verdict (verdict_said said is)
-  said_too said (a_refusal is) = a_refusal (refusal_said said is)
+  pub said_too : (format : Format) (said : Said) → IsSaid format basis name t said → IsSaid format (at_moment basis other) name t said
+  said_too format said (a_verdict is) = a_verdict (verdict_said format said is)
+  said_too format said (a_refusal is) = a_refusal (refusal_said said is)
 
 -- ---- by the times of a timeline
 
@@ -53,16 +56,16 @@ pub all_have : (rrsets : List ReceivedRrset) (signatures : List Times) → AreTi
 all_have rrsets signatures are rrset rrsig among its =
     (are (times_of rrsig)).1 (rrset, among, (rrsig, its.0, its.1, its.2, refl))
 
-pub said_depends : (basis : Basis) (name : Labels) (t : ℕ) (signatures : List Times) → HaveTimes basis.rrsets signatures
-    → DependsOn (IsSaidAt basis name t) signatures
-said_depends basis name t signatures have moment other said same =
-    said_too (at_moment basis moment) other (same_by_times basis.rrsets signatures moment other have same) name t said
+pub said_depends : (format : Format) (basis : Basis) (name : Labels) (t : ℕ) (signatures : List Times) → HaveTimes basis.rrsets signatures
+    → DependsOn (IsSaidAt format basis name t) signatures
+said_depends format basis name t signatures have moment other said same =
+    said_too (at_moment basis moment) other (same_by_times basis.rrsets signatures moment other have same) name t format said
 
 pub kind_depends : (basis : Basis) (name : Labels) (t : ℕ) (signatures : List Times) → HaveTimes basis.rrsets signatures
     → DependsOn (IsKindAt basis name t) signatures
 kind_depends basis name t signatures have moment other kind same is = record {
   said = is.said;
-  is = said_depends basis name t signatures have moment other is.said same is.is;
+  is = said_depends Lines basis name t signatures have moment other is.said same is.is;
   kind_is = is.kind_is;
 }
 
@@ -83,25 +86,26 @@ HasNotBoth = (basis : Basis) (name : Labels) (t : ℕ) (links : List Link) (last
     → IsVerdictOf basis name t links last verdict → ¬ IsRefusedFor basis name t error
 
 module _ (one_verdict : HasOneVerdict) (one_refusal : HasOneRefusal) (not_both : HasNotBoth) (name : Labels) (t : ℕ) where
-  pub one_told : (basis : Basis) (said other : Said) → IsSaid basis name t said → IsSaid basis name t other → said.told ≡ other.told
-  one_told basis said other (a_verdict p) (a_verdict q) =
+  pub one_told : (format : Format) (basis : Basis) (said other : Said) → IsSaid format basis name t said → IsSaid format basis name t other
+      → said.told ≡ other.told
+  one_told format basis said other (a_verdict p) (a_verdict q) =
       let same = one_verdict basis name t p.links q.links p.last q.last p.verdict q.verdict p.is q.is in
-      let verdicts : told_verdict basis.rrsets p.links p.verdict ≡ told_verdict basis.rrsets q.links q.verdict =
-      λ i. told_verdict basis.rrsets (same.0 i) (same.2 i) in
+      let verdicts : told_verdict format basis.rrsets p.links p.verdict ≡ told_verdict format basis.rrsets q.links q.verdict =
+      λ i. told_verdict format basis.rrsets (same.0 i) (same.2 i) in
       p.told ∙ verdicts ∙ sym q.told
-  one_told basis said other (a_verdict p) (a_refusal q) =
+  one_told format basis said other (a_verdict p) (a_refusal q) =
       absurd (not_both basis name t p.links p.last p.verdict q.error p.is q.is)
-  one_told basis said other (a_refusal p) (a_verdict q) =
+  one_told format basis said other (a_refusal p) (a_verdict q) =
       absurd (not_both basis name t q.links q.last q.verdict p.error q.is p.is)
-  one_told basis said other (a_refusal p) (a_refusal q) =
-      p.told ∙ ap (λ (error : VerdictError). as_refusal error) (one_refusal basis name t p.error q.error p.is q.is) ∙ sym q.told
+  one_told format basis said other (a_refusal p) (a_refusal q) =
+      p.told ∙ ap (λ (error : VerdictError). told_refusal error) (one_refusal basis name t p.error q.error p.is q.is) ∙ sym q.told
 
-  one_kind : (basis : Basis) (moment : ℕ) (kind other : Told) → IsKindAt basis name t moment kind → IsKindAt basis name t moment other
+  one_kind : (basis : Basis) (moment : ℕ) (kind other : Kind) → IsKindAt basis name t moment kind → IsKindAt basis name t moment other
       → kind ≡ other
   one_kind basis moment kind other p q =
-      p.kind_is ∙ ap (λ (told : Told). kind_of told) (one_told (at_moment basis moment) p.said q.said p.is q.is) ∙ sym q.kind_is
+      p.kind_is ∙ ap (λ (told : Told). told.kind) (one_told Lines (at_moment basis moment) p.said q.said p.is q.is) ∙ sym q.kind_is
 
-  pub one_of_kinds : (basis : Basis) (from to : ℕ) (kinds others : List (Stretch Told)) → IsTimelineBy (IsKindAt basis name t) from to kinds
+  pub one_of_kinds : (basis : Basis) (from to : ℕ) (kinds others : List (Stretch Kind)) → IsTimelineBy (IsKindAt basis name t) from to kinds
       → IsTimelineBy (IsKindAt basis name t) from to others → kinds ≡ others
   one_of_kinds basis from to kinds others =
       one_by (IsKindAt basis name t) (one_kind basis) from to kinds others

@@ -30,7 +30,7 @@ use Rattle.dnsv_explain.specs.Explanation.IsSetTold.{as_owned, by_wildcard}
 use Rattle.dnsv_explain.specs.Explanation.IsUnsignedFromTold.{by_cut, by_wildcard as loosely}
 use Rattle.dnsv_timeline_laws.proofs.DerivationLemmas.{both_too, each_too, has_secured, lowest_secured, records_derived, setting_at, signature_told, trust_too}
 use Rattle.dnsv_timeline_laws.proofs.MomentLemmas.{StayValid, asked_at, settled_as}
-use Rattle.dnsv_timeline_laws.specs.Derived.{AreLinksDerived, AreLinksTold, IsDerivationOf, IsDerivationTold, explained_with}
+use Rattle.dnsv_explain.specs.Derived.{AreLinksDerived, AreLinksTold, IsDerivationOf, IsDerivationTold, explained_with}
 use Rattle.dnsv_timeline_laws.specs.SameValid.{AreSignaturesSameValid, at_moment}
 
 module _ (rrsets : List ReceivedRrset) (anchors : List Anchor) (meaning : Entry → Answer) (todo : List Entry) (moment other : ℕ)

@@ -1,3 +1,3 @@
-pub mod Derived
+pub mod Kinds
 pub mod Said
 pub mod SameValid

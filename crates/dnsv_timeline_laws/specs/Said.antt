@@ -1,6 +1,5 @@
 -- What is said of a question at a moment: what `check` tells of it, and the signatures by which an explanation derives it.
-use Rattle.std.specs.Prelude.{◌≡◌, ◌↔◌, ℕ, false, List, [], ◌∷◌, ◌++◌, Contains, Some}
-use Rattle.std.specs.List.{flat_map}
+use Rattle.std.specs.Prelude.{◌≡◌, ◌↔◌, ℕ, List, [], ◌∷◌, ◌++◌, Contains, Some}
 use Rattle.std.specs.List.Sorted.{IsStrictlySortedBy}
 use Rattle.std.specs.Ordering.{nat_cmp, ordering_then}
 use Rattle.std.specs.declared.cmp.Ordering.{Ordering}
@@ -14,9 +13,14 @@ use Rattle.dnsv_verdict.specs.declared.link.Link.{Link}
 use Rattle.dnsv_verdict.specs.declared.verdict.Verdict.{Verdict}
 use Rattle.dnsv_derivations.specs.intervals.Holding.{signature_shown}
 use Rattle.dnsv_lines.specs.declared.line.Line.{Line}
-use Rattle.dnsv_texts.specs.Checking.{alias_line, reason_lines, verdict_word}
-use Rattle.dnsv_timeline_laws.specs.Derived.{AreLinksDerived, IsDerivationOf}
+use Rattle.dnsv_texts.specs.Told.{told_text}
+use Rattle.dnsv_texts.specs.declared.format.Format.{Format}
+use Rattle.dnsv_texts.specs.declared.format.Format.TheVariants.{Lines}
+use Rattle.dnsv_explain.specs.Derived.{AreLinksDerived, IsDerivationOf, alias_of}
+use Rattle.dnsv_timeline_laws.specs.Kinds.{verdict_kind}
 use Rattle.dnsv_timeline_laws.specs.SameValid.{at_moment}
+use Rattle.dnsv_timeline_laws.specs.declared.kind.Kind.{Kind}
+use Rattle.dnsv_timeline_laws.specs.declared.kind.Kind.TheVariants.{Refused}
 
 -- ---- the signatures
 
@@ -35,65 +39,57 @@ pub record AreShownIn (lines : List Line) (by : List SignatureNumber) : Type 0 w
 
 -- ---- what is said
 
--- the word of the verdict and the lines of `check` behind its first, without the entries that are still to be verified; or
--- why an alias can't be followed
-pub data Told : Type 0 where
-  as_verdict : List ℕ → List ℕ → Told
-  as_refusal : VerdictError → Told
+-- the kind, and the text of what carries it
+pub record Told : Type 0 where
+  pub kind : Kind
+  pub text : List ℕ
 
--- the aliases of the way, and what carries the verdict
-abbrev pub told_lines : List ReceivedRrset → List Link → Verdict → List ℕ
-told_lines rrsets links verdict = flat_map alias_line links ++ reason_lines rrsets verdict false
+-- of a verdict what `check` tells of it behind the question, but for the entries that are still to be verified
+abbrev pub told_verdict : Format → List ReceivedRrset → List Link → Verdict → Told
+told_verdict format rrsets links verdict =
+    record { kind = verdict_kind verdict; text = told_text format rrsets links verdict }
 
-abbrev pub told_verdict : List ReceivedRrset → List Link → Verdict → Told
-told_verdict rrsets links verdict = as_verdict (verdict_word verdict) (told_lines rrsets links verdict)
+-- why an alias can't be followed, which nothing carries
+abbrev pub told_refusal : VerdictError → Told
+told_refusal error = record { kind = Refused error; text = [] }
 
 pub record Said : Type 0 where
   pub told : Told
   pub by : List SignatureNumber
 
 -- a question has this verdict, and what derives it shows these signatures
-pub record IsVerdictSaid (basis : Basis) (name : Labels) (t : ℕ) (said : Said) : Type 0 where
+pub record IsVerdictSaid (format : Format) (basis : Basis) (name : Labels) (t : ℕ) (said : Said) : Type 0 where
   pub links : List Link
   pub last : Labels
   pub verdict : Verdict
   pub is : IsVerdictOf basis name t links last verdict
-  pub told : said.told ≡ told_verdict basis.rrsets links verdict
+  pub told : said.told ≡ told_verdict format basis.rrsets links verdict
   pub lines : List Line
   pub derived : IsDerivationOf basis t links last verdict lines
   pub by : AreShownIn lines said.by
-
--- an alias at the last name
-abbrev pub alias_of : Labels → ℕ → ℕ → Link
-alias_of last k s = record { name = last; rrset = k; signature = s }
 
 -- it is refused so, and what derives the links and then the alias that can't be followed shows these
 pub record IsRefusalSaid (basis : Basis) (name : Labels) (t : ℕ) (said : Said) : Type 0 where
   pub error : VerdictError
   pub is : IsRefusedFor basis name t error
-  pub told : said.told ≡ as_refusal error
+  pub told : said.told ≡ told_refusal error
   pub lines : List Line
   pub derived : AreLinksDerived basis (is.links ++ alias_of is.last is.k is.s ∷ []) lines
   pub by : AreShownIn lines said.by
 
--- one of the two, at the moment of the basis
-pub data IsSaid (basis : Basis) (name : Labels) (t : ℕ) (said : Said) : Type 0 where
-  a_verdict : IsVerdictSaid basis name t said → IsSaid basis name t said
-  a_refusal : IsRefusalSaid basis name t said → IsSaid basis name t said
+-- one of the two, at the moment of the basis, where texts have this format
+pub data IsSaid (format : Format) (basis : Basis) (name : Labels) (t : ℕ) (said : Said) : Type 0 where
+  a_verdict : IsVerdictSaid format basis name t said → IsSaid format basis name t said
+  a_refusal : IsRefusalSaid basis name t said → IsSaid format basis name t said
 
 -- by the same evidence, anchors and verifier at another moment
-abbrev pub IsSaidAt : Basis → Labels → ℕ → ℕ → Said → Type 0
-IsSaidAt basis name t moment = IsSaid (at_moment basis moment) name t
+abbrev pub IsSaidAt : Format → Basis → Labels → ℕ → ℕ → Said → Type 0
+IsSaidAt format basis name t moment = IsSaid format (at_moment basis moment) name t
 
 -- ---- kinds alone
 
--- the word of the verdict alone, or the refusal
-abbrev pub kind_of : Told → Told
-kind_of (as_verdict word lines) = as_verdict word []
-kind_of (as_refusal error) = as_refusal error
-
--- of what is said at the moment
-pub record IsKindAt (basis : Basis) (name : Labels) (t moment : ℕ) (kind : Told) : Type 0 where
+-- that of what is said at the moment, in whatever format
+pub record IsKindAt (basis : Basis) (name : Labels) (t moment : ℕ) (kind : Kind) : Type 0 where
   pub said : Said
-  pub is : IsSaidAt basis name t moment said
-  pub kind_is : kind ≡ kind_of said.told
+  pub is : IsSaidAt Lines basis name t moment said
+  pub kind_is : kind ≡ said.told.kind

@@ -1,23 +1,27 @@
 //! What all explanations over one case share.
-ghost use Rattle.std.specs.Prelude.{◌≡◌, [], IfOk};
+ghost use Rattle.std.specs.Prelude.{◌≡◌, ◌⊎◌, [], IfErr, IfOk, IsErrOf};
+ghost use Rattle.dnsv_canonical.specs.Rrsets.{IsQuestion};
 ghost use Rattle.dnsv_derivations.specs.Explained.{setting_in};
+ghost use Rattle.dnsv_explain.specs.Derived.{IsDerived};
 ghost use Rattle.dnsv_explain.specs.Explained.{explained_by};
 ghost use Rattle.dnsv_explain.specs.Explanation.{IsExplanationOf};
-ghost use Rattle.dnsv_explain.specs.SharedWays.{AreHopedWays};
+ghost use Rattle.dnsv_explain.specs.SharedWays.{AreHopedWays, AreOfCase};
 ghost use Rattle.dnsv_derivations.specs.derivations.WaySearch.{AreFirstWays};
 ghost use Rattle.dnsv_verdict.specs.Case.{IsCaseOf, basis_by};
 ghost use Rattle.dnsv_verdict.specs.Hope.{HasHope};
 ghost use Rattle.dnsv_verdict.specs.Report.{IsReport, Refuses};
 ghost use Rattle.dnsv_verdict.specs.Verdict.{Basis, IsVerdictAt, basis_of};
+ghost use Rattle.dnsv_verdict.specs.declared.error.VerdictError.{VerdictError};
 
 use crate::explanation::at::evidence_of;
+use crate::explanation::derivation::{Derivation, Outcome, derivation_of, stop_derivation_of};
 use crate::explanation::{Explanation, explanation_of};
 use bumpalo::Bump;
 use dnsv_canonical::Capture;
 use dnsv_chain::Anchors;
 use dnsv_derivations::{KeptWay, first_ways};
 use dnsv_names::{Name, RecordType};
-use dnsv_verdict::{Case, Hope, Judged, OpenCase, Report, Verdict, VerdictError};
+use dnsv_verdict::{Case, Hope, Judged, OpenCase, Report, Traced, Verdict, VerdictError};
 use dnsv_verifier::{Entries, Verifier};
 use std::alloc::{AllocError, Global};
 use std::marker::Model;
@@ -59,6 +63,17 @@ impl<'a> Explainer<'a> {
         ensures { IfOk result (IsCaseOf (basis_of capture.now.rrsets anchors.now moment (V.meaning verifier.now))) }
     {
         let case = Case::new(alloc, bump, capture, anchors, moment, verifier)?;
+        Explainer::of(alloc, case)
+    }
+
+    /// That of a case which was made elsewhere, so that nobody is asked anything. The case is of what some verifier says
+    /// of its evidence, as each case of `Case::new` is, and each of `Case::of` with a table of the capture.
+    pub fn of(alloc: Global, case: Case<'a>) -> Result<Explainer<'a>, AllocError>
+        requires { (basis : Basis) × IsCaseOf basis case }
+        ensures contents { IfOk result (λ explainer. explainer ≡ case.entry) }
+        // Whoever the case is of, it is that verifier's.
+        ensures basis { (basis : Basis) → IsCaseOf basis case.entry → IfOk result (IsCaseOf basis) }
+    {
         let ways = ways_of(alloc, &case)?;
         Ok(Explainer {
             open_case: OpenCase::of(alloc, case),
@@ -92,6 +107,34 @@ impl<'a> Explainer<'a> {
         let evidence = bare.with_ways(&self.ways);
         let explanation = explanation_of(alloc, &evidence, case, &judged, &self.hoped, rtype)?;
         Ok((judged.report, explanation))
+    }
+
+    /// What is told of a question, and the lines that derive it: of the verdict as `explain` tells it, those alone of the
+    /// links and the verdict, or of what may be hoped of it; where nothing is proved, those of the links. Where an alias of
+    /// the way can't be followed, that is told, with the lines of the links and then of that alias.
+    ///
+    /// `BadQuestion` where the type can't be asked at the name, and `OutOfMemory`. The case stays, also then.
+    pub fn derive(
+        &mut self,
+        alloc: Global,
+        name: &Name,
+        rtype: RecordType,
+    ) -> Result<Derivation<'a>, VerdictError>
+        ensures derived { (basis : Basis) → IsCaseOf basis self.old
+            → IfOk result (λ told. IsDerived basis name.now rtype.0 told.outcome told.lines.items) }
+        ensures question { ¬ IsQuestion name.now rtype.0 → IsErrOf result VerdictError.BadQuestion }
+        ensures refused { IfErr result (λ error. (error ≡ VerdictError.OutOfMemory)
+            ⊎ ((error ≡ VerdictError.BadQuestion) × (¬ IsQuestion name.now rtype.0))) }
+        ensures same { self.new ≡ self.old }
+    {
+        derive_by(
+            alloc,
+            &mut self.open_case,
+            &self.ways,
+            &mut self.hoped,
+            name,
+            rtype,
+        )
     }
 }
 
@@ -140,4 +183,44 @@ fn hoped_ways(
 {
     let evidence = evidence_of(hope.case.as_ref(), Some(unknown));
     first_ways(alloc, &evidence)
+}
+
+/// What is told of a question of the case, and the lines that derive it, by the first ways into its RRsets.
+fn derive_by<'s, 'a>(
+    alloc: Global,
+    open_case: &'s mut OpenCase<'a>,
+    ways: &'s [KeptWay],
+    hoped: &mut Vec<KeptWay>,
+    name: &Name,
+    rtype: RecordType,
+) -> Result<Derivation<'a>, VerdictError>
+    requires ways { AreOfCase open_case.now ways.now }
+    requires hoped { AreHopedWays open_case.now hoped.now.items }
+    ensures derived { (basis : Basis) → IsCaseOf basis open_case.old
+        → IfOk result (λ told. IsDerived basis name.now rtype.0 told.outcome told.lines.items) }
+    ensures question { ¬ IsQuestion name.now rtype.0 → IsErrOf result VerdictError.BadQuestion }
+    ensures refused { IfErr result (λ error. (error ≡ VerdictError.OutOfMemory)
+        ⊎ ((error ≡ VerdictError.BadQuestion) × (¬ IsQuestion name.now rtype.0))) }
+    ensures same { open_case.new ≡ open_case.old }
+    ensures hoped { AreHopedWays open_case.old hoped.new.items }
+{
+    let traced = open_case.trace(alloc, name, rtype)?;
+    let case = open_case.case();
+    // What is true of every case.
+    let _trust = case.trust();
+    let bare = evidence_of(case, None);
+    let evidence = bare.with_ways(ways);
+    match traced {
+        Traced::Reached(judged) => {
+            keep_hoped(alloc, case, &judged, rtype, hoped)?;
+            let lines = derivation_of(alloc, &evidence, case, &judged, hoped, rtype)?;
+            let outcome = Outcome::Verdict(judged.report);
+            Ok(Derivation { outcome, lines })
+        }
+        Traced::Stopped(stopped) => {
+            let lines = stop_derivation_of(alloc, &evidence, case, &stopped)?;
+            let outcome = Outcome::Refused(stopped.error);
+            Ok(Derivation { outcome, lines })
+        }
+    }
 }

@@ -75,7 +75,7 @@ pub fn push_question(text: &mut String, why: bool, heading: &Heading<'_>) -> Res
 }
 
 /// Adds an array of the aliases.
-fn push_aliases(text: &mut String, links: &[Link]) -> Result<(), AllocError>
+pub fn push_aliases(text: &mut String, links: &[Link]) -> Result<(), AllocError>
     ensures { OnOk result (string_bytes text.new
         ≡ string_bytes text.old ++ array (map specs.alias_json links.now)) }
 {
