@@ -281,6 +281,17 @@ module _ (rrsets : List ReceivedRrset) where
       ∙ hashed_at_link links last place found link (within_same xs links place same within)
       ∙ ap (λ (each : Link). hashed_in rrsets each.name) (sym (at_same xs links place link same at))
 
+-- there is one more of them than there are links
+hashed_count : (rrsets : List ReceivedRrset) (links : List Link) (last : Labels) → length (hashed_on rrsets links last) ≡ suc (length links)
+hashed_count rrsets [] last = refl
+hashed_count rrsets (link ∷ links) last = ap suc (hashed_count rrsets links last)
+
+pub hashed_within : (rrsets : List ReceivedRrset) (links : List Link) (last : Labels) (hashes : List HashedQuestion) (place : ℕ)
+    → hashes ≡ hashed_on rrsets links last → place < length links → place < length hashes
+hashed_within rrsets links last hashes place are within =
+    let count : length hashes ≡ suc (length links) = ap length are ∙ hashed_count rrsets links last in
+    omega (arith, count, within)
+
 -- behind the hashes for the names of the links stand those for the last name
 hashed_at_last : (rrsets : List ReceivedRrset) (links : List Link) (last : Labels) (d : HashedQuestion)
     → get_or (hashed_on rrsets links last) (length links) d ≡ hashed_in rrsets last
