@@ -1,5 +1,6 @@
 -- What derives a question, of a verdict or of an alias that can't be followed.
-use Rattle.std.proofs.Common.{◌≡◌, ◌∙◌, ◌+◌, ℕ, List, [], ◌∷◌, ◌++◌, ap, arith, get_or, length, refl, sym, subst, take}
+use Rattle.std.proofs.Common.{◌≡◌, ◌∙◌, ◌+◌, ℕ, List, [], ◌∷◌, ◌++◌, Err, ap, arith, get_or, length, refl, sym, subst, take}
+use Rattle.std.specs.Prelude.{Result}
 use Rattle.dnsv_names.specs.Name.{Labels}
 use Rattle.dnsv_canonical.specs.Rrsets.{ReceivedRrset}
 use Rattle.dnsv_chain.specs.declared.anchor.Anchor.{Anchor}
@@ -135,3 +136,10 @@ stop_derived basis case are name t links alias error lines stops told = record {
   };
   derived = links_of basis case are (links ++ alias ∷ []) lines told;
 }
+
+-- an error is the same whatever else there may be in its place
+pub same_error : {T U : Type 0} (error other : VerdictError) → Path (Result T VerdictError) (Err error) (Err other)
+    → Path (Result U VerdictError) (Err error) (Err other)
+same_error error other same =
+    let is : error ≡ other = cc in
+    ap (λ (each : VerdictError). Err each) is

@@ -281,17 +281,6 @@ module _ (rrsets : List ReceivedRrset) where
       ∙ hashed_at_link links last place found link (within_same xs links place same within)
       ∙ ap (λ (each : Link). hashed_in rrsets each.name) (sym (at_same xs links place link same at))
 
--- there is one more of them than there are links
-hashed_count : (rrsets : List ReceivedRrset) (links : List Link) (last : Labels) → length (hashed_on rrsets links last) ≡ suc (length links)
-hashed_count rrsets [] last = refl
-hashed_count rrsets (link ∷ links) last = ap suc (hashed_count rrsets links last)
-
-pub hashed_within : (rrsets : List ReceivedRrset) (links : List Link) (last : Labels) (hashes : List HashedQuestion) (place : ℕ)
-    → hashes ≡ hashed_on rrsets links last → place < length links → place < length hashes
-hashed_within rrsets links last hashes place are within =
-    let count : length hashes ≡ suc (length links) = ap length are ∙ hashed_count rrsets links last in
-    omega (arith, count, within)
-
 -- behind the hashes for the names of the links stand those for the last name
 hashed_at_last : (rrsets : List ReceivedRrset) (links : List Link) (last : Labels) (d : HashedQuestion)
     → get_or (hashed_on rrsets links last) (length links) d ≡ hashed_in rrsets last
@@ -304,3 +293,17 @@ last_hashed rrsets links xs last hashes found same are is =
     is ∙ ap (λ each. get_or each (length xs) found) are
     ∙ ap (λ (each : List Link). get_or (hashed_on rrsets links last) (length each) found) same
     ∙ hashed_at_last rrsets links last found
+
+-- there are some for each link
+within_names : (rrsets : List ReceivedRrset) (links : List Link) (last : Labels) (place : ℕ) → place < length links
+    → place < length (hashed_on rrsets links last)
+within_names rrsets [] last place within = absurd (omega (arith, within))
+within_names rrsets (link ∷ links) last zero within = omega (arith)
+within_names rrsets (link ∷ links) last (suc place) within =
+    let more = within_names rrsets links last place (omega (arith, within)) in omega (arith, more)
+
+pub hashed_within : (rrsets : List ReceivedRrset) (links : List Link) (last : Labels) (place : ℕ) (hashes : List HashedQuestion)
+    → place < length links → hashes ≡ hashed_on rrsets links last → place < length hashes
+hashed_within rrsets links last place hashes within are =
+    let Within : List HashedQuestion → Type 0 = λ each. place < length each in
+    subst Within (sym are) (within_names rrsets links last place within)

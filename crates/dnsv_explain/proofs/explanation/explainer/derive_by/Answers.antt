@@ -1,15 +1,15 @@
-use Rattle.std.proofs.Common.{◌≡◌, ◌∙◌, [], Err, List, Ok, ap, inl, refl, subst, sym}
-use Rattle.std.specs.Prelude.{IsErrOf, Result}
+use Rattle.std.proofs.Common.{◌≡◌, ◌∙◌, [], List, inl, refl, subst, sym}
 use Rattle.std.proofs.lemmas.Result.{err_from_is_err_and}
 use Rattle.dnsv_verdict.specs.Case.{CaseContents, IsCaseOf, basis_by}
 use Rattle.dnsv_verdict.specs.Traced.{IsKeptWith, IsTrace, IsWayTo}
+use Rattle.dnsv_verdict.specs.declared.error.VerdictError.TheVariants.{BadQuestion}
 use Rattle.dnsv_verdict.specs.declared.traced.Traced.{Traced}
 use Rattle.dnsv_derivations.specs.Explained.{Explained, setting_in}
 use Rattle.dnsv_explain.specs.Explained.{explained_by}
 use Rattle.dnsv_explain.specs.SharedWays.{AreHopedWays, AreOfCase}
 use Rattle.dnsv_derivations.specs.derivations.WaySearch.{AreFirstWays}
 use Rattle.dnsv_derivations.specs.declared.derivations.ways.kept.KeptWay.{KeptWay}
-use Rattle.dnsv_explain.proofs.lemmas.telling.DerivedLemmas.{derivation_by, stop_derived}
+use Rattle.dnsv_explain.proofs.lemmas.telling.DerivedLemmas.{derivation_by, same_error, stop_derived}
 use Rattle.dnsv_explain.proofs.explanation.explainer.derive_by.Goals as goal
 
 -- the case that is asked is the one as it was
@@ -90,18 +90,10 @@ stop_derivation_of-requires-clause-stopped c =
 
 -- ---- an error
 
--- an error is the same, whatever else there could be
-error_or : {T E : Type 0} → Result T E → E → E
-error_or (Err error) other = error
-error_or (Ok _) other = other
-
-same_error : {T U E : Type 0} (error other : E) → IsErrOf {T = T} (Err error) other → IsErrOf {T = U} (Err error) other
-same_error error other is = ap Err (ap (λ each. error_or each other) is)
-
 pub returns-in_err-traced-clause-question : goal.returns-in_err-traced-clause-question
 returns-in_err-traced-clause-question c = λ not_asked.
     let p = err_from_is_err_and c.from_residual.result c.from_residual.ensures.1 in
-    rw (p.1, p.2) (same_error _ _ (c.in_err-traced.ensures.question not_asked))
+    rw (p.1, p.2) (same_error c.in_err-traced.field-0.0 BadQuestion (c.in_err-traced.ensures.question not_asked))
 
 pub returns-in_err-traced-clause-refused : goal.returns-in_err-traced-clause-refused
 returns-in_err-traced-clause-refused c =

@@ -9,7 +9,7 @@ use Rattle.dnsv_explain.proofs.explanation.links.add_links.Goals as goal
 pub hashes_at-hashed-requires : goal.hashes_at-hashed-requires
 hashes_at-hashed-requires c =
     let way = c.requires.way in
-    hashed_within c.args.case.now.rrsets c.args.links.now way.last _ c.loop-place.place way.each_name c.loop-place-test.true
+    hashed_within c.args.case.now.rrsets c.args.links.now way.last c.loop-place.place _ c.loop-place-test.true way.each_name
 
 pub add_link-requires-clause-hashes : goal.add_link-requires-clause-hashes
 add_link-requires-clause-hashes c =
