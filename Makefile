@@ -31,7 +31,8 @@ try:
 test:
 	tools/check --gate
 
-# The guards: what is shown by running, of the program as it is built, the tools and the pages. The last line counts all.
+# The guards: what is shown by running, of the program as it is built, the tools and the pages; of the library where
+# `library` has built it. The last line counts all.
 check:
 	tools/check
 

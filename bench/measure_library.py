@@ -82,7 +82,9 @@ def by_dnspython() -> None:
         keys[at] = found[at, rdatatype.DNSKEY]
         dnssec.validate(keys[at], signed[at, rdatatype.DNSKEY], {at: keys[at]}, now=MOMENT)
         if (at, rdatatype.DS) in found:
-            dnssec.validate(found[at, rdatatype.DS], signed[at, rdatatype.DS], {at.parent(): keys[at.parent()]}, now=MOMENT)
+            dnssec.validate(
+                found[at, rdatatype.DS], signed[at, rdatatype.DS], {at.parent(): keys[at.parent()]}, now=MOMENT
+            )
             assert {dnssec.make_ds(at, key, "SHA256") for key in keys[at]} & set(found[at, rdatatype.DS])
     asked = name.from_text(NAME), rdatatype.A
     dnssec.validate(found[asked], signed[asked], {at: keys[at]}, now=MOMENT)

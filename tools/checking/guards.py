@@ -49,7 +49,10 @@ LONG = ("tests/judge", "tests/program")
 
 @dataclass(frozen=True)
 class Guard:
-    """A command, run at the top of the repository; it needs Debian's packages, built files and commands of the kit."""
+    """A command, run at the top of the repository; it needs Debian's packages, built files and commands of the kit.
+
+    It is left out where a file of `only_with` isn't built, which nothing does that runs before it.
+    """
 
     name: str
     words: tuple[str, ...]
@@ -57,6 +60,7 @@ class Guard:
     packages: tuple[str, ...] = ()
     built: tuple[str, ...] = ()
     kit: tuple[str, ...] = ()
+    only_with: tuple[str, ...] = ()
 
 
 GATE = Guard("gate", ("rt", "ci"), kit=("rt",))
@@ -66,8 +70,9 @@ def of_tests(folder: Path) -> Guard:
     """The tests of a folder; those that lie in none have the name of the tools."""
     words = ("python3", "-m", "unittest", *sorted(module_of(file) for file in folder.glob("test_*.py")))
     name = "tests" if folder == TESTS else f"tests/{folder.name}"
-    built = (PROGRAM, LIBRARY) if folder.name == "library" else (PROGRAM,)
-    return Guard(name, ("env", "-C", str(TESTS), "PYTHONPATH=..", *words), of_unittest, OF_TESTS, built)
+    only_with = (LIBRARY,) if folder.name == "library" else ()
+    words = ("env", "-C", str(TESTS), "PYTHONPATH=..", *words)
+    return Guard(name, words, of_unittest, OF_TESTS, built=(PROGRAM,), only_with=only_with)
 
 
 def module_of(file: Path) -> str:
@@ -115,7 +120,7 @@ def guards() -> list[Guard]:
             "docs/LIBRARY.md",
             ("tools/pages", "docs/LIBRARY.md"),
             packages=("gcc", "libc6-dev", "python3-cryptography"),
-            built=(LIBRARY,),
+            only_with=(LIBRARY,),
         ),
         of_page("examples/README.md"),
     ]

@@ -9,7 +9,7 @@ import sys
 import time
 from concurrent.futures import ThreadPoolExecutor, as_completed
 from dataclasses import dataclass
-from typing import Iterator
+from typing import Iterable, Iterator
 
 from .counts import BROKEN, Count
 from .guards import BUILT_BY, TREE, Guard
@@ -36,13 +36,28 @@ def environment(lanes: int) -> dict[str, str]:
     return {**os.environ, "PATH": PATH, "LANES": str(lanes)}
 
 
+def unbuilt(paths: Iterable[str]) -> list[str]:
+    """Which of these files aren't built, a line each that says what builds it."""
+    return [f"{path} isn't built: {BUILT_BY[path]}" for path in paths if not (TREE / path).is_file()]
+
+
+def is_left_out(guard: Guard, names: list[str]) -> bool:
+    """Whether there is nothing here that the guard could try, and its own name isn't among these."""
+    return guard.name not in names and bool(unbuilt(guard.only_with))
+
+
+def left_out(guard: Guard) -> str:
+    """The line that says so; it counts nothing."""
+    return f"{guard.name}: left out, {', '.join(unbuilt(guard.only_with))}"
+
+
 def unmet(guard: Guard) -> list[str]:
     """What the guard needs that isn't there, a line each."""
     packages = lacking(named(guard.packages))
     lines = [f"the package {name} isn't there" for name in packages]
     if packages:
         lines.append(f"this installs what is missing: {line_for(lacking())}")
-    lines += [f"{path} isn't built: {BUILT_BY[path]}" for path in guard.built if not (TREE / path).is_file()]
+    lines += unbuilt((*guard.built, *guard.only_with))
     return lines + [
         f"the kit's command {name} isn't on the path" for name in guard.kit if not shutil.which(name, path=PATH)
     ]

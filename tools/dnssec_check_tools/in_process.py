@@ -1,7 +1,7 @@
 """The library in the place of the program, where it's installed: it says the same of a small capture in this process.
 
-A call can't be ended, as a program can. So the program is asked of a capture from which much can be listed, and where no
-answers are given, without which each verdict may list it again.
+A call can't be ended, as a program can. So the program is asked of a capture from which much can be listed, and where
+no answers are given, without which each verdict may list it again.
 """
 import functools
 import importlib
@@ -73,9 +73,7 @@ class InProcess(Program):
             return super().judged_each(manner, files, left, memory)
         given, why = given_of(calls, manner, files), manner.subcommand == EXPLAIN
         text = octets_of(files[QUESTIONS])
-        return AskedHere(
-            text, lambda some: told(calls, lambda: calls.judged_each(given, some, calls.JSON, why)), left
-        )
+        return AskedHere(text, lambda some: told(calls, lambda: calls.judged_each(given, some, calls.JSON, why)), left)
 
 
 def calls_for(files: Files) -> Any:

@@ -14,7 +14,7 @@ NAMED = {
     "dnsv_names/src/count.rt": 1,  # the default of a count
     "dnsv_verdict/src/case.rt": 1,  # how much the verifier was asked for a case
     "dnsv_verdict/src/case/hashed_name.rt": 1,  # the digests that a name takes, which each report of a question tells
-    "dnsv_verdict/src/case/judging.rt": 1,  # the digests that a report tells
+    "dnsv_verdict/src/case/tracing.rt": 1,  # the digests that a report tells
     "dnsv_program/src/work/listing.rt": 1,  # `list` asks a verifier, and prints no number
 }
 

@@ -8,10 +8,13 @@ TREE = Path(__file__).resolve().parent.parent.parent
 
 
 def below(tree: Path = TREE) -> dict[str, list[str]]:
-    """Each crate with the crates and the libraries of the kit that it uses, lowest first."""
+    """Each crate with the crates and the libraries of the kit that it uses, lowest first.
+
+    A second word before the colon, as of a static library, is its kind.
+    """
     lines = (tree / "crates.txt").read_text().splitlines()
     parted = [line.partition(":") for line in lines if ":" in line and not line.startswith("#")]
-    return {name: others.split() for name, _, others in parted}
+    return {names.split()[0]: others.split() for names, _, others in parted}
 
 
 def all_below(crate: str, used: dict[str, list[str]]) -> list[str]:

@@ -43,7 +43,7 @@ class WrongBodies(Room):
         (self.room / "rt").write_text(RT)
         (self.room / "rt").chmod(0o755)
         (self.room / "HANDLES").write_text("Handles allowed: none.\n")
-        (self.room / "crates.txt").write_text("# Lowest first.\nlower: thiserror\nupper: lower\n")
+        (self.room / "crates.txt").write_text("# Lowest first.\nlower: thiserror\nupper staticlib: lower\n")
         for crate in ("lower", "upper"):
             (self.room / "crates" / crate / "src").mkdir(parents=True)
         patch = mock.patch.dict(os.environ, PATH=f"{self.room}:{os.environ['PATH']}", LANES="2")

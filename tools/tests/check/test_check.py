@@ -1,7 +1,9 @@
 """What tools/check makes of guards that pass, fail and lack something, and which guards there are."""
 import os
+import pathlib
 import signal
 import sys
+import tempfile
 import unittest
 from unittest import mock
 
@@ -73,6 +75,28 @@ class Check(unittest.TestCase):
         status, output, _ = self.check(known=(missing, GOOD))
         self.assertEqual((status, output.splitlines()[-1]), (1, "3 passed, 1 failed"))
 
+    def test_the_library_is_left_out_where_it_is_not_built_unless_it_is_named(self):
+        room = tempfile.TemporaryDirectory()
+        self.addCleanup(room.cleanup)
+        library = shell("tests/library", "echo 5 passed, 0 failed", only_with=(guards.LIBRARY,))
+        known = (GOOD, library, shell("tests", "echo 2 passed, 0 failed"))
+        why = "out/library/libdnssec_check.so.1 isn't built: make library"
+        with mock.patch.object(running, "TREE", pathlib.Path(room.name)):
+            for words, count in ((), 5), (("tests",), 2):
+                status, output, _ = self.check(*words, known=known)
+                last = [f"tests/library: left out, {why}", f"{count} passed, 0 failed"]
+                self.assertEqual((status, output.splitlines()[-2:]), (0, last))
+            status, output, _ = self.check("tests/library", known=known)
+            self.assertIn(f"{why}\n", output)
+            self.assertEqual((status, output.splitlines()[-1]), (1, "0 passed, 1 failed"))
+            self.assertEqual(self.check("--list", known=known)[1], "good\ntests/library\ntests\n")
+            made = pathlib.Path(room.name) / guards.LIBRARY
+            made.parent.mkdir(parents=True)
+            made.touch()
+            status, output, _ = self.check(known=known)
+            self.assertEqual((status, output.splitlines()[-1]), (0, "10 passed, 0 failed"))
+            self.assertNotIn("left out", output)
+
     def test_a_gate_without_the_kit_fails(self):
         gate = shell("gate", "true", kit=("no-such-command",))
         status, output, _ = self.check("--gate", gate=gate)
@@ -100,6 +124,12 @@ class Guards(unittest.TestCase):
         names = {guard.name for guard in guards.guards()}
         for folder in (TREE / "crates").glob("*/does-not-compile"):
             self.assertIn(f"does-not-compile/{folder.parent.name}", names)
+
+    def test_the_library_is_the_one_thing_without_which_a_guard_is_left_out(self):
+        """For the gate builds none; whatever else isn't built, its guards fail."""
+        found = {guard.name: guard.only_with for guard in guards.guards() if guard.only_with}
+        self.assertEqual(found, dict.fromkeys(("tests/library", "docs/LIBRARY.md"), (guards.LIBRARY,)))
+        self.assertNotIn(guards.LIBRARY, {path for guard in guards.guards() for path in guard.built})
 
     def test_each_target_of_fuzz_is_there(self):
         names = {guard.name for guard in guards.guards()}
