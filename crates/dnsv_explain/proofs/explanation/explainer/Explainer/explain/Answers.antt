@@ -1,4 +1,4 @@
-use Rattle.std.proofs.Common.{◌≡◌, ◌∙◌, [], List, refl, subst, sym}
+use Rattle.std.proofs.Common.{◌≡◌, ◌∙◌, [], List, ap, refl, subst, sym}
 use Rattle.std.proofs.lemmas.Result.{err_from_is_err_and}
 use Rattle.dnsv_verdict.proofs.ReportLemmas.{same_refusal}
 use Rattle.dnsv_verdict.specs.Case.{CaseContents, IsCaseOf, basis_by}

@@ -1,3 +1,4 @@
+use Rattle.std.proofs.Common.{subst, sym}
 use Rattle.dnsv_explain.proofs.lemmas.marks.HopedWayLemmas.{no_hoped_ways}
 use Rattle.dnsv_explain.proofs.explanation.explainer.Explainer.of.Goals as goal
 
