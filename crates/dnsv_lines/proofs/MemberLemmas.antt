@@ -24,15 +24,27 @@ more_members {xs} {ys} {a} {b} {c} first then = record {
       ∙ ap (λ t. a ++ t) (sym (parted_behind xs ys));
 }
 
-begun : (s y x e : List ℕ) → ((s ++ y) ++ x) ++ e ≡ s ++ ((y ++ x) ++ e)
-begun s y x e = simp append_assoc refl
+written : (s a k b w c x e : List ℕ) → ((s ++ (a ++ (k ++ (b ++ (w ++ c))))) ++ x) ++ e
+    ≡ s ++ (a ++ (k ++ (b ++ (w ++ (c ++ (x ++ e))))))
+written s a k b w c x e = simp append_assoc refl
 
--- an object that begins with the word of its line
-pub line_written : (s s1 s2 s3 w : List ℕ) (members : List (List ℕ)) → s1 ≡ s ++ (codes "{\"line\":\"" ++ (w ++ codes "\""))
-    → AddsMembers members s1 s2 → s3 ≡ s2 ++ codes "}" → s3 ≡ s ++ object (member (codes "line") (quoted w) ∷ members)
-line_written s s1 s2 s3 w members is1 adds is3 =
+defined : (b q k colon w x e : List ℕ) → (b ++ (((((q ++ k) ++ q) ++ colon) ++ ((q ++ w) ++ q)) ++ x)) ++ e
+    ≡ b ++ (q ++ (k ++ (q ++ (colon ++ (q ++ (w ++ (q ++ (x ++ e))))))))
+defined b q k colon w x e = simp append_assoc refl
+
+begun : (s k w x : List ℕ) → ((s ++ (codes "{\"" ++ (k ++ (codes "\":\"" ++ (w ++ codes "\""))))) ++ x) ++ codes "}"
+    ≡ s ++ ((codes "{" ++ (member k (quoted w) ++ x)) ++ codes "}")
+begun s k w x =
+    written s (codes "{\"") k (codes "\":\"") w (codes "\"") x (codes "}")
+    ∙ sym (ap (λ t. s ++ t) (defined (codes "{") (codes "\"") k (codes ":") w x (codes "}")))
+
+-- an object that begins with the first word under its key
+pub line_written : (s s1 s2 s3 k w : List ℕ) (members : List (List ℕ))
+    → s1 ≡ s ++ (codes "{\"" ++ (k ++ (codes "\":\"" ++ (w ++ codes "\""))))
+    → AddsMembers members s1 s2 → s3 ≡ s2 ++ codes "}" → s3 ≡ s ++ object (member k (quoted w) ∷ members)
+line_written s s1 s2 s3 k w members is1 adds is3 =
     is3 ∙ ap (λ t. t ++ codes "}") (adds.text ∙ ap (λ t. t ++ parted false members) is1)
-    ∙ begun s (codes "{\"line\":\"" ++ (w ++ codes "\"")) (parted false members) (codes "}")
+    ∙ begun s k w (parted false members)
 
 -- what was written of lists of members and what is left are the whole
 pub record Members {X : Type 0} (members : X → List (List ℕ)) (xs : List X) (done : ℕ) (before now : List ℕ) : Type 0 where

@@ -117,11 +117,15 @@ keyed_members key Nothing = []
 abbrev pub field_members : SaidField → List (List ℕ)
 field_members field = keyed_members field.key field.said
 
--- the first word, the word, the number, and then the fields
-abbrev pub json_of_sentence : SaidSentence → List ℕ
-json_of_sentence sentence =
-    object (member (codes "line") (quoted sentence.line) ∷ flat_map field_members
+-- the first word under this key, the word, the number, and then the fields
+abbrev pub json_under : List ℕ → SaidSentence → List ℕ
+json_under key sentence =
+    object (member key (quoted sentence.line) ∷ flat_map field_members
     (plain (codes "word") sentence.word ∷ plain (codes "ede") sentence.error ∷ sentence.fields))
+
+-- so of a line of an explanation
+abbrev pub json_of_sentence : SaidSentence → List ℕ
+json_of_sentence sentence = json_under (codes "line") sentence
 
 -- ---- the numbers of RRsets that it names
 

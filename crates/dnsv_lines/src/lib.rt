@@ -4,7 +4,7 @@
 //! key and what it says; the text, the JSON and the RRsets that a line names follow from that.
 #![tactic(auto)]
 
-pub use json::sentence::push_line;
+pub use json::sentence::{push_line, push_object};
 pub use json::{push_comma, push_name};
 pub use line::cut::{Cut, InsecureCase, UnusableDs, WhyUnusable};
 pub use line::denial::{Chain, Form, Part, Proof, RecordPlace, Relation, Role};

@@ -4,7 +4,7 @@ ghost use Rattle.std.specs.Fmt.{decimal};
 ghost use Rattle.dnsv_lines.specs.Json.{AddsMembers, member, name_json, quoted};
 ghost use Rattle.dnsv_lines.specs.Rows.{line_json};
 ghost use Rattle.dnsv_lines.specs.Salt.{salt_text};
-ghost use Rattle.dnsv_lines.specs.Sentence.{field_members, json_of_sentence, said_field, said_sentence};
+ghost use Rattle.dnsv_lines.specs.Sentence.{field_members, json_under, said_field, said_sentence};
 
 use crate::json::push_name;
 use crate::line::Line;
@@ -18,16 +18,16 @@ use std::alloc::AllocError;
 pub fn push_line(text: &mut String, line: &Line) -> Result<(), AllocError>
     ensures { OnOk result (string_bytes text.new ≡ string_bytes text.old ++ line_json line.now) }
 {
-    push_sentence(text, &line.sentence())
+    push_object(text, "line", &line.sentence())
 }
 
-/// Adds the object.
-fn push_sentence(text: &mut String, sentence: &Sentence<'_>) -> Result<(), AllocError>
+/// Adds the object of a sentence, whose first word stands under this key.
+pub fn push_object(text: &mut String, key: &str, sentence: &Sentence<'_>) -> Result<(), AllocError>
     ensures { OnOk result (string_bytes text.new
-        ≡ string_bytes text.old ++ json_of_sentence (said_sentence sentence.now)) }
+        ≡ string_bytes text.old ++ json_under key.now (said_sentence sentence.now)) }
 {
     let line = sentence.line;
-    write!(text, "{{\"line\":\"{line}\"")?;
+    write!(text, "{{\"{key}\":\"{line}\"")?;
     push_field(text, &Field::plain("word", sentence.word))?;
     push_field(text, &Field::plain("ede", sentence.error))?;
     push_fields(text, &sentence.fields)?;
