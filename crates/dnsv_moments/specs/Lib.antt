@@ -1,0 +1,6 @@
+pub mod Dated
+pub mod Kinds
+pub mod Moments
+pub mod Question
+pub mod Saying
+pub mod Shown

@@ -1,0 +1,75 @@
+//! What is said of a question at one moment.
+ghost use Rattle.std.specs.Prelude.{◌≡◌, ℕ, IfOk, string_bytes};
+ghost use Rattle.dnsv_explain.specs.Derived.{IsDerived};
+ghost use Rattle.dnsv_moments.specs.Saying.{IsSaidWithin, told_of};
+ghost use Rattle.dnsv_names.specs.Name.{Labels};
+ghost use Rattle.dnsv_timeline_laws.specs.Said.{IsSaid};
+ghost use Rattle.dnsv_verdict.specs.Verdict.{Basis};
+
+use crate::moments::Moments;
+use crate::said::Said;
+use crate::shown::signatures_shown;
+use dnsv_canonical::Rrset;
+use dnsv_explain::{Derivation, Outcome};
+use dnsv_names::{Name, RecordType};
+use dnsv_texts::{Format, told_text};
+use dnsv_timeline_laws::{Kind, kind_of};
+use std::alloc::{AllocError, Global};
+
+/// What is said of the question at the moment, or at the nearest one of the range. The error is that memory ran out, or
+/// that the type can't be asked at the name.
+pub(crate) fn said_at(
+    alloc: Global,
+    moments: &Moments<'_>,
+    name: &Name,
+    rtype: RecordType,
+    format: Format,
+    moment: u64,
+) -> Result<Said, AllocError>
+    ensures { IfOk result (λ said. IsSaidWithin moments.now format name.now rtype.0 moment said) }
+{
+    let mut explainer = moments.explainer_at(alloc, moment)?;
+    let Ok(derivation) = explainer.derive(alloc, name, rtype) else {
+        return Err(AllocError);
+    };
+    said_of(alloc, moments.capture().rrsets(), format, &derivation)
+}
+
+/// What is said where this is told of the question, and derived so.
+fn said_of(
+    alloc: Global,
+    rrsets: &[Rrset<'_>],
+    format: Format,
+    derivation: &Derivation<'_>,
+) -> Result<Said, AllocError>
+    ensures { (basis : Basis) (name : Labels) (t : ℕ) → basis.rrsets ≡ rrsets.now
+        → IsDerived basis name t derivation.now.outcome derivation.now.lines.items
+        → IfOk result (IsSaid format basis name t) }
+{
+    let by = signatures_shown(alloc, &derivation.lines)?;
+    let (kind, text) = told_of(alloc, rrsets, format, &derivation.outcome)?;
+    Ok(Said::new(kind, text, by))
+}
+
+/// The kind of what a question comes to, and the text of what carries it.
+fn told_of(
+    alloc: Global,
+    rrsets: &[Rrset<'_>],
+    format: Format,
+    outcome: &Outcome<'_>,
+) -> Result<(Kind, String), AllocError>
+    ensures { IfOk result (λ told. record {
+      kind = told.0;
+      text = string_bytes told.1;
+    } ≡ told_of format rrsets.now outcome.now) }
+{
+    match outcome {
+        Outcome::Verdict(report) => {
+            let kind = kind_of(&report.verdict);
+            let links = report.links.as_slice();
+            let text = told_text(alloc, format, rrsets, links, &report.verdict)?;
+            Ok((kind, text))
+        }
+        Outcome::Refused(error) => Ok((Kind::Refused(*error), String::new(alloc))),
+    }
+}

@@ -1,0 +1,165 @@
+//! What questions are judged by at each moment of a range.
+ghost use Rattle.std.specs.Prelude.{◌≡◌, ◌≤◌, ℕ, IfOk, OnErr, length};
+ghost use Rattle.dnsv_names.specs.Count.{counted};
+ghost use Rattle.dnsv_moments.specs.Moments.{AreMomentsBy, AreMomentsOf, IsSaidBy};
+ghost use Rattle.dnsv_verdict.specs.Case.{IsCaseOf};
+ghost use Rattle.dnsv_verdict.specs.Verdict.{basis_of};
+ghost use Rattle.dnsv_verifier.specs.Within.{IsTableWithin};
+ghost use Rattle.dnsv_verifier.specs.declared.answer.Answer.{Answer};
+ghost use Rattle.dnsv_verifier.specs.declared.entry.Entry.{Entry};
+
+use bumpalo::Bump;
+use dnsv_canonical::Capture;
+use dnsv_chain::Anchors;
+use dnsv_explain::Explainer;
+use dnsv_names::Count;
+use dnsv_timeline::Range;
+use dnsv_verdict::Case;
+use dnsv_verifier::{Table, Verifier, ask_within};
+use std::alloc::{AllocError, Global};
+use std::marker::Model;
+
+/// What any number of questions are judged by at each moment of a range: the evidence, the trust anchors, and what a
+/// verifier says at some moment of it.
+#[derive(Drop)]
+pub struct Moments<'a> {
+    capture: &'a Capture<'a>,
+    anchors: &'a Anchors<'a>,
+    range: Range,
+    table: Table<'a>,
+}
+
+impl<'a> Model for Moments<'a> {
+    ghost use Rattle.dnsv_timeline.specs.Range.{IsRange};
+    ghost use Rattle.dnsv_verifier.specs.Within.{IsTableWithin};
+    ghost use Rattle.dnsv_verifier.specs.declared.answer.Answer.{Answer};
+    ghost use Rattle.dnsv_verifier.specs.declared.entry.Entry.{Entry};
+    ghost use Rattle.dnsv_moments.specs.Moments.{MomentsContents};
+
+    ghost Value = { MomentsContents };
+
+    ghost view = { λ moments. record {
+      rrsets = moments.capture.now.rrsets;
+      anchors = moments.anchors.now;
+      from = moments.range.from;
+      to = moments.range.to;
+      table = moments.table;
+    } };
+
+    ghost invariant = { λ moments. IsRange moments.range.from moments.range.to
+        × ((meaning : Entry → Answer) × IsTableWithin meaning moments.range.from moments.range.to moments.capture.now.rrsets
+        moments.table) };
+}
+
+impl<'a> Moments<'a> {
+    /// The moments of the range, under what the verifier says. It is asked here, once for each distinct entry that may be
+    /// verified at some moment of the range, and never again; the count grows by so many, and not where memory is
+    /// refused. What it is asked lies in the arena.
+    pub fn new<V: Verifier>(
+        alloc: Global,
+        bump: &'a Bump,
+        capture: &'a Capture<'a>,
+        anchors: &'a Anchors<'a>,
+        range: Range,
+        verifier: &V,
+        count: &mut Count,
+    ) -> Result<Moments<'a>, AllocError>
+        ensures of { IfOk result (AreMomentsBy capture.now.rrsets anchors.now range.from range.to (V.meaning verifier.now)) }
+        ensures count { IfOk result (λ moments. count.new ≡ counted count.old (length moments.table.answers)) }
+        ensures refused { OnErr result (count.new ≡ count.old) }
+    {
+        let table = ask_within(alloc, bump, capture, range, verifier, count)?;
+        // What is true of every range.
+        let _first = range.from();
+        Ok(Moments {
+            capture,
+            anchors,
+            range,
+            table,
+        })
+    }
+
+    /// The moments of the range, under a table of what some verifier says within it. Nobody is asked.
+    pub fn of(
+        capture: &'a Capture<'a>,
+        anchors: &'a Anchors<'a>,
+        range: Range,
+        table: Table<'a>,
+    ) -> Moments<'a>
+        requires { (meaning : Entry → Answer) × IsTableWithin meaning range.from range.to capture.now.rrsets table.entry }
+        ensures of { AreMomentsOf capture.now.rrsets anchors.now range.from range.to table.entry result }
+        // Whoever the table is of, they are that verifier's.
+        ensures by { (meaning : Entry → Answer)
+            → IsTableWithin meaning range.from range.to capture.now.rrsets table.entry → IsSaidBy meaning result }
+    {
+        // What is true of every range.
+        let _first = range.from();
+        Moments {
+            capture,
+            anchors,
+            range,
+            table,
+        }
+    }
+
+    /// The evidence.
+    pub fn capture(&self) -> &'a Capture<'a>
+        ensures { result.now.rrsets ≡ self.now.rrsets }
+    {
+        self.capture
+    }
+
+    /// The trust anchors.
+    pub fn anchors(&self) -> &'a Anchors<'a>
+        ensures { result.now ≡ self.now.anchors }
+    {
+        self.anchors
+    }
+
+    /// The first moment and the last, and those between them.
+    pub fn range(&self) -> Range
+        ensures from { result.from ≡ self.now.from }
+        ensures to { result.to ≡ self.now.to }
+    {
+        self.range
+    }
+
+    /// What the verifier says within the range.
+    pub fn table(&self) -> &Table<'a>
+        ensures { result.now ≡ self.now.table }
+    {
+        &self.table
+    }
+
+    /// Who explains questions at the moment, or at the nearest one of the range.
+    pub(crate) fn explainer_at(
+        &self,
+        alloc: Global,
+        moment: u64,
+    ) -> Result<Explainer<'a>, AllocError>
+        ensures { (meaning : Entry → Answer) → IsSaidBy meaning self.now → self.now.from ≤ moment → moment ≤ self.now.to
+            → IfOk result (IsCaseOf (basis_of self.now.rrsets self.now.anchors moment meaning)) }
+    {
+        let nearest = nearest(self.range, moment);
+        let table = self.table.at(alloc, nearest)?;
+        let case = Case::of(alloc, self.capture, self.anchors, table)?;
+        Explainer::of(alloc, case)
+    }
+}
+
+/// The moment of the range that is nearest to the moment.
+fn nearest(range: Range, moment: u64) -> u64
+    ensures from { range.from ≤ result }
+    ensures to { result ≤ range.to }
+    ensures same { range.from ≤ moment → moment ≤ range.to → result ≡ moment }
+{
+    let from = range.from();
+    let to = range.to();
+    if moment < from {
+        return from;
+    }
+    if to < moment {
+        return to;
+    }
+    moment
+}
