@@ -99,7 +99,7 @@ fn verdict_text(
 }
 
 /// Adds a line for each alias.
-pub fn push_aliases(text: &mut String, links: &[Link]) -> Result<(), AllocError>
+fn push_aliases(text: &mut String, links: &[Link]) -> Result<(), AllocError>
     ensures { OnOk result (string_bytes text.new ≡ string_bytes text.old ++ flat_map specs.alias_line links.now) }
 {
     for link in links {

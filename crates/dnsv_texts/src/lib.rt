@@ -26,3 +26,4 @@ mod refused;
 mod showing;
 mod todo;
 mod told;
+mod words;
