@@ -5,4 +5,5 @@ pub mod Explanation
 pub mod KeyLines
 pub mod Listing
 pub mod Marked
+pub mod OnWay
 pub mod SharedWays

@@ -1,5 +1,5 @@
 -- Signatures of the evidence by their numbers, with their times.
-use Rattle.std.specs.Prelude.{◌≡◌, ◌⊎◌, ℕ, List, [], ◌∷◌}
+use Rattle.std.specs.Prelude.{◌≡◌, ◌⊎◌, ℕ, List, [], ◌∷◌, ◌++◌}
 use Rattle.dnsv_records.specs.Rrsig.{IsRrsig}
 use Rattle.dnsv_records.specs.declared.rrsig.Rrsig.{Rrsig}
 use Rattle.dnsv_canonical.specs.Rrsets.{IsNumbered, ReceivedRrset}
@@ -24,6 +24,12 @@ abbrev pub AreDatedAs : List ReceivedRrset → SignatureNumber → List DatedSig
 AreDatedAs rrsets number some =
     ((dated : DatedSignature) × IsDated rrsets number dated × (some ≡ dated ∷ []))
     ⊎ (((dated : DatedSignature) → ¬ IsDated rrsets number dated) × (some ≡ []))
+
+-- that one was added, where there is one: no public clause cites this
+pub record AddsDated (rrsets : List ReceivedRrset) (number : SignatureNumber) (old new : List DatedSignature) : Type 0 where
+  pub some : List DatedSignature
+  pub is : new ≡ old ++ some
+  pub are : AreDatedAs rrsets number some
 
 -- each that the evidence has, in order
 abbrev pub AreDated : List ReceivedRrset → List SignatureNumber → List DatedSignature → Type 0

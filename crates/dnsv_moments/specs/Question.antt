@@ -34,10 +34,12 @@ abbrev pub IsRefusedFor : (Entry → Answer) → MomentsContents → Labels → 
 IsRefusedFor meaning moments name t error =
     IsRefusedThroughout (basis_with meaning moments) moments.from moments.to name t error
 
--- each stretch has this kind
-abbrev pub HaveKind : Kind → List (Stretch Kind) → Type 0
-HaveKind kind stretches = (stretch : Stretch Kind) → Contains stretches stretch → stretch.said ≡ kind
+-- each stretch tells this kind: no public clause cites this
+abbrev pub AllTell : {S : Type 0} → (S → Kind) → Kind → List (Stretch S) → Type 0
+AllTell {S} kind_in kind stretches = (stretch : Stretch S) → Contains stretches stretch → kind_in stretch.said ≡ kind
 
--- each stretch tells this kind
 abbrev pub TellKind : Kind → List (Stretch Said) → Type 0
-TellKind kind stretches = (stretch : Stretch Said) → Contains stretches stretch → stretch.said.told.kind ≡ kind
+TellKind kind stretches = AllTell (λ said. said.told.kind) kind stretches
+
+abbrev pub HaveKind : Kind → List (Stretch Kind) → Type 0
+HaveKind kind stretches = AllTell (λ each. each) kind stretches

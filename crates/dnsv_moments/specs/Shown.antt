@@ -1,5 +1,5 @@
 -- Which signatures lines show, by numbers that have an order. No public clause cites this module.
-use Rattle.std.specs.Prelude.{◌≡◌, ◌↔◌, ℕ, List, Contains, Some}
+use Rattle.std.specs.Prelude.{◌≡◌, Some}
 use Rattle.std.specs.Ordering.{nat_cmp, ordering_then}
 use Rattle.std.specs.declared.cmp.Ordering.{Ordering}
 use Rattle.dnsv_canonical.specs.declared.number.SignatureNumber.{SignatureNumber}

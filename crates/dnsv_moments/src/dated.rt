@@ -1,6 +1,6 @@
 //! The times of signatures by their numbers.
-ghost use Rattle.std.specs.Prelude.{IfOk, MatchOption};
-ghost use Rattle.dnsv_moments.specs.Dated.{AreDated, IsDated};
+ghost use Rattle.std.specs.Prelude.{IfOk, MatchOption, OnOk};
+ghost use Rattle.dnsv_moments.specs.Dated.{AddsDated, AreDated, IsDated};
 ghost use Rattle.dnsv_timeline.specs.declared.borders.DatedSignature.{DatedSignature};
 
 use dnsv_canonical::{Capture, Rrset, SignatureNumber, numbered};
@@ -18,11 +18,24 @@ pub fn dated_signatures(
 {
     let mut all = Vec::new(alloc);
     for number in numbers {
-        if let Some(dated) = dated_signature(capture.rrsets(), *number) {
-            all.push(dated)?;
-        }
+        push_dated(&mut all, capture.rrsets(), *number)?;
     }
     Ok(all)
+}
+
+/// Adds the signature with the number, where there is one.
+fn push_dated(
+    all: &mut Vec<DatedSignature>,
+    rrsets: &[Rrset<'_>],
+    number: SignatureNumber,
+) -> Result<(), AllocError>
+    ensures { OnOk result (AddsDated rrsets.now number all.old.items all.new.items) }
+{
+    let Some(dated) = dated_signature(rrsets, number) else {
+        return Ok(());
+    };
+    all.push(dated)?;
+    Ok(())
 }
 
 /// The signature with the number and its times.

@@ -32,7 +32,8 @@ pub(crate) fn said_at(
     let Ok(derivation) = explainer.derive(alloc, name, rtype) else {
         return Err(AllocError);
     };
-    said_of(alloc, moments.capture().rrsets(), format, &derivation)
+    let said = said_of(alloc, moments.capture().rrsets(), format, &derivation)?;
+    Ok(said)
 }
 
 /// What is said where this is told of the question, and derived so.

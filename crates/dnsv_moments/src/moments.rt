@@ -1,6 +1,7 @@
 //! What questions are judged by at each moment of a range.
-ghost use Rattle.std.specs.Prelude.{◌≡◌, ◌≤◌, ℕ, IfOk, OnErr, length};
+ghost use Rattle.std.specs.Prelude.{◌≡◌, ◌≤◌, IfOk, OnErr, length};
 ghost use Rattle.dnsv_names.specs.Count.{counted};
+ghost use Rattle.dnsv_timeline.specs.Range.{IsRange};
 ghost use Rattle.dnsv_moments.specs.Moments.{AreMomentsBy, AreMomentsOf, IsSaidBy};
 ghost use Rattle.dnsv_verdict.specs.Case.{IsCaseOf};
 ghost use Rattle.dnsv_verdict.specs.Verdict.{basis_of};
@@ -86,7 +87,7 @@ impl<'a> Moments<'a> {
         range: Range,
         table: Table<'a>,
     ) -> Moments<'a>
-        requires { (meaning : Entry → Answer) × IsTableWithin meaning range.from range.to capture.now.rrsets table.entry }
+        requires { (meaning : Entry → Answer) × IsTableWithin meaning range.from range.to capture.now.rrsets table }
         ensures of { AreMomentsOf capture.now.rrsets anchors.now range.from range.to table.entry result }
         // Whoever the table is of, they are that verifier's.
         ensures by { (meaning : Entry → Answer)
@@ -120,6 +121,7 @@ impl<'a> Moments<'a> {
     pub fn range(&self) -> Range
         ensures from { result.from ≡ self.now.from }
         ensures to { result.to ≡ self.now.to }
+        ensures range { IsRange self.now.from self.now.to }
     {
         self.range
     }
@@ -143,7 +145,8 @@ impl<'a> Moments<'a> {
         let nearest = nearest(self.range, moment);
         let table = self.table.at(alloc, nearest)?;
         let case = Case::of(alloc, self.capture, self.anchors, table)?;
-        Explainer::of(alloc, case)
+        let explainer = Explainer::of(alloc, case)?;
+        Ok(explainer)
     }
 }
 

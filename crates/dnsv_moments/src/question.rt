@@ -45,6 +45,8 @@ pub fn timeline_of_question(
         → (error : VerdictError) → IsRefusedFor meaning moments.now name.now rtype.0 error
         → IsErrOf result error ⊎ IsErrOf result VerdictError.OutOfMemory }
 {
+    // What is true of every range.
+    let _range = moments.range();
     if !is_question(name, rtype) {
         return Err(VerdictError::BadQuestion);
     }
@@ -74,7 +76,8 @@ fn all_said(
         rtype,
         format,
     };
-    timeline_of(alloc, moments.range(), &times, &sayer)
+    let stretches = timeline_of(alloc, moments.range(), &times, &sayer)?;
+    Ok(stretches)
 }
 
 /// The same of kinds alone, with neighbours of one kind joined, whatever carries it.
@@ -94,6 +97,8 @@ pub fn kinds_of_question(
         → (error : VerdictError) → IsRefusedFor meaning moments.now name.now rtype.0 error
         → IsErrOf result error ⊎ IsErrOf result VerdictError.OutOfMemory }
 {
+    // What is true of every range.
+    let _range = moments.range();
     if !is_question(name, rtype) {
         return Err(VerdictError::BadQuestion);
     }
@@ -121,5 +126,6 @@ fn all_kinds(
         name,
         rtype,
     };
-    timeline_of(alloc, moments.range(), &times, &sayer)
+    let stretches = timeline_of(alloc, moments.range(), &times, &sayer)?;
+    Ok(stretches)
 }

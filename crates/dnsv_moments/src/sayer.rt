@@ -1,5 +1,4 @@
 //! Who says what is said of a question at the moments of a range.
-ghost use Rattle.std.specs.Prelude.{◌≡◌};
 
 use crate::judging::said_at;
 use crate::moments::Moments;

@@ -26,7 +26,8 @@ pub(crate) fn signatures_shown(
     let mut shown = all_shown(alloc, lines)?;
     shown.sort_unstable();
     shown.dedup();
-    numbers_of(alloc, &shown)
+    let numbers = numbers_of(alloc, &shown)?;
+    Ok(numbers)
 }
 
 /// Those that each line shows.

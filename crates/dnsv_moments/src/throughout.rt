@@ -1,5 +1,5 @@
 //! What a question is refused for throughout.
-ghost use Rattle.std.specs.Prelude.{◌≢◌, [], MatchOption};
+ghost use Rattle.std.specs.Prelude.{◌≡◌, ◌≢◌, ◌↔◌, [], IsTrue, MatchOption};
 ghost use Rattle.dnsv_moments.specs.Question.{HaveKind, TellKind};
 ghost use Rattle.dnsv_timeline_laws.specs.declared.kind.Kind.TheVariants.{Refused};
 ghost use Rattle.dnsv_verdict.specs.declared.error.VerdictError.{VerdictError};
@@ -9,7 +9,7 @@ use dnsv_timeline::Stretch;
 use dnsv_timeline_laws::Kind;
 use dnsv_verdict::VerdictError;
 
-/// Why each stretch is refused; `None` where none or not all are refused by one number.
+/// Why each stretch is refused. `None` where not all are, by one number.
 pub(crate) fn refused_throughout(stretches: &[Stretch<Said>]) -> Option<VerdictError>
     ensures { MatchOption result
         ((error : VerdictError) → stretches.now ≢ [] → ¬ TellKind (Refused error) stretches.now)
@@ -18,21 +18,36 @@ pub(crate) fn refused_throughout(stretches: &[Stretch<Said>]) -> Option<VerdictE
     let Some(first) = stretches.first() else {
         return None;
     };
-    let error = refusal(first.said.kind())?;
-    if !all_tell(stretches, first.said.kind()) {
+    let kind = first.said.kind();
+    let Some(error) = refusal(kind) else {
+        return None;
+    };
+    if !all_tell(stretches, kind) {
         return None;
     }
     Some(error)
 }
 
 /// Whether each stretch tells the kind.
-fn all_tell(stretches: &[Stretch<Said>], kind: Kind) -> bool {
-    stretches
-        .iter()
-        .all(|each| is_same_kind(each.said.kind(), kind))
+fn all_tell(stretches: &[Stretch<Said>], kind: Kind) -> bool
+    ensures { IsTrue result ↔ TellKind kind stretches.now }
+{
+    for stretch in stretches {
+        if !tells(stretch, kind) {
+            return false;
+        }
+    }
+    true
 }
 
-/// Why each of the kinds is a refusal by one number; `None` where none or not all are.
+/// Whether the stretch tells the kind.
+fn tells(stretch: &Stretch<Said>, kind: Kind) -> bool
+    ensures { IsTrue result ↔ stretch.now.said.told.kind ≡ kind }
+{
+    is_same_kind(stretch.said.kind(), kind)
+}
+
+/// Why each of the kinds is a refusal. `None` where not all are, by one number.
 pub(crate) fn kinds_refused_throughout(stretches: &[Stretch<Kind>]) -> Option<VerdictError>
     ensures { MatchOption result
         ((error : VerdictError) → stretches.now ≢ [] → ¬ HaveKind (Refused error) stretches.now)
@@ -41,14 +56,39 @@ pub(crate) fn kinds_refused_throughout(stretches: &[Stretch<Kind>]) -> Option<Ve
     let Some(first) = stretches.first() else {
         return None;
     };
-    if stretches.len() > 1 {
+    let kind = first.said;
+    let Some(error) = refusal(kind) else {
+        return None;
+    };
+    if !all_have(stretches, kind) {
         return None;
     }
-    refusal(first.said)
+    Some(error)
 }
 
-/// Why a question is refused.
-fn refusal(kind: Kind) -> Option<VerdictError> {
+/// Whether each stretch has the kind.
+fn all_have(stretches: &[Stretch<Kind>], kind: Kind) -> bool
+    ensures { IsTrue result ↔ HaveKind kind stretches.now }
+{
+    for stretch in stretches {
+        if !has(stretch, kind) {
+            return false;
+        }
+    }
+    true
+}
+
+/// Whether the stretch has the kind.
+fn has(stretch: &Stretch<Kind>, kind: Kind) -> bool
+    ensures { IsTrue result ↔ stretch.now.said ≡ kind }
+{
+    is_same_kind(stretch.said, kind)
+}
+
+/// Why a question is refused. `None` where it has a verdict.
+fn refusal(kind: Kind) -> Option<VerdictError>
+    ensures { MatchOption result ((error : VerdictError) → kind ≢ Refused error) (λ error. kind ≡ Refused error) }
+{
     match kind {
         Kind::Refused(error) => Some(error),
         _ => None,

@@ -13,4 +13,4 @@ mod SureLemmas
 mod TrailLemmas
 mod TrustLemmas
 pub mod UnknownLemmas
-mod WayLemmas
+pub mod WayLemmas

@@ -1,5 +1,6 @@
 pub mod Case
 pub mod Complete
+pub mod End
 pub mod Hashed
 pub mod Hope
 pub mod Insecure
@@ -9,6 +10,7 @@ pub mod Report
 pub mod Search
 pub mod Secure
 pub mod Settled
+pub mod Traced
 pub mod Trail
 pub mod Verdict
 pub mod VerdictError

@@ -86,6 +86,13 @@ Stops rrsets t names links k BadQuestion =
     × (¬ IsQuestion target t)
 Stops rrsets t names links k OutOfMemory = ⊥
 
+-- the question's way stops so: these links lead to the alias, which can't be followed
+pub record IsStoppedAt
+    (basis : Basis) (name : Labels) (t : ℕ) (links : List Link) (alias : Link) (error : VerdictError) : Type 0 where
+  pub way : IsWay basis t name links alias.name
+  pub is_alias : IsVerdictAt basis alias.name t (SecureAlias alias.rrset alias.signature)
+  pub stops : Stops basis.rrsets t (names_on links alias.name) (length links) alias.rrset error
+
 -- the question is refused so: a way ends at an alias that can't be followed
 pub record IsRefusedFor (basis : Basis) (name : Labels) (t : ℕ) (error : VerdictError) : Type 0 where
   pub links : List Link

@@ -4,6 +4,7 @@ mod hashed_name;
 mod judging;
 pub mod open_case;
 pub mod shared;
+mod tracing;
 
 ghost use Rattle.std.specs.Prelude.{◌≡◌, ℕ, IfOk, length};
 ghost use Rattle.dnsv_names.specs.Count.{counted};

@@ -16,6 +16,7 @@ pub use link::{Link, Links};
 pub use report::{Judged, Report, validate};
 pub use search::Found;
 pub use settled::opt_out_wildcard;
+pub use traced::{StoppedWay, Traced};
 pub use verdict::Verdict;
 pub use ways::a_question_leads_one_way;
 
@@ -29,6 +30,7 @@ mod report;
 mod search;
 mod settled;
 mod target;
+mod traced;
 mod trail;
 mod verdict;
 mod way;

@@ -1,5 +1,5 @@
 //! The way over secure aliases from the name of a question to the last one.
-ghost use Rattle.std.specs.Prelude.{◌≡◌, ◌⊎◌, ◌↔◌, ◌<◌, ◌++◌, ℕ, List, [], ◌∷◌, Contains, IfErr, IfOk, IsFalse, IsTrue, MatchOption, length};
+ghost use Rattle.std.specs.Prelude.{◌≡◌, ◌↔◌, ◌<◌, ◌++◌, ℕ, List, [], ◌∷◌, Contains, IfErr, IfOk, IsFalse, IsTrue, MatchOption, length};
 ghost use Rattle.std.specs.List.{AllByRecursion};
 ghost use Rattle.dnsv_names.specs.Count.{counted};
 ghost use Rattle.dnsv_names.specs.Name.{IsName, Labels, SameName};
@@ -9,12 +9,12 @@ ghost use Rattle.dnsv_canonical.specs.Rrsets.{IsQuestion};
 ghost use Rattle.dnsv_verifier.specs.Table.{IsTableOf};
 ghost use Rattle.dnsv_verifier.specs.declared.answer.Answer.{Answer};
 ghost use Rattle.dnsv_verifier.specs.declared.entry.Entry.{Entry};
+ghost use Rattle.dnsv_verdict.specs.End.{IsEndOf, verdict_at_end};
 ghost use Rattle.dnsv_verdict.specs.Hashed.{hashes_on};
 ghost use Rattle.dnsv_verdict.specs.Report.{IsKept};
 ghost use Rattle.dnsv_verdict.specs.Case.Shared.{IsSharedOf};
 ghost use Rattle.dnsv_verdict.specs.Trail.{IsEmpty, kept_hashes};
-ghost use Rattle.dnsv_verdict.specs.Way.{IsAlias, IsAmong, IsRefusedFor, IsTarget, IsVerdictOf, IsWay, Stops, most_links, names_on};
-ghost use Rattle.dnsv_verdict.specs.declared.error.VerdictError.TheVariants.{OutOfMemory};
+ghost use Rattle.dnsv_verdict.specs.Way.{IsAlias, IsAmong, IsTarget, Stops, most_links, names_on};
 ghost use Rattle.dnsv_verdict.specs.declared.link.Link.{Link};
 ghost use Rattle.dnsv_verdict.specs.declared.verdict.Verdict.TheVariants.{SecureAlias};
 ghost use Rattle.dnsv_verdict.specs.Verdict.{basis_of};
@@ -38,17 +38,30 @@ pub struct Way {
     pub last: Name,
 }
 
-/// A way to its end, and the verdict there, which is that on the question.
+/// How a way ends.
+#[derive(Drop)]
+pub enum End<'a> {
+    /// With the verdict at the last name, which is that on the question.
+    Reached(Verdict<'a>),
+    /// With an alias at the last name that can't be followed: its RRset and signature, and why not.
+    Blocked {
+        alias: (usize, usize),
+        error: VerdictError,
+    },
+}
+
+/// A way to its end.
 #[derive(Drop)]
 pub struct Followed<'a> {
     pub way: Way,
-    pub verdict: Verdict<'a>,
+    pub end: End<'a>,
 }
 
-/// Follows secure aliases from the name on, and gives the verdict at the last name, which is none. `hashed` grows by
-/// the SHA-1 digests that each name takes, and the trail, if it keeps anything, by what each verdict is found by.
+/// Follows secure aliases from the name on to the last name, where the verdict is no alias, or one that can't be
+/// followed. `hashed` grows by the SHA-1 digests that each name takes, and the trail, if it keeps anything, by what each
+/// verdict is found by.
 ///
-/// An alias that can't be followed is refused: `AliasTargets` where it has no one target, `AliasLoop` where the target
+/// An alias can't be followed: `AliasTargets` where it has no one target, `AliasLoop` where the target
 /// is a name of the way, `TooManyLinks` where it would be the ninth link, `BadQuestion` where the type can't be asked
 /// at the target; the first of these, in this order.
 pub fn follow<'a>(
@@ -59,24 +72,20 @@ pub fn follow<'a>(
     rtype: RecordType,
     hashed: &mut Count,
     trail: &mut Trail<'a>,
-) -> Result<Followed<'a>, VerdictError>
+) -> Result<Followed<'a>, AllocError>
     requires { IsSharedOf case.now shared.now }
-    ensures value { (meaning : Entry → Answer) (moment : ℕ)
+    ensures end { (meaning : Entry → Answer) (moment : ℕ)
         → IsTableOf meaning moment case.now.rrsets case.now.table
-        → IfOk result (λ followed. IsVerdictOf (basis_of case.now.rrsets case.now.anchors moment
-        meaning) name.now rtype.0 followed.way.links followed.way.last followed.verdict) }
-    ensures refused { (meaning : Entry → Answer) (moment : ℕ)
-        → IsTableOf meaning moment case.now.rrsets case.now.table
-        → IfErr result (λ error. (error ≡ OutOfMemory) ⊎ IsRefusedFor (basis_of case.now.rrsets
-        case.now.anchors moment meaning) name.now rtype.0 error) }
+        → IfOk result (λ followed. IsEndOf (basis_of case.now.rrsets case.now.anchors moment
+        meaning) name.now rtype.0 followed.way.links followed.way.last followed.end) }
     ensures hashed { IfOk result (λ followed. (all : List Nsec3Parameters)
         → AreParameters (nsec3_rdata case.now.rrsets) all
         → hashed.new ≡ counted hashed.old (hashes_on (names_on followed.way.links followed.way.last) all)) }
     ensures names { IfOk result (λ followed. AllByRecursion IsName
         (names_on followed.way.links followed.way.last)) }
     ensures kept { IfOk result (λ followed. IsTrue trail.old.keeps → IsEmpty trail.old
-        → IsKept case.now rtype.0 followed.way.links followed.way.last followed.verdict (kept_hashes trail.new)
-        trail.new.hope) }
+        → IsKept case.now rtype.0 followed.way.links followed.way.last (verdict_at_end followed.end)
+        (kept_hashes trail.new) trail.new.hope) }
     ensures unkept { IfOk result (λ followed. IsFalse trail.old.keeps → trail.new ≡ trail.old) }
     ensures shared { IsSharedOf case.now shared.new }
 {
@@ -90,11 +99,19 @@ pub fn follow<'a>(
     };
     'links: loop {
         let verdict = verdict_at(alloc, case, shared, trail, &way.last, rtype, hashed)?;
-        let Some((rrset, signature)) = alias_of(&verdict) else {
-            return Ok(Followed { way, verdict });
+        let Some(alias) = alias_of(&verdict) else {
+            let end = End::Reached(verdict);
+            return Ok(Followed { way, end });
         };
-        let target = next_name(alloc, case, &way, rrset, rtype)?;
-        way = longer(way, rrset, signature, target);
+        let (rrset, signature) = alias;
+        let found = target_in(alloc, case, rrset)?;
+        match next_name(case, &way, rrset, found, rtype) {
+            Ok(target) => way = longer(way, rrset, signature, target),
+            Err(error) => {
+                let end = End::Blocked { alias, error };
+                return Ok(Followed { way, end });
+            }
+        }
     }
 }
 
@@ -127,22 +144,24 @@ fn longer(way: Way, rrset: usize, signature: usize, target: Name) -> Way
     }
 }
 
-/// The target of the alias at the way's last name, where the way can go on to it.
+/// The target of the alias at the way's last name, if one was found, where the way can go on to it.
 fn next_name(
-    alloc: Global,
     case: &Case<'_>,
     way: &Way,
     rrset: usize,
+    found: Option<Name>,
     rtype: RecordType,
 ) -> Result<Name, VerdictError>
+    requires { MatchOption found ((target : Labels) → ¬ IsTarget case.now.rrsets rrset target)
+        (IsTarget case.now.rrsets rrset) }
     ensures target { IfOk result (IsTarget case.now.rrsets rrset) }
     ensures new { IfOk result (λ target. ¬ IsAmong target (names_on way.now.links way.now.last)) }
     ensures few { IfOk result (λ target. length way.now.links < most_links) }
     ensures question { IfOk result (λ target. IsQuestion target rtype.0) }
-    ensures stops { IfErr result (λ error. (error ≡ OutOfMemory) ⊎ Stops case.now.rrsets rtype.0
-        (names_on way.now.links way.now.last) (length way.now.links) rrset error) }
+    ensures stops { IfErr result (Stops case.now.rrsets rtype.0 (names_on way.now.links way.now.last)
+        (length way.now.links) rrset) }
 {
-    let Some(target) = target_in(alloc, case, rrset)? else {
+    let Some(target) = found else {
         return Err(VerdictError::AliasTargets);
     };
     if is_on(way, &target) {

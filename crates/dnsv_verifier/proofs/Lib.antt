@@ -13,3 +13,4 @@ pub mod SearchLemmas
 pub mod StatementLemmas
 pub mod StatementsLemmas
 pub mod TableLemmas
+pub mod TimelyLemmas

@@ -7,6 +7,7 @@ ghost use Rattle.dnsv_records.specs.declared.rrsig.Rrsig.{Rrsig};
 ghost use Rattle.dnsv_canonical.specs.Rrsets.{ReceivedRrset};
 ghost use Rattle.dnsv_verifier.specs.Admissible.{DnskeyRecord, IsAdmissible, IsAsked, IsEntryOf, IsGood, IsGoodAmong, IsKeyAmong, IsSignatureOf, IsVerifiable, MayHaveMade};
 ghost use Rattle.dnsv_verifier.specs.Table.{IsTableOf, TableContents, hoped_answer, hopeful, table_answer, unknown_entries};
+ghost use Rattle.dnsv_verifier.specs.Within.{IsTableWithin};
 ghost use Rattle.dnsv_verifier.specs.declared.answer.Answer.{Answer};
 ghost use Rattle.dnsv_verifier.specs.declared.answer.Answer.TheVariants.{Valid, Invalid, Unknown};
 ghost use Rattle.dnsv_verifier.specs.declared.entry.Entry.{Entry};
@@ -53,7 +54,7 @@ pub fn more_rrsets_ask_for_no_less()
 {}
 
 /// A table stands for the verifier that it was made with: both say the same of each entry that is asked, and what is
-/// good in the evidence is so by either. There is one table.
+/// good in the evidence is so by either. There is one table, and for a range one list of entries with answers.
 pub fn a_table_is_its_verifier()
     ensures answer { (meaning : Entry → Answer) (moment : ℕ) (rrsets : List ReceivedRrset) (contents : TableContents)
         → IsTableOf meaning moment rrsets contents
@@ -63,6 +64,8 @@ pub fn a_table_is_its_verifier()
         → (entry : Entry) → ¬ IsAsked moment rrsets entry → table_answer contents entry ≡ Unknown }
     ensures one { (meaning : Entry → Answer) (moment : ℕ) (rrsets : List ReceivedRrset) (a b : TableContents)
         → IsTableOf meaning moment rrsets a → IsTableOf meaning moment rrsets b → a ≡ b }
+    ensures within { (meaning : Entry → Answer) (from to : ℕ) (rrsets : List ReceivedRrset) (a b : TableContents)
+        → IsTableWithin meaning from to rrsets a → IsTableWithin meaning from to rrsets b → a.answers ≡ b.answers }
 {}
 
 /// A verifier that says Valid of each Unknown entry of a table, and of each other asked entry what the table's does,

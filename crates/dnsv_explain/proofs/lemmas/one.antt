@@ -1,4 +1,5 @@
 -- That what is told is told in one way.
+pub mod DerivationLemmas
 pub mod FailureLemmas
 pub mod FormLemmas
 pub mod PlaceLemmas

@@ -1,4 +1,5 @@
 -- What is told of a verdict: its lines, that each follows, and what is refused in their place.
+pub mod DerivedLemmas
 pub mod ExplanationLemmas
 pub mod FaultLemmas
 pub mod FollowingLemmas

@@ -1,20 +1,21 @@
 //! What of an explanation derives a question.
-ghost use Rattle.std.specs.Prelude.{◌≡◌, [], IfOk};
+ghost use Rattle.std.specs.Prelude.{◌≡◌, ◌++◌, ◌∷◌, [], ℕ, IfOk, map};
 ghost use Rattle.dnsv_names.specs.Name.{Labels};
 ghost use Rattle.dnsv_verdict.specs.Case.{HasTrust, basis_by};
-ghost use Rattle.dnsv_verdict.specs.Report.{IsKept, hashes_in};
-ghost use Rattle.dnsv_verdict.specs.Way.{IsVerdictOf};
-ghost use Rattle.dnsv_explain.specs.Derived.{IsDerivationTold};
+ghost use Rattle.dnsv_verdict.specs.Report.{IsKept, hashed_in, hashes_in};
+ghost use Rattle.dnsv_verdict.specs.Traced.{hashes_on_way};
+ghost use Rattle.dnsv_verdict.specs.Way.{IsStoppedAt, IsVerdictOf, names_on};
+ghost use Rattle.dnsv_explain.specs.Derived.{AreLinksTold, IsDerivationTold};
 ghost use Rattle.dnsv_explain.specs.Explained.{explained_by};
 ghost use Rattle.dnsv_explain.specs.SharedWays.{AreHopedWays};
 
 use crate::explanation::failure::is_unproved;
-use crate::explanation::links::add_links;
+use crate::explanation::links::{add_link, add_links};
 use crate::explanation::verdict::add_verdict;
 use dnsv_derivations::{Evidence, KeptWay};
 use dnsv_lines::Line;
 use dnsv_names::RecordType;
-use dnsv_verdict::{Case, Judged, Report, VerdictError};
+use dnsv_verdict::{Case, Judged, Report, StoppedWay, VerdictError};
 use std::alloc::{AllocError, Global};
 
 /// What the way of a question leads to.
@@ -64,5 +65,29 @@ pub fn derivation_of<'a>(
     add_verdict(
         alloc, evidence, case, judged, hashes, hoped, &mut lines, rtype,
     )?;
+    Ok(lines)
+}
+
+/// The lines that derive the links of a way that stops, and then the alias which can't be followed.
+pub fn stop_derivation_of<'a>(
+    alloc: Global,
+    evidence: &Evidence<'_>,
+    case: &Case<'a>,
+    stopped: &StoppedWay<'a>,
+) -> Result<Vec<Line>, AllocError>
+    requires trust { HasTrust case.now }
+    requires evidence { evidence.now ≡ explained_by case.now [] }
+    requires kept { hashes_on_way stopped.now ≡ map (hashed_in case.now.rrsets)
+        (names_on stopped.now.links stopped.now.alias.name) }
+    requires stopped { (name : Labels) × (t : ℕ) × IsStoppedAt (basis_by case.now) name t stopped.now.links
+        stopped.now.alias stopped.now.error }
+    ensures { IfOk result (λ lines. AreLinksTold (explained_by case.now []) (stopped.now.links ++ stopped.now.alias ∷ [])
+        lines.items) }
+{
+    let mut lines = Vec::new(alloc);
+    let links = stopped.links.as_slice();
+    add_links(alloc, evidence, case, links, &stopped.hashes, &mut lines)?;
+    let hashes = stopped.hashes_at(links.len());
+    add_link(alloc, evidence, case, &stopped.alias, hashes, &mut lines)?;
     Ok(lines)
 }

@@ -14,14 +14,14 @@ ghost use Rattle.dnsv_verdict.specs.Verdict.{Basis, IsVerdictAt, basis_of};
 ghost use Rattle.dnsv_verdict.specs.declared.error.VerdictError.{VerdictError};
 
 use crate::explanation::at::evidence_of;
-use crate::explanation::derivation::{Derivation, Outcome, derivation_of};
+use crate::explanation::derivation::{Derivation, Outcome, derivation_of, stop_derivation_of};
 use crate::explanation::{Explanation, explanation_of};
 use bumpalo::Bump;
 use dnsv_canonical::Capture;
 use dnsv_chain::Anchors;
 use dnsv_derivations::{KeptWay, first_ways};
 use dnsv_names::{Name, RecordType};
-use dnsv_verdict::{Case, Hope, Judged, OpenCase, Report, Verdict, VerdictError};
+use dnsv_verdict::{Case, Hope, Judged, OpenCase, Report, Traced, Verdict, VerdictError};
 use dnsv_verifier::{Entries, Verifier};
 use std::alloc::{AllocError, Global};
 use std::marker::Model;
@@ -69,7 +69,7 @@ impl<'a> Explainer<'a> {
     /// That of a case which was made elsewhere, so that nobody is asked anything. The case is of what some verifier says
     /// of its evidence, as each case of `Case::new` is, and each of `Case::of` with a table of the capture.
     pub fn of(alloc: Global, case: Case<'a>) -> Result<Explainer<'a>, AllocError>
-        requires { (basis : Basis) × IsCaseOf basis case.entry }
+        requires { (basis : Basis) × IsCaseOf basis case }
         ensures contents { IfOk result (λ explainer. explainer ≡ case.entry) }
         // Whoever the case is of, it is that verifier's.
         ensures basis { (basis : Basis) → IsCaseOf basis case.entry → IfOk result (IsCaseOf basis) }
@@ -123,22 +123,29 @@ impl<'a> Explainer<'a> {
         ensures derived { (basis : Basis) → IsCaseOf basis self.old
             → IfOk result (λ told. IsDerived basis name.now rtype.0 told.outcome told.lines.items) }
         ensures question { ¬ IsQuestion name.now rtype.0 → IsErrOf result VerdictError.BadQuestion }
-        ensures told { IfErr result (λ error. (error ≡ VerdictError.OutOfMemory)
+        ensures refused { IfErr result (λ error. (error ≡ VerdictError.OutOfMemory)
             ⊎ ((error ≡ VerdictError.BadQuestion) × (¬ IsQuestion name.now rtype.0))) }
         ensures same { self.new ≡ self.old }
     {
-        let judged = self.open_case.judge(alloc, name, rtype, true)?;
         let case = self.open_case.case();
+        let traced = case.trace(alloc, name, rtype)?;
         // What is true of every case.
         let _trust = case.trust();
-        keep_hoped(alloc, case, &judged, rtype, &mut self.hoped)?;
         let bare = evidence_of(case, None);
         let evidence = bare.with_ways(&self.ways);
-        let lines = derivation_of(alloc, &evidence, case, &judged, &self.hoped, rtype)?;
-        Ok(Derivation {
-            outcome: Outcome::Verdict(judged.report),
-            lines,
-        })
+        match traced {
+            Traced::Reached(judged) => {
+                keep_hoped(alloc, case, &judged, rtype, &mut self.hoped)?;
+                let lines = derivation_of(alloc, &evidence, case, &judged, &self.hoped, rtype)?;
+                let outcome = Outcome::Verdict(judged.report);
+                Ok(Derivation { outcome, lines })
+            }
+            Traced::Stopped(stopped) => {
+                let lines = stop_derivation_of(alloc, &evidence, case, &stopped)?;
+                let outcome = Outcome::Refused(stopped.error);
+                Ok(Derivation { outcome, lines })
+            }
+        }
     }
 }
 

@@ -1,5 +1,5 @@
 -- What is kept of a way while it is followed.
-use Rattle.std.proofs.Common.{◌≡◌, ◌⊎◌, ◌+◌, ◌<◌, ℕ, List, [], ◌∷◌, ◌++◌, length, map, sym, ap, ◌∙◌, inl, inr, subst}
+use Rattle.std.proofs.Common.{◌≡◌, ◌+◌, ◌<◌, ℕ, List, [], ◌∷◌, ◌++◌, length, map, sym, ap, ◌∙◌, subst}
 use Rattle.std.proofs.lemmas.List.{map-append}
 use Rattle.std.specs.List.{AllByRecursion}
 use Rattle.dnsv_names.specs.Count.{counted}
@@ -16,9 +16,8 @@ use Rattle.dnsv_verdict.proofs.HashedLemmas.{hashes_more}
 use Rattle.dnsv_verdict.proofs.WayLemmas.{empty_way, names_behind, way_more}
 use Rattle.dnsv_verdict.specs.Hashed.{hashes_on}
 use Rattle.dnsv_verdict.specs.Verdict.{Basis, IsVerdictAt, basis_of}
-use Rattle.dnsv_verdict.specs.Way.{IsAlias, IsAmong, IsRefusedFor, IsTarget, IsVerdictOf, IsWay, Stops, most_links, names_on}
+use Rattle.dnsv_verdict.specs.Way.{IsAlias, IsAmong, IsStoppedAt, IsTarget, IsVerdictOf, IsWay, Stops, most_links, names_on}
 use Rattle.dnsv_verdict.specs.declared.error.VerdictError.{VerdictError}
-use Rattle.dnsv_verdict.specs.declared.error.VerdictError.TheVariants.{OutOfMemory}
 use Rattle.dnsv_verdict.specs.declared.link.Link.{Link}
 use Rattle.dnsv_verdict.specs.declared.verdict.Verdict.{Verdict}
 use Rattle.dnsv_verdict.specs.declared.verdict.Verdict.TheVariants.{SecureAlias}
@@ -102,21 +101,12 @@ pub followed_to_end : (rrsets : List ReceivedRrset) (anchors : List Anchor) (tab
 followed_to_end rrsets anchors table t name before between links last verdict so_far is none meaning moment of =
     record { way = so_far.way meaning moment of; is_verdict = is meaning moment of; no_alias = none }
 
--- what is refused at the last name is refused for the question
-pub refused_at_last : (rrsets : List ReceivedRrset) (anchors : List Anchor) (table : TableContents) (t : ℕ) (name : Labels)
+-- an alias at the last name that can't be followed stops the way
+pub followed_to_stop : (rrsets : List ReceivedRrset) (anchors : List Anchor) (table : TableContents) (t : ℕ) (name : Labels)
     (before between : ℕ) (links : List Link) (last : Labels) (k s : ℕ) (error : VerdictError)
     → IsFollowed rrsets anchors table t name before between links last
     → OfTable rrsets anchors table (λ basis. IsVerdictAt basis last t (SecureAlias k s))
-    → (error ≡ OutOfMemory) ⊎ Stops rrsets t (names_on links last) (length links) k error
-    → OfTable rrsets anchors table (λ basis. (error ≡ OutOfMemory) ⊎ IsRefusedFor basis name t error)
-refused_at_last rrsets anchors table t name before between links last k s error so_far alias (inl memory) meaning moment of = inl memory
-refused_at_last rrsets anchors table t name before between links last k s error so_far alias (inr stops) meaning moment of =
-    inr (record {
-      links = links;
-      last = last;
-      way = so_far.way meaning moment of;
-      k = k;
-      s = s;
-      is_alias = alias meaning moment of;
-      stops = stops;
-    })
+    → Stops rrsets t (names_on links last) (length links) k error
+    → OfTable rrsets anchors table (λ basis. IsStoppedAt basis name t links (record { name = last; rrset = k; signature = s }) error)
+followed_to_stop rrsets anchors table t name before between links last k s error so_far alias stops meaning moment of =
+    record { way = so_far.way meaning moment of; is_alias = alias meaning moment of; stops = stops }

@@ -1,30 +1,19 @@
 //! The verdict on a question of a case.
-ghost use Rattle.std.specs.Prelude.{◌≡◌, [], IfOk, IsErrOf, IsFalse, IsTrue, List, None};
-ghost use Rattle.std.specs.List.{AllByRecursion};
-ghost use Rattle.dnsv_names.specs.Count.{counted};
-ghost use Rattle.dnsv_names.specs.Name.{IsName};
-ghost use Rattle.dnsv_records.specs.declared.nsec3.Nsec3Parameters.{Nsec3Parameters};
-ghost use Rattle.dnsv_canonical.specs.Evidence.{AreParameters, nsec3_rdata};
+ghost use Rattle.std.specs.Prelude.{◌≡◌, [], IfOk, IsErrOf, IsFalse, IsTrue, None};
 ghost use Rattle.dnsv_canonical.specs.Rrsets.{IsQuestion};
 ghost use Rattle.dnsv_verdict.specs.Case.{IsCaseOf, basis_by};
 ghost use Rattle.dnsv_verdict.specs.Case.Shared.{IsSharedOf};
-ghost use Rattle.dnsv_verdict.specs.Hashed.{IsFewHashedOn, IsNumberHashedOn, hashes_on};
 ghost use Rattle.dnsv_verdict.specs.Report.{IsKept, IsReport, Refuses, hashes_in};
 ghost use Rattle.dnsv_verdict.specs.Verdict.{Basis};
-ghost use Rattle.dnsv_verdict.specs.Way.{IsVerdictOf, names_on};
+ghost use Rattle.dnsv_verdict.specs.Way.{IsVerdictOf};
 ghost use Rattle.dnsv_verdict.specs.declared.error.VerdictError.{VerdictError};
 
 use crate::case::Case;
 use crate::case::shared::Shared;
-use crate::complete::a_whole_chain_is_told_by_the_verdict;
 use crate::error::VerdictError;
-use crate::report::{Judged, Report};
-use crate::trail::Trail;
-use crate::way::{Way, follow};
-use crate::ways::a_question_leads_one_way;
-use dnsv_canonical::is_question;
-use dnsv_names::{Count, Name, RecordType};
-use dnsv_verifier::a_table_is_its_verifier;
+use crate::report::Judged;
+use crate::traced::Traced;
+use dnsv_names::{Name, RecordType};
 use std::alloc::Global;
 
 impl<'a> Case<'a> {
@@ -82,44 +71,9 @@ impl<'a> Case<'a> {
         // Also where the question is refused, or memory is.
         ensures shared { IsSharedOf self.now shared.new }
     {
-        if !is_question(name, rtype) {
-            return Err(VerdictError::BadQuestion);
+        match self.trace_sharing(alloc, shared, name, rtype, keeps)? {
+            Traced::Reached(judged) => Ok(judged),
+            Traced::Stopped(stopped) => Err(stopped.error),
         }
-        a_question_leads_one_way();
-        a_whole_chain_is_told_by_the_verdict();
-        a_table_is_its_verifier();
-        let mut hashed = Count::new();
-        let mut trail = Trail::new(alloc, keeps);
-        let followed = follow(alloc, self, shared, name, rtype, &mut hashed, &mut trail)?;
-        let hashed = exact_hashed(&hashed, self, &followed.way);
-        let report = Report {
-            links: followed.way.links,
-            last: followed.way.last,
-            verdict: followed.verdict,
-            asked: self.asked(),
-            hashed,
-        };
-        Ok(Judged {
-            report,
-            hashes: trail.hashes,
-            hope: trail.hope,
-        })
     }
-}
-
-/// The count of the digests that hash the names of the way: there are so few names, a capture has so few iterations and
-/// salts, and a name so few labels, that their number is below the greatest value of a count.
-fn exact_hashed(hashed: &Count, case: &Case<'_>, way: &Way) -> u64
-    requires hashed { (all : List Nsec3Parameters) → AreParameters (nsec3_rdata case.now.rrsets) all
-        → hashed.now ≡ counted 0 (hashes_on (names_on way.now.links way.now.last) all) }
-    requires names { AllByRecursion IsName (names_on way.now.links way.now.last) }
-    ensures exact { IsNumberHashedOn case.now.rrsets (names_on way.now.links way.now.last) result }
-    ensures few { IsFewHashedOn case.now.rrsets (names_on way.now.links way.now.last) result }
-{
-    // What is true of every capture and of every way.
-    let capture = case.capture();
-    let _limits = capture.rrsets();
-    let _parameters = capture.nsec3_parameters();
-    let _links = way.links.as_slice();
-    hashed.value()
 }

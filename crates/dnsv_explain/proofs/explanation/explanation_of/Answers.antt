@@ -8,7 +8,7 @@ add_end-requires c =
     c.new-lines.result.items c.add_verdict.new.lines.items c.new-lines.ensures.items
     (c.is_settled.ensures.0 c.if-not-is_settled.false)
     (way_added c.args.evidence.now c.args.rtype.0 report.links report.last report.verdict c.new-lines.result.items _ _
-    c.in_ok-add_links.ensures c.in_ok-add_verdict.ensures)
+    (rw c.as_slice-links.ensures.value at c.in_ok-add_links.ensures) c.in_ok-add_verdict.ensures)
 
 pub failed-requires-clause-unproved : goal.failed-requires-clause-unproved
 failed-requires-clause-unproved c = c.is_unproved.ensures.0 c.if-is_unproved.true
@@ -21,7 +21,7 @@ returns-then-not-is_settled c =
     (λ unproved. let holds = c.is_unproved.ensures.1 unproved in let fails = c.if-is_unproved.false in cc)
     (λ settled. let holds = c.is_settled.ensures.1 settled in let fails = c.if-not-is_settled.true in cc)
     (way_added c.args.evidence.now c.args.rtype.0 report.links report.last report.verdict c.new-lines.result.items _ _
-    c.in_ok-add_links.ensures c.in_ok-add_verdict.ensures)
+    (rw c.as_slice-links.ensures.value at c.in_ok-add_links.ensures) c.in_ok-add_verdict.ensures)
     c.in_ok-add_places_named.ensures
 
 pub returns : goal.returns
@@ -31,5 +31,16 @@ returns c =
     report.links report.last report.verdict c.new-lines.result.items _ _ c.new-lines.ensures.items
     (c.is_settled.ensures.0 c.if-not-is_settled.false)
     (way_added c.args.evidence.now c.args.rtype.0 report.links report.last report.verdict c.new-lines.result.items _ _
-    c.in_ok-add_links.ensures c.in_ok-add_verdict.ensures)
+    (rw c.as_slice-links.ensures.value at c.in_ok-add_links.ensures) c.in_ok-add_verdict.ensures)
     c.in_ok-add_end.ensures
+
+pub add_links-requires-clause-way : goal.add_links-requires-clause-way
+add_links-requires-clause-way c =
+    let report = c.args.judged.now.report in
+    rw (c.as_slice-links.ensures.value, c.deref.ensures.value) (record {
+      t = c.args.rtype.0;
+      name = c.requires.verdict.0;
+      last = report.last;
+      leads = c.requires.verdict.1.way.leads;
+      each_name = c.requires.kept.each_name;
+    })

@@ -62,7 +62,7 @@ Kept signed k s = Contains (signed k) s
 module _ (setting : Setting) (apart : AreApart setting.todo) (name : Labels) where
   -- ---- an RRset that holds
 
-  one_set : (number : SignatureNumber) → IsOne (IsSetTold setting name number)
+  pub one_set : (number : SignatureNumber) → IsOne (IsSetTold setting name number)
   one_set number before a b (as_owned r g at own told) (as_owned s h there other its) =
       one_signature setting apart number before a b told its
   one_set number before a b (as_owned r g at own told) (by_wildcard s h trust shown there expanded good is its) =
@@ -174,7 +174,7 @@ module _ (setting : Setting) (apart : AreApart setting.todo) (name : Labels) whe
 
 -- ---- entries that have one number each
 
-none_apart : AreApart []
+pub none_apart : AreApart []
 none_apart m n entry x y =
     let none : List Entry = [] in let within = slice_get_within none (m - 1) entry x.1 in absurd (omega (arith, within))
 
@@ -214,7 +214,7 @@ module _ (explained : Explained) (none : AreApart explained.todo) (t : ℕ) wher
       (λ _ u v p q. p ∙ sym q) (one_settled (setting_in its) apart name t y.verdict) before a b told y.told
 
   -- the entries of a verdict that needs answers are apart
-  abbrev NeedsApart : Verdict → Type 0
+  abbrev pub NeedsApart : Verdict → Type 0
   NeedsApart (Pending unknown) = AreApart unknown
   NeedsApart verdict = Unit {0}
 
@@ -238,14 +238,21 @@ module _ (explained : Explained) (none : AreApart explained.todo) (t : ℕ) wher
   one_end_told Bogus before a b x y = one_places_told explained.rrsets before a b x y
   one_end_told Indeterminate before a b x y = one_places_told explained.rrsets before a b x y
 
+  pub one_links : (links : List Link) → IsOne (AreEach (IsLinkTold (setting_in explained)) links)
+  one_links links before a b x y =
+      one_each (IsLinkTold (setting_in explained)) (λ link. one_set (setting_in explained) none link.name (signature_of link.rrset link.signature))
+      links before a b x y
+
+  pub one_way : (links : List Link) (last : Labels) (verdict : Verdict) → NeedsApart verdict
+      → IsOne (IsWayTold explained t links last verdict)
+  one_way links last verdict apart before a b x y =
+      let Each : List Line → List Line → Type 0 = AreEach (IsLinkTold (setting_in explained)) links in
+      one_both Each (IsVerdictTold explained last t verdict) (one_links links) (one_verdict_told last verdict apart) before a b x y
+
   one_holding : (links : List Link) (last : Labels) (verdict : Verdict) → NeedsApart verdict
       → IsOne (IsHoldingTold explained t links last verdict)
   one_holding links last verdict apart before a b x y =
-      let Each : List Line → List Line → Type 0 = AreEach (IsLinkTold (setting_in explained)) links in
-      one_both (IsWayTold explained t links last verdict) (IsEndTold explained verdict)
-      (one_both Each (IsVerdictTold explained last t verdict)
-      (one_each (IsLinkTold (setting_in explained)) (λ link. one_set (setting_in explained) none link.name (signature_of link.rrset link.signature)) links)
-      (one_verdict_told last verdict apart))
+      one_both (IsWayTold explained t links last verdict) (IsEndTold explained verdict) (one_way links last verdict apart)
       (one_end_told verdict) before a b x y
 
   one_failed : (links : List Link) (last : Labels) (verdict : Verdict) → NeedsApart verdict
@@ -265,7 +272,7 @@ module _ (explained : Explained) (none : AreApart explained.todo) (t : ℕ) wher
   one_explanation links last Bogus apart a b x y = one_failed links last Bogus apart [] a b x y
   one_explanation links last Indeterminate apart a b x y = one_failed links last Indeterminate apart [] a b x y
 
-needs_apart : (explained : Explained) (none : AreApart explained.todo) (basis : Basis) (name : Labels) (t : ℕ) (verdict : Verdict)
+pub needs_apart : (explained : Explained) (none : AreApart explained.todo) (basis : Basis) (name : Labels) (t : ℕ) (verdict : Verdict)
     → IsVerdictAt basis name t verdict → NeedsApart explained none t verdict
 needs_apart explained none basis name t (SecureAnswer k s) is = tt
 needs_apart explained none basis name t (SecureAlias k s) is = tt

@@ -280,3 +280,16 @@ module _ (rrsets : List ReceivedRrset) where
       is ∙ ap (λ each. get_or each place found) are
       ∙ hashed_at_link links last place found link (within_same xs links place same within)
       ∙ ap (λ (each : Link). hashed_in rrsets each.name) (sym (at_same xs links place link same at))
+
+-- behind the hashes for the names of the links stand those for the last name
+hashed_at_last : (rrsets : List ReceivedRrset) (links : List Link) (last : Labels) (d : HashedQuestion)
+    → get_or (hashed_on rrsets links last) (length links) d ≡ hashed_in rrsets last
+hashed_at_last rrsets [] last d = refl
+hashed_at_last rrsets (link ∷ links) last d = hashed_at_last rrsets links last d
+
+pub last_hashed : (rrsets : List ReceivedRrset) (links xs : List Link) (last : Labels) (hashes : List HashedQuestion) (found : HashedQuestion)
+    → xs ≡ links → hashes ≡ hashed_on rrsets links last → found ≡ get_or hashes (length xs) found → found ≡ hashed_in rrsets last
+last_hashed rrsets links xs last hashes found same are is =
+    is ∙ ap (λ each. get_or each (length xs) found) are
+    ∙ ap (λ (each : List Link). get_or (hashed_on rrsets links last) (length each) found) same
+    ∙ hashed_at_last rrsets links last found

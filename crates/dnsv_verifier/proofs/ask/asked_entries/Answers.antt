@@ -23,4 +23,4 @@ returns-clause-asked c =
     let entries = map (entry_of c.in_ok-parts.parts) c.in_ok-numbers.numbers.items in
     let by_made = subst (λ (mades : List MadeSignature). AddsJust (ComesOfSome (IsEntryOfMade c.as_slice-3.result.now) mades) [] entries) c.as_slice-4.ensures.value c.in_ok-numbers.ensures.adds in
     let adds = subst (λ (keys : List DnskeyRecord). AddsJust (ComesOfSome (IsEntryOfMade keys) c.in_ok-made.made.items) [] entries) c.as_slice-3.ensures by_made in
-    just_asked c.args.moment c.args.rrsets.now c.in_ok-keys.keys c.in_ok-keys.ensures c.in_ok-made.made.items c.in_ok-made.ensures entries adds
+    just_asked c.args.range.from c.args.range.to c.args.rrsets.now c.in_ok-keys.keys c.in_ok-keys.ensures c.in_ok-made.made.items c.in_ok-made.ensures entries adds

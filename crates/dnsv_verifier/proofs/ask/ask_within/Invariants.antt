@@ -2,7 +2,7 @@ use Rattle.std.proofs.Common.{◌≡◌, ◌≤◌, length, map, take, vec_len}
 use Rattle.std.specs.Vec.{vec_capacity}
 use Rattle.dnsv_names.specs.Count.{counted}
 use Rattle.dnsv_verifier.specs.Numbers.{entry_of}
-use Rattle.dnsv_verifier.proofs.ask.ask_all.Given as goal
+use Rattle.dnsv_verifier.proofs.ask.ask_within.Given as goal
 
 -- what was said of those so far, and room for the others
 abbrev pub invariant-loop-each : goal.invariant-loop-each

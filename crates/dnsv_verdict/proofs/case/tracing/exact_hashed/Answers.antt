@@ -4,7 +4,7 @@ use Rattle.dnsv_canonical.specs.Rrsets.{ReceivedRrset}
 use Rattle.dnsv_verdict.proofs.HashedLemmas.{counted_exactly, few_hashed_on}
 use Rattle.dnsv_verdict.proofs.WayLemmas.{few_names}
 use Rattle.dnsv_verdict.specs.Way.{names_on}
-use Rattle.dnsv_verdict.proofs.case.judging.exact_hashed.Goals as goal
+use Rattle.dnsv_verdict.proofs.case.tracing.exact_hashed.Goals as goal
 
 pub returns-clause-exact : goal.returns-clause-exact
 returns-clause-exact c =

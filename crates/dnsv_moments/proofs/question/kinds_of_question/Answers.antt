@@ -1,0 +1,38 @@
+use Rattle.std.proofs.Common.{List, [], Err, ap, inl, inr, refl, sym, subst}
+use Rattle.std.proofs.lemmas.Bool.{false≢true}
+use Rattle.std.specs.Prelude.{◌≢◌}
+use Rattle.dnsv_timeline.specs.declared.stretch.Stretch.{Stretch}
+use Rattle.dnsv_timeline_laws.specs.declared.kind.Kind.{Kind}
+use Rattle.dnsv_timeline_laws.specs.declared.kind.Kind.TheVariants.{Refused}
+use Rattle.dnsv_verdict.specs.declared.error.VerdictError.{VerdictError}
+use Rattle.dnsv_moments.specs.Moments.{basis_with}
+use Rattle.dnsv_moments.specs.Question.{HaveKind}
+use Rattle.dnsv_moments.proofs.QuestionLemmas.{only_bad_question, kinds_none, kinds_one, kinds_told}
+use Rattle.dnsv_moments.proofs.question.kinds_of_question.Goals as goal
+
+pub returns-then-not-is_question-clause-refused : goal.returns-then-not-is_question-clause-refused
+returns-then-not-is_question-clause-refused c = λ meaning by error is.
+    let moments = c.args.moments.now in
+    inl (ap (λ (e : VerdictError). Err e) (sym (only_bad_question (basis_with meaning moments) moments.from moments.to c.args.name.now c.args.rtype.0 error
+    c.range-range.ensures.range.turned (λ question. false≢true (c.if-not-is_question.ensures.1 question)) is)))
+
+pub returns-in-Some-clause-told : goal.returns-in-Some-clause-told
+returns-in-Some-clause-told c = λ meaning by.
+    let Tell : List (Stretch Kind) → Type 0 = λ stretches. HaveKind (Refused c.in-Some.error) stretches in
+    inr (kinds_told c.a_question_leads_one_way.ensures.refusal c.a_question_leads_one_way.ensures.not_both meaning c.args.moments.now
+    c.args.name.now c.args.rtype.0 c.range-range.ensures.range.turned (c.if-not-is_question.ensures.0 refl) c.in_ok-stretches.stretches.items
+    (c.in_ok-stretches.ensures meaning by) c.in-Some.error (subst Tell c.deref.ensures.value c.in-Some.ensures))
+
+pub returns-in-Some-clause-refused : goal.returns-in-Some-clause-refused
+returns-in-Some-clause-refused c = λ meaning by error is.
+    let Tell : List (Stretch Kind) → Type 0 = λ stretches. HaveKind (Refused c.in-Some.error) stretches in
+    inl (ap (λ (e : VerdictError). Err e) (kinds_one c.a_question_leads_one_way.ensures.refusal c.a_question_leads_one_way.ensures.not_both meaning c.args.moments.now
+    c.args.name.now c.args.rtype.0 c.range-range.ensures.range.turned (c.if-not-is_question.ensures.0 refl) c.in_ok-stretches.stretches.items
+    (c.in_ok-stretches.ensures meaning by) c.in-Some.error error (subst Tell c.deref.ensures.value c.in-Some.ensures) is))
+
+pub returns-in-None-clause-refused : goal.returns-in-None-clause-refused
+returns-in-None-clause-refused c = λ meaning by error is.
+    let None : List (Stretch Kind) → Type 0 = λ stretches. (each : VerdictError) → stretches ≢ [] → ¬ HaveKind (Refused each) stretches in
+    absurd (kinds_none c.a_question_leads_one_way.ensures.refusal c.a_question_leads_one_way.ensures.not_both meaning c.args.moments.now
+    c.args.name.now c.args.rtype.0 c.range-range.ensures.range.turned (c.if-not-is_question.ensures.0 refl) c.in_ok-stretches.stretches.items
+    (c.in_ok-stretches.ensures meaning by) (subst None c.deref.ensures.value c.in-None.ensures) error is)
