@@ -10,10 +10,10 @@ use Rattle.dnsv_verifier.specs.Asked.{IsNumberAsked}
 use Rattle.dnsv_verifier.specs.Table.{IsTableOf, TableContents, table_answer}
 use Rattle.dnsv_verifier.specs.declared.answer.Answer.{Answer}
 use Rattle.dnsv_verifier.specs.declared.entry.Entry.{Entry}
-use Rattle.dnsv_verdict.proofs.WayLemmas.RefusalLemmas.{no_refusal, one_refusal}
+use Rattle.dnsv_verdict.proofs.WayLemmas.RefusalLemmas.{bad_question, no_refusal, one_refusal, refused_where_stopped}
 use Rattle.dnsv_verdict.specs.Report.{Refuses}
 use Rattle.dnsv_verdict.specs.Verdict.{Basis}
-use Rattle.dnsv_verdict.specs.Way.{IsRefusedFor, IsVerdictOf}
+use Rattle.dnsv_verdict.specs.Way.{IsRefusedFor, IsStoppedAt, IsVerdictOf}
 use Rattle.dnsv_verdict.specs.declared.error.VerdictError.{VerdictError}
 use Rattle.dnsv_verdict.specs.declared.error.VerdictError.TheVariants.{BadQuestion, OutOfMemory}
 use Rattle.dnsv_verdict.specs.declared.link.Link.{Link}
@@ -109,6 +109,25 @@ refused_on_way basis name t error asked why = record {
   refused = λ other is. ⊎_elim (λ (memory : error ≡ OutOfMemory). inr (ap (λ (e : VerdictError). Err e) memory))
       (λ (refused : IsRefusedFor basis name t error). inl (ap (λ (e : VerdictError). Err e) (one_refusal basis name t error other asked refused is))) why;
 }
+
+-- a question of which nothing leads anywhere, since the type can't be asked at the name or memory runs out
+pub not_traced : {T U : Type 0} (basis : Basis) (name : Labels) (t : ℕ) (error : VerdictError)
+    → (¬ IsQuestion name t → Path (Result T VerdictError) (Err error) (Err BadQuestion))
+    → (error ≡ OutOfMemory) ⊎ ((error ≡ BadQuestion) × (¬ IsQuestion name t)) → Refuses {T = U} basis name t (Err error)
+not_traced basis name t error question why = record {
+  question = λ not_asked. alike error BadQuestion (question not_asked);
+  told = ⊎_elim (λ (memory : error ≡ OutOfMemory). inl memory)
+      (λ (bad : (error ≡ BadQuestion) × (¬ IsQuestion name t)). inr (inl bad)) why;
+  refused = λ other is. ⊎_elim (λ (memory : error ≡ OutOfMemory). inr (ap (λ (e : VerdictError). Err e) memory))
+      (λ (bad : (error ≡ BadQuestion) × (¬ IsQuestion name t)).
+      inl (ap (λ (e : VerdictError). Err e) (bad.0 ∙ sym (bad_question basis name t other bad.1 is)))) why;
+}
+
+-- a question of which the way stops
+pub refused_where_it_stops : {T : Type 0} (basis : Basis) (name : Labels) (t : ℕ) (links : List Link) (alias : Link) (error : VerdictError)
+    → IsQuestion name t → IsStoppedAt basis name t links alias error → Refuses {T = T} basis name t (Err error)
+refused_where_it_stops basis name t links alias error asked is =
+    refused_on_way basis name t error asked (inr (refused_where_stopped basis name t links alias error is))
 
 -- a question that has a verdict
 pub none_refused : {T : Type 0} (basis : Basis) (name : Labels) (t : ℕ) (links : List Link) (last : Labels) (verdict : Verdict) (value : T)

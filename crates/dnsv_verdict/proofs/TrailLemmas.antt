@@ -100,3 +100,12 @@ kept_to_end case t links last verdict start before after so_far more keeps empty
   each_name = each_name_more case t (map (λ (each : Link). each.name) links) last verdict start before after so_far more keeps empty;
   hoped = more.hope (subst (λ keeps. IsTrue keeps) (sym so_far.keeps) keeps) (so_far.none keeps empty);
 }
+
+-- an alias at the end
+pub kept_to_stop : (case : CaseContents) (t : ℕ) (links : List Link) (last : Labels) (k s : ℕ) (verdict : Verdict) (start before after : Trail)
+    → verdict ≡ SecureAlias k s
+    → IsTrailOf case.rrsets (map (λ link. link.name) links) start before → Trails case last t verdict before after
+    → IsTrue start.keeps → IsEmpty start → IsKept case t links last (SecureAlias k s) (kept_hashes after) after.hope
+kept_to_stop case t links last k s verdict start before after alias so_far more keeps empty =
+    subst (λ (each : Verdict). IsKept case t links last each (kept_hashes after) after.hope) alias
+    (kept_to_end case t links last verdict start before after so_far more keeps empty)

@@ -18,7 +18,7 @@ pub use search::Found;
 pub use settled::opt_out_wildcard;
 pub use traced::{StoppedWay, Traced};
 pub use verdict::Verdict;
-pub use ways::a_question_leads_one_way;
+pub use ways::{a_question_leads_one_way, a_question_stops_at_one_alias};
 
 mod at_name;
 mod case;

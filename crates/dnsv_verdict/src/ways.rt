@@ -1,10 +1,10 @@
-//! A law of the ways over secure aliases.
+//! Laws of the ways over secure aliases.
 //!
-//! It is a function that does nothing and ensures the law, which its caller learns.
-ghost use Rattle.std.specs.Prelude.{◌≡◌, ℕ, List};
+//! Each is a function that does nothing and ensures the law, which its caller learns.
+ghost use Rattle.std.specs.Prelude.{◌≡◌, ◌↔◌, ℕ, List};
 ghost use Rattle.dnsv_names.specs.Name.{Labels};
 ghost use Rattle.dnsv_verdict.specs.Verdict.{Basis};
-ghost use Rattle.dnsv_verdict.specs.Way.{IsRefusedFor, IsVerdictOf};
+ghost use Rattle.dnsv_verdict.specs.Way.{IsRefusedFor, IsStoppedAt, IsVerdictOf};
 ghost use Rattle.dnsv_verdict.specs.declared.error.VerdictError.{VerdictError};
 ghost use Rattle.dnsv_verdict.specs.declared.link.Link.{Link};
 
@@ -27,4 +27,14 @@ pub fn a_question_leads_one_way()
     ensures some { (basis : Basis) (name : Labels) (t : ℕ)
         → ((links : List Link) (last : Labels) (verdict : Verdict) → ¬ IsVerdictOf basis name t links last verdict)
         → ((error : VerdictError) → ¬ IsRefusedFor basis name t error) → ⊥ }
+{}
+
+/// A question whose way stops is refused for the alias at which it does, and one that is refused has a way that stops so:
+/// these links, this alias and this error, and no others.
+pub fn a_question_stops_at_one_alias()
+    ensures refusal { (basis : Basis) (name : Labels) (t : ℕ) (error : VerdictError) → IsRefusedFor basis name t error
+        ↔ ((links : List Link) × (alias : Link) × IsStoppedAt basis name t links alias error) }
+    ensures one { (basis : Basis) (name : Labels) (t : ℕ) (links others : List Link) (alias other : Link)
+        (a b : VerdictError) → IsStoppedAt basis name t links alias a → IsStoppedAt basis name t others other b
+        → (links ≡ others) × (alias ≡ other) × (a ≡ b) }
 {}

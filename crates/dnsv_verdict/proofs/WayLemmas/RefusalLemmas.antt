@@ -7,7 +7,7 @@ use Rattle.dnsv_verdict.proofs.SureLemmas.SomeVerdict.{some_verdict}
 use Rattle.dnsv_verdict.proofs.SureLemmas.{Surely, surely, and_then, by_cases}
 use Rattle.dnsv_verdict.proofs.WayLemmas.{GoesOn, alias_or, empty_way, ends, next, next_is_new, one_alias, one_target, way_more, ways_compared}
 use Rattle.dnsv_verdict.specs.Verdict.{Basis, IsVerdictAt}
-use Rattle.dnsv_verdict.specs.Way.{IsAlias, IsAmong, IsRefusal, IsRefusedFor, IsTarget, IsVerdictOf, IsWay, Stops, most_links, names_on}
+use Rattle.dnsv_verdict.specs.Way.{IsAlias, IsAmong, IsRefusal, IsRefusedFor, IsStoppedAt, IsTarget, IsVerdictOf, IsWay, Stops, most_links, names_on}
 use Rattle.dnsv_verdict.specs.declared.error.VerdictError.{VerdictError}
 use Rattle.dnsv_verdict.specs.declared.error.VerdictError.TheVariants.{OutOfMemory, BadQuestion, AliasLoop, TooManyLinks, AliasTargets}
 use Rattle.dnsv_verdict.specs.declared.link.Link.{Link}
@@ -89,6 +89,46 @@ one_refused_for basis name t a b p q =
     ⊎_elim (λ (on : GoesOn basis t p.links p.last q.links q.last). absurd (not_stopped basis name t a q.links q.last p q.way on))
     (λ (on : GoesOn basis t q.links q.last p.links p.last). absurd (not_stopped basis name t b p.links p.last q p.way on)) goes)
     (ways_compared basis t name p.links p.last q.links q.last p.way q.way)
+
+-- a question whose way stops is refused so, and where it is refused its way stops
+abbrev pub refused_where_stopped : (basis : Basis) (name : Labels) (t : ℕ) (links : List Link) (alias : Link) (error : VerdictError)
+    → IsStoppedAt basis name t links alias error → IsRefusedFor basis name t error
+refused_where_stopped basis name t links alias error is = record {
+  links = links;
+  last = alias.name;
+  way = is.way;
+  k = alias.rrset;
+  s = alias.signature;
+  is_alias = is.is_alias;
+  stops = is.stops;
+}
+
+pub stopped_where_refused : (basis : Basis) (name : Labels) (t : ℕ) (error : VerdictError) → (p : IsRefusedFor basis name t error)
+    → IsStoppedAt basis name t p.links (record { name = p.last; rrset = p.k; signature = p.s }) error
+stopped_where_refused basis name t error p = record { way = p.way; is_alias = p.is_alias; stops = p.stops }
+
+-- a way stops at one alias
+same_alias : (basis : Basis) (t : ℕ) (a b : Link) → a.name ≡ b.name → IsVerdictAt basis a.name t (SecureAlias a.rrset a.signature)
+    → IsVerdictAt basis b.name t (SecureAlias b.rrset b.signature) → a ≡ b
+same_alias basis t a b name p q =
+    let same = one_alias basis a.name t a.rrset a.signature b.rrset b.signature p
+    (subst (λ n. IsVerdictAt basis n t (SecureAlias b.rrset b.signature)) (sym name) q) in
+    λ i. record { name = name i; rrset = same.0 i; signature = same.1 i }
+
+pub one_stopped : (basis : Basis) (name : Labels) (t : ℕ) (links others : List Link) (alias other : Link) (a b : VerdictError)
+    → IsStoppedAt basis name t links alias a → IsStoppedAt basis name t others other b → (links ≡ others) × (alias ≡ other) × (a ≡ b)
+one_stopped basis name t links others alias other a b p q =
+    let first = refused_where_stopped basis name t links alias a p in
+    let second = refused_where_stopped basis name t others other b q in
+    ⊎_elim (λ (same : (links ≡ others) × (alias.name ≡ other.name)). (
+      same.0,
+      same_alias basis t alias other same.1 p.is_alias q.is_alias,
+      one_refused_for basis name t a b first second,
+    ))
+    (λ (goes : GoesOn basis t links alias.name others other.name ⊎ GoesOn basis t others other.name links alias.name).
+    ⊎_elim (λ (on : GoesOn basis t links alias.name others other.name). absurd (not_stopped basis name t a others other.name first q.way on))
+    (λ (on : GoesOn basis t others other.name links alias.name). absurd (not_stopped basis name t b links alias.name second p.way on)) goes)
+    (ways_compared basis t name links alias.name others other.name p.way q.way)
 
 pub never_both : (basis : Basis) (name : Labels) (t : ℕ) (links : List Link) (last : Labels) (verdict : Verdict) (error : VerdictError)
     → IsVerdictOf basis name t links last verdict → ¬ IsRefusedFor basis name t error

@@ -71,7 +71,8 @@ impl<'a> Case<'a> {
         // Also where the question is refused, or memory is.
         ensures shared { IsSharedOf self.now shared.new }
     {
-        match self.trace_sharing(alloc, shared, name, rtype, keeps)? {
+        let traced = self.trace_sharing(alloc, shared, name, rtype, keeps)?;
+        match traced {
             Traced::Reached(judged) => Ok(judged),
             Traced::Stopped(stopped) => Err(stopped.error),
         }

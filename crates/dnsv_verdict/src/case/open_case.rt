@@ -1,8 +1,9 @@
 //! A case that many questions are asked of.
-ghost use Rattle.std.specs.Prelude.{◌≡◌, [], IfOk, IsErrOf, IsFalse, IsTrue, None};
+ghost use Rattle.std.specs.Prelude.{◌≡◌, ◌⊎◌, [], IfErr, IfOk, IsErrOf, IsFalse, IsTrue, None};
 ghost use Rattle.dnsv_canonical.specs.Rrsets.{IsQuestion};
 ghost use Rattle.dnsv_verdict.specs.Case.{IsCaseOf, basis_by};
 ghost use Rattle.dnsv_verdict.specs.Report.{IsKept, IsReport, Refuses, hashes_in};
+ghost use Rattle.dnsv_verdict.specs.Traced.{IsKeptWith, IsTrace, IsWayTo};
 ghost use Rattle.dnsv_verdict.specs.Verdict.{Basis};
 ghost use Rattle.dnsv_verdict.specs.Way.{IsVerdictOf};
 ghost use Rattle.dnsv_verdict.specs.declared.error.VerdictError.{VerdictError};
@@ -11,6 +12,7 @@ use crate::case::Case;
 use crate::case::shared::Shared;
 use crate::error::VerdictError;
 use crate::report::Judged;
+use crate::traced::Traced;
 use dnsv_names::{Name, RecordType};
 use std::alloc::Global;
 use std::marker::Model;
@@ -79,5 +81,29 @@ impl<'a> OpenCase<'a> {
             .case
             .judge_sharing(alloc, &mut self.shared, name, rtype, keeps)?;
         Ok(judged)
+    }
+
+    /// What the question of a name and a type leads to, as `Case::trace` gives it. A name that was asked before may not be
+    /// hashed again. The case stays, also where the question is refused or memory is.
+    pub fn trace(
+        &mut self,
+        alloc: Global,
+        name: &Name,
+        rtype: RecordType,
+    ) -> Result<Traced<'a>, VerdictError>
+        ensures trace { (basis : Basis) → IsCaseOf basis self.old → IfOk result (IsTrace basis name.now rtype.0) }
+        ensures by_table { (basis : Basis) → IsCaseOf basis self.old
+            → IfOk result (IsWayTo (basis_by self.old) name.now rtype.0) }
+        ensures kept { IfOk result (IsKeptWith self.old rtype.0) }
+        ensures asked { IfOk result (λ traced. IsQuestion name.now rtype.0) }
+        ensures question { ¬ IsQuestion name.now rtype.0 → IsErrOf result VerdictError.BadQuestion }
+        ensures refused { IfErr result (λ error. (error ≡ VerdictError.OutOfMemory)
+            ⊎ ((error ≡ VerdictError.BadQuestion) × (¬ IsQuestion name.now rtype.0))) }
+        ensures same { self.new ≡ self.old }
+    {
+        let traced = self
+            .case
+            .trace_sharing(alloc, &mut self.shared, name, rtype, true)?;
+        Ok(traced)
     }
 }

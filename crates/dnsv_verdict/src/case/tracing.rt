@@ -85,15 +85,8 @@ impl<'a> Case<'a> {
         a_table_is_its_verifier();
         let mut hashed = Count::new();
         let mut trail = Trail::new(alloc, keeps);
-        let Followed { way, end } = follow(
-            alloc,
-            self,
-            shared,
-            name,
-            rtype,
-            &mut hashed,
-            &mut trail,
-        )?;
+        let followed = follow(alloc, self, shared, name, rtype, &mut hashed, &mut trail)?;
+        let Followed { way, end } = followed;
         let hashed = exact_hashed(&hashed, self, &way);
         match end {
             End::Reached(verdict) => {
