@@ -41,11 +41,13 @@ class Record:
         return {name for name, commit in commits.items() if name not in changed[commit]}
 
     def changed_since(self, commit: str) -> set[str]:
-        folders = [str(self.folder / name) for name in FOLDERS]
+        folders = [f":(glob)crates/*/{name}/*" for name in FOLDERS]
+        own = f"crates/{self.folder.name}/"
         try:
-            # An edit that only moved, as from one folder to the other, is what it was.
+            # An edit that only moved, as from one folder or crate to another, is what it was.
             moved = ("--find-renames=100%", "--diff-filter=r")
-            return {Path(file).stem for file in told(self.tree, "diff", *moved, "--name-only", commit, "--", *folders)}
+            files = told(self.tree, "diff", *moved, "--name-only", commit, "--", *folders)
+            return {Path(file).stem for file in files if file.startswith(own)}
         except Unknown:
             # Of a commit that isn't here nobody knows what the edits were.
             return set(self.commits())

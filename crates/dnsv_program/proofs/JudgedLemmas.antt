@@ -17,24 +17,24 @@ use Rattle.dnsv_verdict.specs.declared.error.VerdictError.TheVariants as error
 use Rattle.dnsv_verdict.specs.Verdict.{Basis, basis_of}
 use Rattle.dnsv_texts.specs.Checking.{check_text}
 use Rattle.dnsv_texts.specs.declared.format.Format.{Format}
-use Rattle.dnsv_program.specs.declared.work.Inputs.{Inputs}
+use Rattle.dnsv_files.specs.declared.inputs.Inputs.{Inputs}
 use Rattle.dnsv_program.specs.declared.work.Outcome.{Outcome}
-use Rattle.dnsv_program.specs.declared.status.Status.TheVariants as status
-use Rattle.dnsv_program.specs.Status.{status_code}
+use Rattle.dnsv_files.specs.declared.status.Status.TheVariants as status
+use Rattle.dnsv_files.specs.Status.{status_code}
 use Rattle.dnsv_program.specs.Work.Asking.{IsAnswer, IsRefusedOne}
-use Rattle.dnsv_program.specs.declared.status.Fault.{Fault}
-use Rattle.dnsv_program.specs.declared.status.Fault.TheVariants as fault
-use Rattle.dnsv_program.specs.declared.status.InputFile.{InputFile}
-use Rattle.dnsv_program.specs.declared.status.InputFile.TheVariants.{Questions}
+use Rattle.dnsv_files.specs.declared.status.Fault.{Fault}
+use Rattle.dnsv_files.specs.declared.status.Fault.TheVariants as fault
+use Rattle.dnsv_files.specs.declared.status.InputFile.{InputFile}
+use Rattle.dnsv_files.specs.declared.status.InputFile.TheVariants.{Questions}
 use Rattle.dnsv_program.specs.Work.Checking.{AreGivenBy, IsJudged, IsStopped, IsWhy, verdict_fault, verdict_status}
-use Rattle.dnsv_program.specs.Files.Faults.{OfFailedRead, OfOctets, TellsFaults, TellsFaultsBeside}
-use Rattle.dnsv_program.specs.Files.{AreTold, AreToldBeside, Files, given_failures}
+use Rattle.dnsv_files.specs.Files.Faults.{OfFailedRead, OfOctets, TellsFaults, TellsFaultsBeside}
+use Rattle.dnsv_files.specs.Files.{AreTold, AreToldBeside, Files, given_failures}
 use Rattle.dnsv_program.specs.Run.{IsFirstFaultOfFiles, IsFirstFaultOfName}
-use Rattle.dnsv_program.proofs.FileLemmas.Faults.{IsOther, reads_after, reads_untouched, refused_behind, with_questions}
+use Rattle.dnsv_files.proofs.FileLemmas.Faults.{IsOther, reads_after, reads_untouched, refused_behind, with_questions}
 use Rattle.dnsv_program.proofs.ReachedLemmas.{refused_reached, refused_unwritten}
-use Rattle.dnsv_program.specs.Told.{IsFaultOf}
-use Rattle.dnsv_program.specs.declared.status.Place.{Place}
-use Rattle.dnsv_program.specs.declared.status.Refusal.{Refusal}
+use Rattle.dnsv_files.specs.Told.{IsFaultOf}
+use Rattle.dnsv_files.specs.declared.status.Place.{Place}
+use Rattle.dnsv_files.specs.declared.status.Refusal.{Refusal}
 use Rattle.dnsv_program.specs.Work.Known.{Ground}
 use Rattle.dnsv_program.specs.declared.work.given.Said.{Said}
 

@@ -1,5 +1,6 @@
 -- Files have one text or one first fault.
 pub mod Answers
+pub mod Held
 pub mod Listed
 pub mod OneCapture
 pub mod OneCompact

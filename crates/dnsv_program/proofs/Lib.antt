@@ -1,9 +1,8 @@
 mod AskingLemmas
 pub mod CommandLineLemmas
-pub mod FileLemmas
 mod JudgedLemmas
 pub mod LawLemmas
-pub mod OpeningLemmas
 pub mod ProgramLemmas
 pub mod ReachedLemmas
+mod TakenLemmas
 pub mod WorkLemmas

@@ -7,21 +7,21 @@ use Rattle.std.specs.Prelude.{Result, Ok, Err, IfErr, IfOk, IfSome}
 use Rattle.std.specs.Io.KnownBytes.{Appends}
 use Rattle.dnsv_message.specs.Streams.Counted.{AppendsBeginning}
 use Rattle.dnsv_program.specs.declared.command_line.request.Request.{Request}
-use Rattle.dnsv_program.specs.declared.status.Status.{Status}
-use Rattle.dnsv_program.specs.declared.status.Status.TheVariants.{Done, Insecure, Pending, Bogus, Indeterminate, Refused}
-use Rattle.dnsv_program.specs.declared.status.Fault.{Fault}
-use Rattle.dnsv_program.specs.declared.status.Fault.TheVariants as fault
-use Rattle.dnsv_program.specs.declared.status.Place.{Place}
-use Rattle.dnsv_program.specs.declared.status.Refusal.{Refusal}
-use Rattle.dnsv_program.specs.Files.{Files}
+use Rattle.dnsv_files.specs.declared.status.Status.{Status}
+use Rattle.dnsv_files.specs.declared.status.Status.TheVariants.{Done, Insecure, Pending, Bogus, Indeterminate, Refused}
+use Rattle.dnsv_files.specs.declared.status.Fault.{Fault}
+use Rattle.dnsv_files.specs.declared.status.Fault.TheVariants as fault
+use Rattle.dnsv_files.specs.declared.status.Place.{Place}
+use Rattle.dnsv_files.specs.declared.status.Refusal.{Refusal}
+use Rattle.dnsv_files.specs.Files.{Files}
 use Rattle.dnsv_program.specs.CommandLine.{IsAccepted}
 use Rattle.dnsv_program.specs.Program.{AreFilesAt, BeganText, IsEnd, RefusedFiles, RefusedWords, WroteFirst, WroteRefused, WroteText, first_unopened, given_path, paths_of}
 use Rattle.dnsv_program.specs.CommandLine.Paths.{anchors_of, answers_of, capture_of, keys_of, macs_of, questions_of, statements_of}
-use Rattle.dnsv_program.specs.Told.{IsOpenFault, IsUnopened}
-use Rattle.dnsv_program.specs.declared.status.InputFile.{InputFile}
-use Rattle.dnsv_program.specs.declared.status.InputFile.TheVariants.{Anchors, Answers, Capture, Keys, Macs, Questions, Statements}
+use Rattle.dnsv_files.specs.Told.{IsOpenFault, IsUnopened}
+use Rattle.dnsv_files.specs.declared.status.InputFile.{InputFile}
+use Rattle.dnsv_files.specs.declared.status.InputFile.TheVariants.{Anchors, Answers, Capture, Keys, Macs, Questions, Statements}
 use Rattle.dnsv_program.specs.Run.{AsksMany, IsTextAskedFor, IsTextOfFirst, IsFirstFault}
-use Rattle.dnsv_program.specs.Status.{fault_code, outcome_code, status_code}
+use Rattle.dnsv_files.specs.Status.{fault_code, outcome_code, status_code}
 
 -- what is said of the words that were handed out holds of those that the machine tells
 pub told_ok : {A E : Type 0} (P : List (List ℕ) → A → Type 0) (given : Option (List (List ℕ))) (words : List (List ℕ)) (result : Result A E)

@@ -1,26 +1,26 @@
 -- What comes before a failed read.
 use Rattle.std.proofs.Common.{◌≡◌, ℕ, Bool, true, false, inl, refl, subst, sym}
 use Rattle.std.specs.Prelude.{List, Option, Some, None, Result, Ok, Err, IfErr}
-use Rattle.dnsv_program.specs.declared.status.Fault.{Fault}
-use Rattle.dnsv_program.specs.declared.status.Fault.TheVariants as fault
-use Rattle.dnsv_program.specs.declared.status.InputFile.{InputFile}
-use Rattle.dnsv_program.specs.declared.status.InputFile.TheVariants.{Anchors, Answers, Capture, Keys, Macs, Questions, Statements}
-use Rattle.dnsv_program.specs.declared.status.Place.{Place}
-use Rattle.dnsv_program.specs.declared.status.Refusal.{Refusal}
-use Rattle.dnsv_program.specs.declared.opening.Opening.{Opening}
-use Rattle.dnsv_program.specs.Opening.Given.{IsOpeningOf, IsOpeningReached}
+use Rattle.dnsv_files.specs.declared.status.Fault.{Fault}
+use Rattle.dnsv_files.specs.declared.status.Fault.TheVariants as fault
+use Rattle.dnsv_files.specs.declared.status.InputFile.{InputFile}
+use Rattle.dnsv_files.specs.declared.status.InputFile.TheVariants.{Anchors, Answers, Capture, Keys, Macs, Questions, Statements}
+use Rattle.dnsv_files.specs.declared.status.Place.{Place}
+use Rattle.dnsv_files.specs.declared.status.Refusal.{Refusal}
+use Rattle.dnsv_files.specs.declared.opening.Opening.{Opening}
+use Rattle.dnsv_files.specs.Opening.Given.{IsOpeningOf, IsOpeningReached}
 use Rattle.dnsv_chain.specs.declared.anchor.Anchor.{Anchor}
-use Rattle.dnsv_program.specs.Files.Anchors.{HasAnchors}
-use Rattle.dnsv_program.specs.Told.{IsFaultOf}
+use Rattle.dnsv_files.specs.Files.Anchors.{HasAnchors}
+use Rattle.dnsv_files.specs.Told.{IsFaultOf}
 use Rattle.dnsv_program.specs.Work.Known.{IsKnownReached}
-use Rattle.dnsv_program.specs.Files.Faults.{IsAbout, OfFailedRead}
+use Rattle.dnsv_files.specs.Files.Faults.{IsAbout, OfFailedRead}
 use Rattle.dnsv_message.specs.Streams.Counted.{inner_of}
 use Rattle.dnsv_message.specs.declared.streams.counted.Counted.{Counted}
 use Rattle.dnsv_canonical.specs.Question.{Asked}
-use Rattle.dnsv_program.specs.Files.{Files, IsGiven, IsToldBy, octets_or_none}
-use Rattle.dnsv_program.specs.Files.Questions.{HasQuestions}
-use Rattle.dnsv_program.specs.Files.Capture.{NewEvidence, IsFaultOfCapture}
-use Rattle.dnsv_program.specs.declared.opening.Opening.TheVariants.{Plain}
+use Rattle.dnsv_files.specs.Files.{Files, IsGiven, IsToldBy, octets_or_none}
+use Rattle.dnsv_files.specs.Files.Questions.{HasQuestions}
+use Rattle.dnsv_files.specs.Files.Capture.{NewEvidence, IsFaultOfCapture}
+use Rattle.dnsv_files.specs.declared.opening.Opening.TheVariants.{Plain}
 use Rattle.dnsv_program.specs.Run.{HasEvidence, IsFirstFaultOfList, IsReachedByEach, IsReachedByList, IsReachedOfFiles}
 use Rattle.std.proofs.lemmas.Bool.{false≢true}
 

@@ -1,6 +1,5 @@
 -- The command line: what its words ask for.
 pub mod Commands
-pub mod Moment
 pub mod Question
 pub mod Paths
 use Rattle.std.specs.Prelude.{◌≡◌, ◌⊎◌, ⊤, ℕ, Bool, true, false, List, [], Option, Some, None}
@@ -18,7 +17,7 @@ use Rattle.std.specs.declared.io.ErrorKind.{ErrorKind as IoErrorKind}
 use Rattle.std.specs.declared.io.ErrorKind.TheVariants as io
 use Rattle.dnsv_texts.specs.Checking.{question_word}
 use Rattle.dnsv_program.specs.CommandLine.Commands.{program_app}
-use Rattle.dnsv_program.specs.CommandLine.Moment.{last_moment}
+use Rattle.dnsv_files.specs.Moment.{last_moment}
 use Rattle.dnsv_program.specs.declared.command_line.request.Asking.{Asking}
 use Rattle.dnsv_program.specs.declared.command_line.request.Asking.TheVariants as asking
 use Rattle.dnsv_program.specs.declared.command_line.request.Known.{Known}

@@ -1,9 +1,5 @@
 pub mod CommandLine
-pub mod Files
 pub mod Layers
-pub mod Opening
 pub mod Program
 pub mod Run
-pub mod Status
-pub mod Told
 pub mod Work

@@ -5,33 +5,33 @@ use Rattle.dnsv_message.specs.Message.{Contents}
 use Rattle.dnsv_canonical.specs.Evidence.{evidence_of}
 use Rattle.dnsv_canonical.specs.Rrsets.{IsQuestion, ReceivedRrset}
 use Rattle.dnsv_chain.specs.declared.anchor.Anchor.{Anchor}
-use Rattle.dnsv_program.specs.declared.opening.Opening.{Opening}
-use Rattle.dnsv_program.specs.declared.opening.Opening.TheVariants.{Plain}
+use Rattle.dnsv_files.specs.declared.opening.Opening.{Opening}
+use Rattle.dnsv_files.specs.declared.opening.Opening.TheVariants.{Plain}
 use Rattle.dnsv_program.specs.declared.command_line.request.Asking.TheVariants as asking
 use Rattle.dnsv_program.specs.declared.command_line.request.Listing.{Listing}
 use Rattle.dnsv_program.specs.declared.command_line.request.Listing.TheVariants as listing
 use Rattle.dnsv_program.specs.declared.command_line.request.Request.{Request}
 use Rattle.dnsv_program.specs.declared.command_line.request.Request.TheVariants as request
-use Rattle.dnsv_program.specs.declared.status.Fault.{Fault}
-use Rattle.dnsv_program.specs.declared.status.Fault.TheVariants as fault
-use Rattle.dnsv_program.specs.declared.status.InputFile.{InputFile}
-use Rattle.dnsv_program.specs.declared.status.InputFile.TheVariants.{Anchors, Answers, Capture, Keys, Macs, Questions, Statements}
-use Rattle.dnsv_program.specs.declared.status.Status.{Status}
-use Rattle.dnsv_program.specs.declared.status.Status.TheVariants.{Done}
+use Rattle.dnsv_files.specs.declared.status.Fault.{Fault}
+use Rattle.dnsv_files.specs.declared.status.Fault.TheVariants as fault
+use Rattle.dnsv_files.specs.declared.status.InputFile.{InputFile}
+use Rattle.dnsv_files.specs.declared.status.InputFile.TheVariants.{Anchors, Answers, Capture, Keys, Macs, Questions, Statements}
+use Rattle.dnsv_files.specs.declared.status.Status.{Status}
+use Rattle.dnsv_files.specs.declared.status.Status.TheVariants.{Done}
 use Rattle.dnsv_texts.specs.declared.format.Format.{Format}
-use Rattle.dnsv_program.specs.Files.Anchors.{HasAnchors, IsFaultOfAnchors}
-use Rattle.dnsv_program.specs.Files.Capture.{AnyMessage, NewEvidence, Holds, IsFaultOfCapture}
+use Rattle.dnsv_files.specs.Files.Anchors.{HasAnchors, IsFaultOfAnchors}
+use Rattle.dnsv_files.specs.Files.Capture.{AnyMessage, NewEvidence, Holds, IsFaultOfCapture}
 use Rattle.dnsv_canonical.specs.Question.{Asked}
-use Rattle.dnsv_program.specs.Files.Questions.{HasQuestions, IsFaultOfQuestions}
+use Rattle.dnsv_files.specs.Files.Questions.{HasQuestions, IsFaultOfQuestions}
 use Rattle.dnsv_program.specs.Work.Asking.{AreAnswered, AreFirstAnswered}
 use Rattle.dnsv_program.specs.Work.Checking.{IsCheck, IsStopped}
 use Rattle.dnsv_program.specs.Work.Known.{IsFaultOfKnown, IsKnownReached}
-use Rattle.dnsv_program.specs.Opening.Given.{IsOpeningOf, IsOpeningReached, IsFaultOfOpening}
-use Rattle.dnsv_program.specs.Files.{Files, IsGiven, octets_or_none}
+use Rattle.dnsv_files.specs.Opening.Given.{IsOpeningOf, IsOpeningReached, IsFaultOfOpening}
+use Rattle.dnsv_files.specs.Files.{Files, IsGiven, octets_or_none}
 use Rattle.dnsv_program.specs.Work.Listing.{IsListing, IsTodo, lists_all}
 use Rattle.dnsv_program.specs.CommandLine.Question.{IsQuestionRefused, Spells}
 use Rattle.dnsv_program.specs.Work.Showing.{IsShowing}
-use Rattle.dnsv_program.specs.Files.Statements.{IsFaultOfStatements}
+use Rattle.dnsv_files.specs.Files.Statements.{IsFaultOfStatements}
 
 -- ---- the text
 

@@ -9,15 +9,14 @@ ghost use Rattle.dnsv_program.specs.CommandLine.{IsAccepted, IsFlag, IsRefused, 
 ghost use Rattle.dnsv_program.specs.declared.command_line.CommandLineError.TheVariants.{BothKnown, OutOfMemory, TwoLists, Unclear};
 
 pub mod commands;
-pub mod moment;
 pub mod question;
 pub mod request;
 
 use crate::command_line::commands::program;
-use crate::command_line::moment::Moment;
 use crate::command_line::request::{Asking, Known, Listing, Request};
 use clap::ArgMatches;
 use clap::error::ErrorKind;
+use dnsv_files::Moment;
 use dnsv_names::RecordType;
 use dnsv_texts::Format;
 use std::alloc::{AllocError, Global};

@@ -1,21 +1,20 @@
 //! What the definitions of a request's text and of its first fault say of each other, for files of octets.
-ghost use Rattle.std.specs.Prelude.{◌≡◌, ◌⊎◌, List, Option, ℕ};
+ghost use Rattle.std.specs.Prelude.{◌≡◌, ◌⊎◌, List, ℕ};
 ghost use Rattle.dnsv_names.specs.Octets.{AreOctets};
 ghost use Rattle.dnsv_message.specs.Streams.Frames.{IsTooLong};
-ghost use Rattle.dnsv_program.specs.Files.Capture.{AnyMessage, IsRefusal, NewEvidence};
-ghost use Rattle.dnsv_program.specs.declared.opening.Opening.TheVariants.{Plain};
+ghost use Rattle.dnsv_files.specs.Files.Capture.{AnyMessage, IsRefusal, NewEvidence};
+ghost use Rattle.dnsv_files.specs.declared.opening.Opening.TheVariants.{Plain};
 ghost use Rattle.dnsv_texts.specs.declared.format.Format.{Format};
 ghost use Rattle.dnsv_program.specs.Work.Listing.{IsListing};
 ghost use Rattle.dnsv_program.specs.Work.Showing.{IsShowing};
-ghost use Rattle.dnsv_program.specs.Files.{Files};
+ghost use Rattle.dnsv_files.specs.Files.{Files};
 ghost use Rattle.dnsv_program.specs.Layers.{LayerLaws};
-ghost use Rattle.dnsv_program.specs.Opening.Macs.{HasMacs, IsFaultOfMacs};
 ghost use Rattle.dnsv_program.specs.Run.{IsFirstFault, IsTextAskedFor};
-ghost use Rattle.dnsv_program.specs.declared.status.Status.{Status};
-ghost use Rattle.dnsv_program.specs.declared.status.Fault.{Fault};
+ghost use Rattle.dnsv_files.specs.declared.status.Status.{Status};
+ghost use Rattle.dnsv_files.specs.declared.status.Fault.{Fault};
 ghost use Rattle.dnsv_program.specs.declared.command_line.request.Request.{Request};
-ghost use Rattle.dnsv_program.specs.declared.status.Place.{Place};
-ghost use Rattle.dnsv_program.specs.declared.status.Refusal.{Refusal};
+ghost use Rattle.dnsv_files.specs.declared.status.Place.{Place};
+ghost use Rattle.dnsv_files.specs.declared.status.Refusal.{Refusal};
 
 use dnsv_canonical::{evidence_or_one_refusal, one_signed_data, rrsets_are_well_formed};
 use dnsv_chain::a_text_is_one_list_of_anchors;
@@ -23,7 +22,7 @@ use dnsv_explain::a_report_has_one_explanation;
 use dnsv_message::{
     message_or_fault, no_fault_of_a_message, no_fault_of_memory, one_answer, one_fault, one_message,
 };
-use dnsv_names::{a_text_has_one_list_of_lines, a_text_has_one_reading};
+use dnsv_names::a_text_has_one_reading;
 use dnsv_records::record_laws;
 use dnsv_tsig::{one_answer as one_opened, one_ring_or_fault};
 use dnsv_verdict::a_question_leads_one_way;
@@ -73,18 +72,6 @@ pub fn one_first_fault()
         → IsFirstFault asked files a → IsFirstFault asked files b → a ≡ b }
 {
     layers();
-}
-
-/// A text is one list of the MACs of requests, or has one fault, and never both.
-pub fn one_list_of_macs_or_fault()
-    ensures some { (text : List ℕ) → ((macs : List (Option (List ℕ))) × HasMacs text macs)
-        ⊎ ((fault : Fault) × IsFaultOfMacs text fault) }
-    ensures macs { (text : List ℕ) (a b : List (Option (List ℕ))) → HasMacs text a → HasMacs text b → a ≡ b }
-    ensures fault { (text : List ℕ) (a b : Fault) → IsFaultOfMacs text a → IsFaultOfMacs text b → a ≡ b }
-    ensures apart { (text : List ℕ) (macs : List (Option (List ℕ))) (fault : Fault) → HasMacs text macs
-        → IsFaultOfMacs text fault → ⊥ }
-{
-    a_text_has_one_list_of_lines();
 }
 
 /// A file of octets is shown, or refused, or has an octet too many.

@@ -2,10 +2,10 @@
 ghost use Rattle.std.specs.Prelude.{◌≡◌, ◌⊎◌, ◌<◌, Err, List, ℕ, IfErr, IfOk, MatchOption, Ok, string_bytes};
 ghost use Rattle.std.specs.Io.KnownBytes.{Appends};
 ghost use Rattle.dnsv_message.specs.Streams.Counted.{inner_of, failures_of, AppendsBeginning};
-ghost use Rattle.dnsv_program.specs.Files.Faults.{OfFailedRead, TellsFaults};
-ghost use Rattle.dnsv_program.specs.Files.{AreTold, Files};
+ghost use Rattle.dnsv_files.specs.Files.Faults.{OfFailedRead, TellsFaults};
+ghost use Rattle.dnsv_files.specs.Files.{AreTold, Files};
 ghost use Rattle.dnsv_program.specs.Run.{AsksMany, AsksRefused, IsFirstFault, IsManyAsked, IsReached, IsTextAskedFor, IsTextOfFirst};
-ghost use Rattle.dnsv_program.specs.declared.status.Status.{Status};
+ghost use Rattle.dnsv_files.specs.declared.status.Status.{Status};
 
 pub mod asking;
 pub mod checking;
@@ -15,37 +15,17 @@ pub mod known;
 pub mod listing;
 pub mod showing;
 
-use crate::command_line::moment::Moment;
 use crate::command_line::request::{Asking, Request};
-use crate::status::{Fault, Status};
 use crate::work::asking::check_each;
 use crate::work::checking::check;
 use crate::work::judging::Telling;
 use crate::work::listing::list;
 use crate::work::showing::show;
 use bumpalo::Bump;
+use dnsv_files::{Fault, Inputs, Moment, Status};
 use dnsv_message::Counted;
 use std::alloc::Global;
 use std::io::{Read, Write};
-
-/// The files of a request.
-#[derive(Drop)]
-pub struct Inputs<R> {
-    /// The captured messages.
-    pub capture: Counted<R>,
-    /// The trust anchors, where they are given.
-    pub anchors: Option<Counted<R>>,
-    /// The statements, where they are given. They are read where no answers are.
-    pub statements: Option<Counted<R>>,
-    /// The answers by number, where they are given.
-    pub answers: Option<Counted<R>>,
-    /// The keys by which the messages were signed, where they are given.
-    pub keys: Option<Counted<R>>,
-    /// The MACs of the requests, where they are given. They are read where keys are.
-    pub macs: Option<Counted<R>>,
-    /// The questions, where many are asked.
-    pub questions: Option<Counted<R>>,
-}
 
 /// How a run ends that makes its whole text.
 #[derive(Drop)]

@@ -48,6 +48,18 @@ class Recorded(Room):
         self.commit("Moved")
         self.assertEqual(self.record().standing(), {"one"})
 
+    def test_an_edit_that_moved_to_another_crate_stands_as_it_was(self):
+        for name in ("one", "two"):
+            self.record().note(name, True)
+        self.commit("Told")
+        for path in ("must-fail/one.edit", "wrong-bodies/two.edit", "wrong-bodies/refused"):
+            (self.room / "crates/upper" / path).parent.mkdir(parents=True, exist_ok=True)
+            self.git("mv", f"crates/lower/{path}", f"crates/upper/{path}")
+        self.write("crates/upper/wrong-bodies/two.edit", EDIT.replace("2", "3"))
+        self.commit("Moved")
+        self.assertEqual(Record(self.room, "upper", None).standing(), {"one"})
+        self.assertEqual(self.record().standing(), set())
+
     def test_the_commit_is_the_last_of_the_crates(self):
         commit = commit_of(self.room)
         self.write("crates/lower/out/one", "")

@@ -9,26 +9,26 @@ use Rattle.dnsv_canonical.specs.Rrsets.{ReceivedRrset}
 use Rattle.dnsv_chain.specs.declared.anchor.Anchor.{Anchor}
 use Rattle.dnsv_verdict.specs.Verdict.{Basis, basis_of}
 use Rattle.dnsv_texts.specs.declared.format.Format.{Format}
-use Rattle.dnsv_program.specs.declared.work.Inputs.{Inputs}
-use Rattle.dnsv_program.specs.declared.status.Fault.{Fault}
-use Rattle.dnsv_program.specs.declared.status.InputFile.TheVariants.{Questions}
-use Rattle.dnsv_program.specs.declared.status.Status.{Status}
-use Rattle.dnsv_program.specs.Files.{AreTold, AreToldBeside, Files, given_failures, octets_or_none}
-use Rattle.dnsv_program.specs.Files.Faults.{OfFailedRead, TellsFailedReads, TellsFaults, TellsFaultsBeside, TellsReads}
-use Rattle.dnsv_program.specs.Files.Questions.{HasQuestions}
+use Rattle.dnsv_files.specs.declared.inputs.Inputs.{Inputs}
+use Rattle.dnsv_files.specs.declared.status.Fault.{Fault}
+use Rattle.dnsv_files.specs.declared.status.InputFile.TheVariants.{Questions}
+use Rattle.dnsv_files.specs.declared.status.Status.{Status}
+use Rattle.dnsv_files.specs.Files.{AreTold, AreToldBeside, Files, given_failures, octets_or_none}
+use Rattle.dnsv_files.specs.Files.Faults.{OfFailedRead, TellsFailedReads, TellsFaults, TellsFaultsBeside, TellsReads}
+use Rattle.dnsv_files.specs.Files.Questions.{HasQuestions}
 use Rattle.dnsv_program.specs.Run.{IsFirstFaultOfEach, IsFirstFaultOfFiles}
 use Rattle.dnsv_program.specs.Work.Asking.{AreAnswered, AreAnswers, AreFirstAnswered}
 use Rattle.dnsv_program.specs.Work.Checking.{AreReadFrom, basis_in}
 use Rattle.dnsv_program.specs.Work.Known.{Ground}
-use Rattle.dnsv_program.specs.Told.{IsFaultOf}
-use Rattle.dnsv_program.specs.declared.status.Fault.TheVariants as fault
-use Rattle.dnsv_program.specs.declared.status.InputFile.{InputFile}
-use Rattle.dnsv_program.specs.declared.status.Place.{Place}
-use Rattle.dnsv_program.specs.declared.status.Refusal.{Refusal}
+use Rattle.dnsv_files.specs.Told.{IsFaultOf}
+use Rattle.dnsv_files.specs.declared.status.Fault.TheVariants as fault
+use Rattle.dnsv_files.specs.declared.status.InputFile.{InputFile}
+use Rattle.dnsv_files.specs.declared.status.Place.{Place}
+use Rattle.dnsv_files.specs.declared.status.Refusal.{Refusal}
 use Rattle.dnsv_program.specs.declared.work.given.Said.{Said}
 use Rattle.dnsv_program.proofs.ReachedLemmas.{refused_reached}
 use Rattle.dnsv_program.proofs.WorkLemmas.Checking.{all_given}
-use Rattle.dnsv_program.proofs.FileLemmas.Faults.{IsOther, OfOctets-weaker, beside_passed, reads_after, reads_then, refused_behind}
+use Rattle.dnsv_files.proofs.FileLemmas.Faults.{IsOther, OfOctets-weaker, beside_passed, reads_after, reads_then, refused_behind}
 
 -- behind the questions
 abbrev pub behind : {R : Type 0} → Inputs R → Option (Counted R) → Inputs R

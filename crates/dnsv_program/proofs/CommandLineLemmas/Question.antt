@@ -7,12 +7,12 @@ use Rattle.dnsv_canonical.specs.Rrsets.{IsQuestion}
 use Rattle.dnsv_verdict.specs.declared.error.VerdictError.TheVariants.{BadQuestion}
 use Rattle.dnsv_program.specs.CommandLine.Question.{IsQuestionRefused, Spells}
 use Rattle.dnsv_program.specs.Run.{IsFaultOfQuestion}
-use Rattle.dnsv_program.specs.Told.{nowhere}
-use Rattle.dnsv_program.specs.declared.status.Fault.{Fault}
-use Rattle.dnsv_program.specs.declared.status.Fault.TheVariants as fault
-use Rattle.dnsv_program.specs.declared.status.Place.{Place}
-use Rattle.dnsv_program.specs.declared.status.Refusal.{Refusal}
-use Rattle.dnsv_program.specs.declared.status.Refusal.TheVariants as refusal
+use Rattle.dnsv_files.specs.Told.{nowhere}
+use Rattle.dnsv_files.specs.declared.status.Fault.{Fault}
+use Rattle.dnsv_files.specs.declared.status.Fault.TheVariants as fault
+use Rattle.dnsv_files.specs.declared.status.Place.{Place}
+use Rattle.dnsv_files.specs.declared.status.Refusal.{Refusal}
+use Rattle.dnsv_files.specs.declared.status.Refusal.TheVariants as refusal
 use Rattle.dnsv_program.proofs.LawLemmas.OneCapture.{same_nowhere}
 
 -- what holds of the refusals of a question holds of its faults

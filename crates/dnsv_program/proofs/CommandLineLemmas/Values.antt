@@ -16,7 +16,7 @@ use Rattle.clap.specs.Walk.{Row, Rule, first_of, one_of, reading_by}
 use Rattle.dnsv_program.proofs.CommandLineLemmas.Rows.{AreRowsIn, IsIn, IsRowIn, IsRowOf, StartsPassing}
 use Rattle.dnsv_program.specs.CommandLine.Commands.{all_rule, anchors_rule, capture_rule, compact_rule, json_rule, list_app, moment_rule, program_app, question_app, show_app, type_rule}
 use Rattle.dnsv_program.specs.CommandLine.{HasCapture, HasCheckValues, HasListValues, HasNumber, IsFlag, MayHaveNumber}
-use Rattle.dnsv_program.specs.CommandLine.Moment.{last_moment}
+use Rattle.dnsv_files.specs.Moment.{last_moment}
 
 -- what building makes of the program and of its subcommands
 abbrev pub program_shape : Shape

@@ -34,7 +34,7 @@ use Rattle.dnsv_texts.specs.Checking.{question_word}
 use Rattle.dnsv_program.specs.CommandLine.Commands.{program_app}
 use Rattle.dnsv_program.specs.CommandLine.{Asks, AsksForTwoLists, GoesByBoth, HasCapture, HasCheckValues, HasListValues, IsAccepted, IsFlag, IsRefused, IsUnclear, error_of_kind, flag_said, command_line_error, is_asked, number_said}
 use Rattle.std.specs.Option.{SomeIff}
-use Rattle.dnsv_program.specs.CommandLine.Moment.{IsMoment}
+use Rattle.dnsv_files.specs.Moment.{IsMoment}
 
 -- a text that passed the bounds of a number reads as the number that it says
 pub number_reads : (last : ℕ) (E : Type 0) (G : List ℕ → Result ℕ E → Type 0) (text : Text) (r : Option ℕ) → ReadsOne G text r

@@ -8,15 +8,15 @@ use Rattle.dnsv_message.specs.Streams.Frames.{IsCapture, HasZeroLength, EndsTorn
 use Rattle.dnsv_message.specs.Grammar.{MessageOf, IsMessage, FaultOf}
 use Rattle.dnsv_message.specs.Message.{Contents}
 use Rattle.dnsv_canonical.specs.Evidence.{Evidence, no_evidence, with_message}
-use Rattle.dnsv_program.specs.declared.status.Place.{Place}
-use Rattle.dnsv_program.specs.declared.status.Refusal.{Refusal}
-use Rattle.dnsv_program.specs.declared.status.Refusal.TheVariants as refusal
-use Rattle.dnsv_program.specs.declared.opening.Opening.TheVariants.{Plain}
-use Rattle.dnsv_program.specs.Files.Capture.{AnyMessage, Demand, Meets, Fails, AllTaken, FirstRefused, Holds, IsRefusal}
-use Rattle.dnsv_program.specs.Status.{TellsMessageError}
+use Rattle.dnsv_files.specs.declared.status.Place.{Place}
+use Rattle.dnsv_files.specs.declared.status.Refusal.{Refusal}
+use Rattle.dnsv_files.specs.declared.status.Refusal.TheVariants as refusal
+use Rattle.dnsv_files.specs.declared.opening.Opening.TheVariants.{Plain}
+use Rattle.dnsv_files.specs.Files.Capture.{AnyMessage, Demand, Meets, Fails, AllTaken, FirstRefused, Holds, IsRefusal}
+use Rattle.dnsv_files.specs.Status.{TellsMessageError}
 use Rattle.dnsv_texts.specs.Showing.{message_text, texts_from}
 use Rattle.dnsv_program.specs.Work.Showing.{IsShowing}
-use Rattle.dnsv_program.specs.Told.{nowhere}
+use Rattle.dnsv_files.specs.Told.{nowhere}
 
 -- each fault of octets is told as some refusal
 message_told : (octets : List ℕ) → (FaultOf octets decode.OutOfMemory → ⊥) → (error : DecodeError) → FaultOf octets error

@@ -14,14 +14,14 @@ use Rattle.dnsv_canonical.specs.Evidence.{Evidence, IsEvidence, IsReadable, IsRe
 use Rattle.dnsv_canonical.specs.Rdata.{IsSignatureOver, IsWellFormed}
 use Rattle.dnsv_canonical.specs.Rrsets.{ReceivedRrset, message_rrsets}
 use Rattle.dnsv_canonical.specs.SignedData.{IsSignedData, signed_label_count}
-use Rattle.dnsv_program.specs.declared.status.Refusal.{Refusal}
-use Rattle.dnsv_program.specs.declared.status.Refusal.TheVariants as refusal
-use Rattle.dnsv_program.specs.declared.opening.Opening.TheVariants.{Plain}
+use Rattle.dnsv_files.specs.declared.status.Refusal.{Refusal}
+use Rattle.dnsv_files.specs.declared.status.Refusal.TheVariants as refusal
+use Rattle.dnsv_files.specs.declared.opening.Opening.TheVariants.{Plain}
 use Rattle.dnsv_texts.specs.declared.format.Format.{Format}
-use Rattle.dnsv_program.specs.Files.Capture.{AllTaken, Fails, Holds, Meets, NewEvidence}
+use Rattle.dnsv_files.specs.Files.Capture.{AllTaken, Fails, Holds, Meets, NewEvidence}
 use Rattle.dnsv_texts.specs.Listing.{ListsRrsets, ListsSignatures, SignedOctets, listing_text}
 use Rattle.dnsv_program.specs.Work.Listing.{IsListing}
-use Rattle.dnsv_program.specs.Status.{TellsCaptureError}
+use Rattle.dnsv_files.specs.Status.{TellsCaptureError}
 
 -- ---- a message is evidence, or is refused for a reason that is told
 

@@ -8,18 +8,18 @@ use Rattle.dnsv_names.specs.Octets.{AreOctets}
 use Rattle.dnsv_canonical.specs.declared.capture.CaptureError.{CaptureError}
 use Rattle.dnsv_canonical.specs.declared.capture.CaptureError.TheVariants as capture
 use Rattle.dnsv_canonical.specs.Evidence.{Evidence, no_evidence, with_message}
-use Rattle.dnsv_program.specs.declared.opening.Opening.{Opening}
-use Rattle.dnsv_program.specs.declared.status.Fault.{Fault}
-use Rattle.dnsv_program.specs.declared.status.Fault.TheVariants as fault
-use Rattle.dnsv_program.specs.declared.status.InputFile.TheVariants.{Anchors, Answers, Capture, Keys, Macs, Questions, Statements}
-use Rattle.dnsv_program.specs.declared.status.Place.{Place}
-use Rattle.dnsv_program.specs.declared.status.Refusal.{Refusal}
-use Rattle.dnsv_program.specs.Files.Capture.{AreFramesRefused, Demand, AnyMessage, NewEvidence, Meets, Fails, AllTaken, Holds, FrameRefused, FirstRefused, IsFaultOfCapture, IsNowhere, IsRefusal}
-use Rattle.dnsv_program.specs.Opening.{HasItsMacs, IsInFrame}
+use Rattle.dnsv_files.specs.declared.opening.Opening.{Opening}
+use Rattle.dnsv_files.specs.declared.status.Fault.{Fault}
+use Rattle.dnsv_files.specs.declared.status.Fault.TheVariants as fault
+use Rattle.dnsv_files.specs.declared.status.InputFile.TheVariants.{Anchors, Answers, Capture, Keys, Macs, Questions, Statements}
+use Rattle.dnsv_files.specs.declared.status.Place.{Place}
+use Rattle.dnsv_files.specs.declared.status.Refusal.{Refusal}
+use Rattle.dnsv_files.specs.Files.Capture.{AreFramesRefused, Demand, AnyMessage, NewEvidence, Meets, Fails, AllTaken, Holds, FrameRefused, FirstRefused, IsFaultOfCapture, IsNowhere, IsRefusal}
+use Rattle.dnsv_files.specs.Opening.{HasItsMacs, IsInFrame}
 use Rattle.dnsv_program.specs.Layers.{LayerLaws}
-use Rattle.dnsv_program.specs.Status.{TellsCaptureError}
-use Rattle.dnsv_program.proofs.OpeningLemmas.Held.{in_frame_stands, no_message_once, one_in_frame}
-use Rattle.dnsv_program.proofs.FileLemmas.Text.{too_many}
+use Rattle.dnsv_files.specs.Status.{TellsCaptureError}
+use Rattle.dnsv_program.proofs.LawLemmas.Held.{in_frame_stands, no_message_once, one_in_frame}
+use Rattle.dnsv_files.proofs.FileLemmas.Text.{too_many}
 
 -- ---- places
 

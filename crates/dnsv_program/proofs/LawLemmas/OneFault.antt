@@ -11,38 +11,38 @@ use Rattle.dnsv_tsig.specs.Key.{SharedKey}
 use Rattle.dnsv_verdict.specs.Verdict.{Basis}
 use Rattle.dnsv_verdict.specs.Way.{IsRefusedFor, IsVerdictOf}
 use Rattle.dnsv_chain.specs.declared.anchor.Anchor.{Anchor}
-use Rattle.dnsv_program.specs.declared.opening.Opening.{Opening}
-use Rattle.dnsv_program.specs.declared.opening.Opening.TheVariants.{Plain, Signed}
+use Rattle.dnsv_files.specs.declared.opening.Opening.{Opening}
+use Rattle.dnsv_files.specs.declared.opening.Opening.TheVariants.{Plain, Signed}
 use Rattle.dnsv_program.specs.declared.command_line.request.Asking.TheVariants as asking
 use Rattle.dnsv_program.specs.declared.command_line.request.Listing.{Listing}
 use Rattle.dnsv_program.specs.declared.command_line.request.Listing.TheVariants as listing
 use Rattle.dnsv_program.specs.declared.command_line.request.Request.{Request}
 use Rattle.dnsv_program.specs.declared.command_line.request.Request.TheVariants as request
-use Rattle.dnsv_program.specs.declared.status.Fault.{Fault}
-use Rattle.dnsv_program.specs.declared.status.Fault.TheVariants as fault
-use Rattle.dnsv_program.specs.declared.status.Place.{Place}
-use Rattle.dnsv_program.specs.declared.status.Refusal.{Refusal}
-use Rattle.dnsv_program.specs.declared.status.Refusal.TheVariants as refusal
-use Rattle.dnsv_program.specs.declared.status.Status.{Status}
-use Rattle.dnsv_program.specs.Files.Anchors.{HasAnchors, IsFaultOfAnchors}
+use Rattle.dnsv_files.specs.declared.status.Fault.{Fault}
+use Rattle.dnsv_files.specs.declared.status.Fault.TheVariants as fault
+use Rattle.dnsv_files.specs.declared.status.Place.{Place}
+use Rattle.dnsv_files.specs.declared.status.Refusal.{Refusal}
+use Rattle.dnsv_files.specs.declared.status.Refusal.TheVariants as refusal
+use Rattle.dnsv_files.specs.declared.status.Status.{Status}
+use Rattle.dnsv_files.specs.Files.Anchors.{HasAnchors, IsFaultOfAnchors}
 use Rattle.dnsv_texts.specs.declared.format.Format.{Format}
-use Rattle.dnsv_program.specs.Files.Capture.{AnyMessage, NewEvidence, Holds, IsFaultOfCapture}
+use Rattle.dnsv_files.specs.Files.Capture.{AnyMessage, NewEvidence, Holds, IsFaultOfCapture}
 use Rattle.dnsv_program.specs.Work.Checking.{AreInOrder, IsCheck, IsStopped, basis_in, verdict_fault}
-use Rattle.dnsv_program.specs.Opening.Given.{IsOpeningOf, IsFaultOfOpening}
-use Rattle.dnsv_program.specs.Files.{Files, octets_or_none}
-use Rattle.dnsv_program.specs.Opening.Keys.{IsFaultOfKeys, MayHaveKeys}
+use Rattle.dnsv_files.specs.Opening.Given.{IsOpeningOf, IsFaultOfOpening}
+use Rattle.dnsv_files.specs.Files.{Files, octets_or_none}
+use Rattle.dnsv_files.specs.Opening.Keys.{IsFaultOfKeys, MayHaveKeys}
 use Rattle.dnsv_program.specs.Layers.{LayerLaws}
 use Rattle.dnsv_program.specs.CommandLine.Question.{IsNameRefused, IsQuestionRefused, Spells}
 use Rattle.dnsv_program.specs.Run.{IsAnswered, IsFaultOfQuestion, IsFirstFault, IsFirstFaultBehind, IsFirstFaultOfCheck, IsFirstFaultOfEvidence, IsFirstFaultOfFiles, IsFirstFaultOfName, IsFirstFaultOfTodo, IsTextAskedFor}
 use Rattle.dnsv_program.specs.Work.Listing.{IsTodo}
-use Rattle.dnsv_program.proofs.FileLemmas.Anchors.{no_anchors_fault, one_anchors_fault}
-use Rattle.dnsv_program.proofs.OpeningLemmas.Keys.{no_keys_fault, one_keys_fault}
-use Rattle.dnsv_program.proofs.OpeningLemmas.Macs.{no_fault_of_macs, one_macs_fault}
+use Rattle.dnsv_files.proofs.FileLemmas.Anchors.{no_anchors_fault, one_anchors_fault}
+use Rattle.dnsv_files.proofs.OpeningLemmas.Keys.{no_keys_fault, one_keys_fault}
+use Rattle.dnsv_files.proofs.OpeningLemmas.Macs.{no_fault_of_macs, one_macs_fault}
 use Rattle.dnsv_program.proofs.LawLemmas.OneCapture.{no_capture_fault, one_capture_fault, one_holding, same_nowhere}
 use Rattle.dnsv_program.proofs.LawLemmas.OneKnown.{known_stands, one_known_fault}
 use Rattle.dnsv_program.proofs.LawLemmas.OneText.{one_basis, one_opening, one_question}
-use Rattle.dnsv_program.proofs.FileLemmas.Questions.{no_questions_fault, one_questions_fault}
-use Rattle.dnsv_program.proofs.FileLemmas.Statements.{no_statements_fault, one_statements_fault}
+use Rattle.dnsv_files.proofs.FileLemmas.Questions.{no_questions_fault, one_questions_fault}
+use Rattle.dnsv_files.proofs.FileLemmas.Statements.{no_statements_fault, one_statements_fault}
 
 module _ (laws : LayerLaws) where
   -- ---- the question

@@ -10,11 +10,11 @@ use Rattle.dnsv_answers.specs.AnswerFile.{AnswersContents, answers_in}
 use Rattle.dnsv_answers.specs.declared.said.SaidAnswer.{SaidAnswer}
 use Rattle.dnsv_answers.proofs.AnswerLaws.{AreAnswersOf-only}
 use Rattle.dnsv_answers.proofs.AnsweredLaws.{answered_count, one_answered_table}
-use Rattle.dnsv_program.specs.declared.status.Fault.{Fault}
-use Rattle.dnsv_program.specs.Files.{octets_or_none}
+use Rattle.dnsv_files.specs.declared.status.Fault.{Fault}
+use Rattle.dnsv_files.specs.Files.{octets_or_none}
 use Rattle.dnsv_program.specs.Work.Known.{AreMeant, IsFaultOfKnown, IsKnownBy}
-use Rattle.dnsv_program.proofs.FileLemmas.Answers.{no_answers_fault, one_answers_fault}
-use Rattle.dnsv_program.proofs.FileLemmas.Statements.{no_statements_fault, one_meaning, one_statements_fault}
+use Rattle.dnsv_files.proofs.FileLemmas.Answers.{no_answers_fault, one_answers_fault}
+use Rattle.dnsv_files.proofs.FileLemmas.Statements.{no_statements_fault, one_meaning, one_statements_fault}
 
 module _ (capture : List ℕ) (moment : ℕ) (rrsets : List ReceivedRrset) where
   -- answers mean one thing

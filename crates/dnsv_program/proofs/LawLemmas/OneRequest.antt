@@ -3,14 +3,14 @@ use Rattle.std.proofs.Common.{◌≡◌, List, ap, subst, sym, ℕ, ◌∙◌}
 use Rattle.std.specs.Prelude.{string_bytes}
 use Rattle.dnsv_names.specs.Octets.{AreOctets}
 use Rattle.dnsv_canonical.specs.Evidence.{evidence_of}
-use Rattle.dnsv_program.specs.declared.opening.Opening.TheVariants.{Plain}
+use Rattle.dnsv_files.specs.declared.opening.Opening.TheVariants.{Plain}
 use Rattle.dnsv_program.specs.declared.command_line.request.Asking.TheVariants as asking
 use Rattle.dnsv_program.specs.declared.command_line.request.Listing.TheVariants as listing
 use Rattle.dnsv_program.specs.declared.command_line.request.Request.{Request}
 use Rattle.dnsv_program.specs.declared.command_line.request.Request.TheVariants as request
-use Rattle.dnsv_program.specs.declared.status.Status.{Status}
-use Rattle.dnsv_program.specs.Files.Capture.{AnyMessage, NewEvidence}
-use Rattle.dnsv_program.specs.Files.{Files}
+use Rattle.dnsv_files.specs.declared.status.Status.{Status}
+use Rattle.dnsv_files.specs.Files.Capture.{AnyMessage, NewEvidence}
+use Rattle.dnsv_files.specs.Files.{Files}
 use Rattle.dnsv_program.specs.Layers.{LayerLaws}
 use Rattle.dnsv_program.specs.Run.{IsTextAskedFor}
 use Rattle.dnsv_texts.specs.Listing.{ListsRrsets, listing_text}

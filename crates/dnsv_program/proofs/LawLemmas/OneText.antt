@@ -22,28 +22,28 @@ use Rattle.dnsv_explain.specs.Explanation.{IsExplanation, IsExplanationOf}
 use Rattle.dnsv_lines.specs.declared.line.Line.{Line}
 use Rattle.dnsv_program.specs.declared.command_line.request.Listing.{Listing}
 use Rattle.dnsv_program.specs.declared.command_line.request.Listing.TheVariants as listing
-use Rattle.dnsv_program.specs.declared.opening.Opening.{Opening}
-use Rattle.dnsv_program.specs.declared.opening.Opening.TheVariants.{Plain, Signed}
-use Rattle.dnsv_program.specs.declared.status.Status.{Status}
+use Rattle.dnsv_files.specs.declared.opening.Opening.{Opening}
+use Rattle.dnsv_files.specs.declared.opening.Opening.TheVariants.{Plain, Signed}
+use Rattle.dnsv_files.specs.declared.status.Status.{Status}
 use Rattle.dnsv_texts.specs.declared.format.Format.{Format}
-use Rattle.dnsv_program.specs.Files.Capture.{NewEvidence, Holds}
+use Rattle.dnsv_files.specs.Files.Capture.{NewEvidence, Holds}
 use Rattle.dnsv_texts.specs.Checking.{check_text}
 use Rattle.dnsv_texts.specs.Compact.{compact_text}
 use Rattle.dnsv_program.specs.Work.Checking.{AreInOrder, IsCheck, IsJudged, IsWhy, basis_in, verdict_status}
-use Rattle.dnsv_program.specs.Opening.Given.{IsOpeningOf}
-use Rattle.dnsv_program.specs.Files.{Files, octets_or_none}
-use Rattle.dnsv_program.specs.Opening.Keys.{MayHaveKeys}
+use Rattle.dnsv_files.specs.Opening.Given.{IsOpeningOf}
+use Rattle.dnsv_files.specs.Files.{Files, octets_or_none}
+use Rattle.dnsv_files.specs.Opening.Keys.{MayHaveKeys}
 use Rattle.dnsv_program.specs.Layers.{LayerLaws}
 use Rattle.dnsv_texts.specs.Listing.{ListsRrsets, ListsSignatures, SignedOctets}
 use Rattle.dnsv_program.specs.CommandLine.Question.{Spells}
-use Rattle.dnsv_program.specs.Status.{status_code}
+use Rattle.dnsv_files.specs.Status.{status_code}
 use Rattle.dnsv_program.specs.Run.{IsAnswered}
 use Rattle.dnsv_program.specs.Work.Listing.{IsTodo, ListsEntries}
-use Rattle.dnsv_program.proofs.OpeningLemmas.Keys.{same_keys}
-use Rattle.dnsv_program.proofs.OpeningLemmas.Macs.{same_macs}
+use Rattle.dnsv_files.proofs.OpeningLemmas.Keys.{same_keys}
+use Rattle.dnsv_files.proofs.OpeningLemmas.Macs.{same_macs}
 use Rattle.dnsv_program.proofs.LawLemmas.OneCapture.{one_holding}
 use Rattle.dnsv_program.proofs.LawLemmas.OneCompact.{one_compact_list}
-use Rattle.dnsv_program.proofs.FileLemmas.Statements.{one_meaning}
+use Rattle.dnsv_files.proofs.FileLemmas.Statements.{one_meaning}
 use Rattle.dnsv_program.proofs.LawLemmas.OneKnown.{one_known}
 use Rattle.dnsv_program.specs.Work.Known.{IsKnownBy}
 

@@ -3,17 +3,17 @@ use Rattle.std.proofs.Common.{◌≡◌, ◌⊎◌, List, Option, inl, inr, subs
 use Rattle.std.specs.Prelude.{Err, IfErr, IfOk, IfSome, Ok, OnOk, Result}
 use Rattle.std.specs.Io.KnownBytes.{Appends}
 use Rattle.dnsv_program.specs.CommandLine.{IsAccepted}
-use Rattle.dnsv_program.specs.Files.{Files}
+use Rattle.dnsv_files.specs.Files.{Files}
 use Rattle.dnsv_program.specs.Program.{AreFilesAt, RefusedFiles, WroteFirst, WroteRefused}
 use Rattle.dnsv_program.specs.Run.{AsksMany, IsFirstFault, IsTextAskedFor, IsTextOfFirst}
-use Rattle.dnsv_program.specs.Status.{outcome_code}
+use Rattle.dnsv_files.specs.Status.{outcome_code}
 use Rattle.dnsv_program.specs.declared.command_line.request.Request.{Request}
-use Rattle.dnsv_program.specs.declared.status.Fault.{Fault}
-use Rattle.dnsv_program.specs.declared.status.Fault.TheVariants as fault
-use Rattle.dnsv_program.specs.declared.status.Place.{Place}
-use Rattle.dnsv_program.specs.declared.status.Refusal.{Refusal}
-use Rattle.dnsv_program.specs.declared.status.Status.{Status}
-use Rattle.dnsv_program.specs.declared.status.Status.TheVariants.{Refused}
+use Rattle.dnsv_files.specs.declared.status.Fault.{Fault}
+use Rattle.dnsv_files.specs.declared.status.Fault.TheVariants as fault
+use Rattle.dnsv_files.specs.declared.status.Place.{Place}
+use Rattle.dnsv_files.specs.declared.status.Refusal.{Refusal}
+use Rattle.dnsv_files.specs.declared.status.Status.{Status}
+use Rattle.dnsv_files.specs.declared.status.Status.TheVariants.{Refused}
 use Rattle.dnsv_program.proofs.ProgramLemmas.{ended_refused, refused, wrote_first, wrote_refused}
 
 -- where memory was wanting, nothing was written, or the text of some of many questions

@@ -6,18 +6,18 @@ use Rattle.dnsv_message.specs.Streams.Counted.{AppendsBeginning, count_after, fa
 use Rattle.dnsv_message.specs.declared.streams.counted.Counted.{Counted}
 use Rattle.dnsv_program.specs.declared.command_line.CommandLineError.{CommandLineError}
 use Rattle.dnsv_program.specs.declared.command_line.request.Request.{Request}
-use Rattle.dnsv_program.specs.declared.status.Fault.{Fault}
-use Rattle.dnsv_program.specs.declared.status.Fault.TheVariants as fault
-use Rattle.dnsv_program.specs.declared.status.InputFile.{InputFile}
-use Rattle.dnsv_program.specs.declared.status.Status.{Status}
-use Rattle.dnsv_program.specs.declared.status.Status.TheVariants.{Refused}
-use Rattle.dnsv_program.specs.Files.Faults.{OfFailedRead, OfOctets}
-use Rattle.dnsv_program.specs.Files.{Files}
+use Rattle.dnsv_files.specs.declared.status.Fault.{Fault}
+use Rattle.dnsv_files.specs.declared.status.Fault.TheVariants as fault
+use Rattle.dnsv_files.specs.declared.status.InputFile.{InputFile}
+use Rattle.dnsv_files.specs.declared.status.Status.{Status}
+use Rattle.dnsv_files.specs.declared.status.Status.TheVariants.{Refused}
+use Rattle.dnsv_files.specs.Files.Faults.{OfFailedRead, OfOctets}
+use Rattle.dnsv_files.specs.Files.{Files}
 use Rattle.dnsv_program.specs.CommandLine.{IsAccepted, IsRefused, command_line_code}
 use Rattle.dnsv_program.specs.Program.{AreFilesAt, FailedRequest, FailedWords, HasToldIn, IsEnd, LeavesOutput, TellsQuestion, first_unopened, paths_of}
 use Rattle.dnsv_program.specs.Run.{AsksRefused, IsFirstFault, IsReached}
-use Rattle.dnsv_program.specs.Status.{fault_code, fault_line, outcome_code}
-use Rattle.dnsv_program.specs.Told.{IsOpenFault}
+use Rattle.dnsv_files.specs.Status.{fault_code, fault_line, outcome_code}
+use Rattle.dnsv_files.specs.Told.{IsOpenFault}
 use Rattle.dnsv_program.proofs.ProgramLemmas.{no_1, no_end, refused_alone}
 use Rattle.dnsv_program.proofs.ProgramLemmas.Words.{EndsSo, at_most_2, no_7_of_words}
 

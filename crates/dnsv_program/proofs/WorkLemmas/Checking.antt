@@ -11,24 +11,24 @@ use Rattle.dnsv_verifier.specs.declared.entry.Entry.{Entry}
 use Rattle.dnsv_chain.specs.declared.anchor.Anchor.{Anchor}
 use Rattle.dnsv_canonical.specs.Rrsets.{ReceivedRrset}
 use Rattle.dnsv_verdict.specs.Verdict.{Basis, basis_of}
-use Rattle.dnsv_program.specs.Files.Anchors.{HasAnchors}
-use Rattle.dnsv_program.specs.declared.opening.Opening.{Opening}
-use Rattle.dnsv_program.specs.Files.Capture.{Holds, NewEvidence}
-use Rattle.dnsv_program.specs.Opening.Given.{IsOpeningOf}
+use Rattle.dnsv_files.specs.Files.Anchors.{HasAnchors}
+use Rattle.dnsv_files.specs.declared.opening.Opening.{Opening}
+use Rattle.dnsv_files.specs.Files.Capture.{Holds, NewEvidence}
+use Rattle.dnsv_files.specs.Opening.Given.{IsOpeningOf}
 use Rattle.dnsv_program.specs.Run.{IsFirstFaultOfFiles}
 use Rattle.dnsv_program.specs.Work.Checking.{AreGivenBy, AreReadFrom, IsCheck, IsJudged, basis_in}
 use Rattle.dnsv_program.specs.Work.Known.{AreMiscountedIn, Ground, IsFaultOfKnown, IsKnown, IsKnownBy, IsSaidBy}
 use Rattle.dnsv_program.specs.declared.work.given.Said.{Said}
 use Rattle.dnsv_program.specs.declared.work.given.Said.TheVariants as said
-use Rattle.dnsv_program.specs.declared.status.Fault.TheVariants as fault
-use Rattle.dnsv_program.specs.declared.status.Place.{Place}
-use Rattle.dnsv_program.specs.declared.status.Refusal.{Refusal}
-use Rattle.dnsv_program.specs.Files.{Files, octets_or_none}
-use Rattle.dnsv_program.specs.Files.Statements.{IsMeaningOf}
+use Rattle.dnsv_files.specs.declared.status.Fault.TheVariants as fault
+use Rattle.dnsv_files.specs.declared.status.Place.{Place}
+use Rattle.dnsv_files.specs.declared.status.Refusal.{Refusal}
+use Rattle.dnsv_files.specs.Files.{Files, octets_or_none}
+use Rattle.dnsv_files.specs.Files.Statements.{IsMeaningOf}
 use Rattle.dnsv_program.specs.declared.work.Outcome.{Outcome}
 use Rattle.dnsv_texts.specs.declared.format.Format.{Format}
-use Rattle.dnsv_program.specs.declared.status.Fault.{Fault}
-use Rattle.dnsv_program.proofs.FileLemmas.Faults.{of_told}
+use Rattle.dnsv_files.specs.declared.status.Fault.{Fault}
+use Rattle.dnsv_files.proofs.FileLemmas.Faults.{of_told}
 
 -- the frames of a file whose octets are told
 pub framed_by : (frames : List (Bor (List ℕ))) {octets : Option (List ℕ)} {file : List ℕ} → octets ≡ Some file

@@ -11,13 +11,13 @@ use Rattle.dnsv_verifier.specs.Statements.{listed_answer}
 use Rattle.dnsv_verifier.specs.Table.{TableContents, table_answer}
 use Rattle.dnsv_verifier.specs.declared.entry.Entry.{Entry}
 use Rattle.dnsv_verifier.specs.declared.statements.statement.Word.{Word}
-use Rattle.dnsv_program.specs.Files.Answers.{AreSaidFor, AreTooManyOrFew, IsFaultBeforeCount}
-use Rattle.dnsv_program.specs.Files.Faults.{OfOctets}
-use Rattle.dnsv_program.specs.Files.{IsGiven, octets_or_none}
-use Rattle.dnsv_program.specs.Told.{IsFaultOf}
+use Rattle.dnsv_files.specs.Files.Answers.{AreSaidFor, AreTooManyOrFew, IsFaultBeforeCount}
+use Rattle.dnsv_files.specs.Files.Faults.{OfOctets}
+use Rattle.dnsv_files.specs.Files.{IsGiven, octets_or_none}
+use Rattle.dnsv_files.specs.Told.{IsFaultOf}
 use Rattle.dnsv_program.specs.Work.Known.{AreMeant, AreMiscountedIn, IsFaultBeforeKnown, IsKnown, IsSaidBy, numbers_said, open_numbers}
-use Rattle.dnsv_program.specs.declared.status.Fault.{Fault}
-use Rattle.dnsv_program.specs.declared.status.Fault.TheVariants as fault
+use Rattle.dnsv_files.specs.declared.status.Fault.{Fault}
+use Rattle.dnsv_files.specs.declared.status.Fault.TheVariants as fault
 use Rattle.dnsv_program.specs.declared.work.given.Said.{Said}
 use Rattle.dnsv_program.specs.declared.work.given.Said.TheVariants as said
 

@@ -2,15 +2,15 @@
 use Rattle.std.proofs.Common.{◌⊎◌, ℕ, Bool, List, Option, inl, inr}
 use Rattle.std.specs.Io.KnownBytes.{Appends}
 use Rattle.dnsv_texts.specs.declared.format.Format.{Format}
-use Rattle.dnsv_program.specs.Files.{Files}
+use Rattle.dnsv_files.specs.Files.{Files}
 use Rattle.dnsv_program.specs.Run.{AsksMany, AsksRefused, IsFirstFault, IsFirstFaultOfEach, IsManyAsked, IsReached, IsReachedByEach, IsTextAskedFor, IsTextOfFirst}
 use Rattle.dnsv_program.specs.Work.Asking.{AreAnswered, AreFirstAnswered}
 use Rattle.dnsv_program.specs.declared.command_line.request.Asking.TheVariants as asking
 use Rattle.dnsv_program.specs.declared.command_line.request.Request.{Request}
 use Rattle.dnsv_program.specs.declared.command_line.request.Request.TheVariants as request
-use Rattle.dnsv_program.specs.declared.status.Fault.{Fault}
-use Rattle.dnsv_program.specs.declared.status.InputFile.{InputFile}
-use Rattle.dnsv_program.specs.declared.status.Status.{Status}
+use Rattle.dnsv_files.specs.declared.status.Fault.{Fault}
+use Rattle.dnsv_files.specs.declared.status.InputFile.{InputFile}
+use Rattle.dnsv_files.specs.declared.status.Status.{Status}
 
 pub record AskedAlike (asked : Request) (format : Format) (why : Bool) (moment : ℕ) : Type 0 where
   pub texts : (files : Files) (end : Status) (text : List ℕ) → AreAnswered format why moment files end text → IsTextAskedFor asked files end text

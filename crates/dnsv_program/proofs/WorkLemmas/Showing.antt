@@ -3,10 +3,10 @@ use Rattle.std.proofs.Common.{◌≡◌, ℕ, ◌+◌, ◌<◌, ◌≤◌, List,
 use Rattle.std.proofs.lemmas.List.{append-nil}
 use Rattle.dnsv_message.specs.Message.{Contents}
 use Rattle.dnsv_canonical.specs.Evidence.{no_evidence}
-use Rattle.dnsv_program.specs.Files.Capture.{AnyMessage, AllTaken}
-use Rattle.dnsv_program.specs.Opening.{IsInFrame}
-use Rattle.dnsv_program.specs.declared.opening.Opening.TheVariants.{Plain}
-use Rattle.dnsv_program.proofs.FileLemmas.Capture.{MessagesSoFar, MessagesSoFar-start, MessagesSoFar-next, MessagesSoFar-all}
+use Rattle.dnsv_files.specs.Files.Capture.{AnyMessage, AllTaken}
+use Rattle.dnsv_files.specs.Opening.{IsInFrame}
+use Rattle.dnsv_files.specs.declared.opening.Opening.TheVariants.{Plain}
+use Rattle.dnsv_files.proofs.FileLemmas.Capture.{MessagesSoFar, MessagesSoFar-start, MessagesSoFar-next, MessagesSoFar-all}
 use Rattle.dnsv_texts.specs.Showing.{message_text, texts_from}
 use Rattle.dnsv_texts.proofs.ShowingLemmas.{texts_from-append}
 

@@ -5,10 +5,10 @@ use Rattle.dnsv_names.specs.Text.{FirstFault, IsTextOf}
 use Rattle.dnsv_names.specs.declared.error.NameError.{NameError}
 use Rattle.dnsv_canonical.specs.Rrsets.{IsQuestion}
 use Rattle.dnsv_verdict.specs.declared.error.VerdictError.TheVariants.{BadQuestion}
-use Rattle.dnsv_program.specs.declared.status.Place.{Place}
-use Rattle.dnsv_program.specs.declared.status.Refusal.{Refusal}
-use Rattle.dnsv_program.specs.declared.status.Refusal.TheVariants as refusal
-use Rattle.dnsv_program.specs.Files.Capture.{IsNowhere}
+use Rattle.dnsv_files.specs.declared.status.Place.{Place}
+use Rattle.dnsv_files.specs.declared.status.Refusal.{Refusal}
+use Rattle.dnsv_files.specs.declared.status.Refusal.TheVariants as refusal
+use Rattle.dnsv_files.specs.Files.Capture.{IsNowhere}
 
 -- the text spells the name
 pub record Spells (text : List ℕ) (name : Labels) : Type 0 where

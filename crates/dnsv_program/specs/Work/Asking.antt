@@ -9,12 +9,12 @@ use Rattle.dnsv_verdict.specs.Way.{IsRefusal}
 use Rattle.dnsv_verdict.specs.declared.error.VerdictError.{VerdictError}
 use Rattle.dnsv_texts.specs.Refused.{refused_text}
 use Rattle.dnsv_texts.specs.declared.format.Format.{Format}
-use Rattle.dnsv_program.specs.Files.{Files, octets_or_none}
-use Rattle.dnsv_program.specs.Files.Questions.{HasQuestions}
-use Rattle.dnsv_program.specs.Status.{status_code}
+use Rattle.dnsv_files.specs.Files.{Files, octets_or_none}
+use Rattle.dnsv_files.specs.Files.Questions.{HasQuestions}
+use Rattle.dnsv_files.specs.Status.{status_code}
 use Rattle.dnsv_program.specs.Work.Checking.{AreInOrder, IsJudged, basis_in}
-use Rattle.dnsv_program.specs.declared.status.Status.{Status}
-use Rattle.dnsv_program.specs.declared.status.Status.TheVariants.{Done, Refused}
+use Rattle.dnsv_files.specs.declared.status.Status.{Status}
+use Rattle.dnsv_files.specs.declared.status.Status.TheVariants.{Done, Refused}
 
 -- ---- one question
 

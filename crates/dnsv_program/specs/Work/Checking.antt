@@ -16,22 +16,22 @@ use Rattle.dnsv_verdict.specs.Verdict.{Basis, basis_of}
 use Rattle.dnsv_verdict.specs.declared.report.Report.{Report}
 use Rattle.dnsv_explain.specs.Explanation.{IsExplanationOf}
 use Rattle.dnsv_lines.specs.declared.line.Line.{Line}
-use Rattle.dnsv_program.specs.Files.Anchors.{HasAnchors}
-use Rattle.dnsv_program.specs.declared.opening.Opening.{Opening}
-use Rattle.dnsv_program.specs.Files.Capture.{Holds, NewEvidence}
-use Rattle.dnsv_program.specs.Opening.Given.{IsOpeningOf}
-use Rattle.dnsv_program.specs.Files.{Files, octets_or_none}
+use Rattle.dnsv_files.specs.Files.Anchors.{HasAnchors}
+use Rattle.dnsv_files.specs.declared.opening.Opening.{Opening}
+use Rattle.dnsv_files.specs.Files.Capture.{Holds, NewEvidence}
+use Rattle.dnsv_files.specs.Opening.Given.{IsOpeningOf}
+use Rattle.dnsv_files.specs.Files.{Files, octets_or_none}
 use Rattle.dnsv_program.specs.Work.Known.{IsKnownBy, IsSaidBy}
 use Rattle.dnsv_program.specs.declared.work.given.Said.{Said}
-use Rattle.dnsv_program.specs.Status.{status_code}
+use Rattle.dnsv_files.specs.Status.{status_code}
 use Rattle.dnsv_texts.specs.declared.format.Format.{Format}
 use Rattle.dnsv_texts.specs.Checking.{check_text}
-use Rattle.dnsv_program.specs.Told.{nowhere}
-use Rattle.dnsv_program.specs.declared.status.Fault.{Fault}
-use Rattle.dnsv_program.specs.declared.status.Fault.TheVariants as fault
-use Rattle.dnsv_program.specs.declared.status.Refusal.TheVariants as refusal
-use Rattle.dnsv_program.specs.declared.status.Status.{Status}
-use Rattle.dnsv_program.specs.declared.status.Status.TheVariants as status
+use Rattle.dnsv_files.specs.Told.{nowhere}
+use Rattle.dnsv_files.specs.declared.status.Fault.{Fault}
+use Rattle.dnsv_files.specs.declared.status.Fault.TheVariants as fault
+use Rattle.dnsv_files.specs.declared.status.Refusal.TheVariants as refusal
+use Rattle.dnsv_files.specs.declared.status.Status.{Status}
+use Rattle.dnsv_files.specs.declared.status.Status.TheVariants as status
 
 -- ---- the end
 

@@ -8,14 +8,14 @@ use Rattle.dnsv_verifier.specs.Table.{TableContents, table_answer}
 use Rattle.dnsv_verifier.specs.declared.answer.Answer.{Answer}
 use Rattle.dnsv_verifier.specs.declared.answer.Answer.TheVariants.{Invalid, Unknown, Valid}
 use Rattle.dnsv_verifier.specs.declared.entry.Entry.{Entry}
-use Rattle.dnsv_program.specs.Files.Answers.{AreSaidFor, AreTooManyOrFew, IsFaultBeforeCount, IsFaultOfAnswers}
-use Rattle.dnsv_program.specs.Files.Statements.{IsFaultOfStatements, IsMeaningOf}
-use Rattle.dnsv_program.specs.Files.{IsGiven, octets_or_none}
-use Rattle.dnsv_program.specs.declared.status.Fault.{Fault}
-use Rattle.dnsv_program.specs.declared.status.InputFile.{InputFile}
-use Rattle.dnsv_program.specs.declared.status.InputFile.TheVariants as file
-use Rattle.dnsv_program.specs.declared.status.Place.{Place}
-use Rattle.dnsv_program.specs.declared.status.Refusal.{Refusal}
+use Rattle.dnsv_files.specs.Files.Answers.{AreSaidFor, AreTooManyOrFew, IsFaultBeforeCount, IsFaultOfAnswers}
+use Rattle.dnsv_files.specs.Files.Statements.{IsFaultOfStatements, IsMeaningOf}
+use Rattle.dnsv_files.specs.Files.{IsGiven, octets_or_none}
+use Rattle.dnsv_files.specs.declared.status.Fault.{Fault}
+use Rattle.dnsv_files.specs.declared.status.InputFile.{InputFile}
+use Rattle.dnsv_files.specs.declared.status.InputFile.TheVariants as file
+use Rattle.dnsv_files.specs.declared.status.Place.{Place}
+use Rattle.dnsv_files.specs.declared.status.Refusal.{Refusal}
 use Rattle.dnsv_program.specs.declared.work.given.Said.{Said}
 use Rattle.dnsv_program.specs.declared.work.given.Said.TheVariants as said
 

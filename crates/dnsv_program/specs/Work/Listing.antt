@@ -9,10 +9,10 @@ use Rattle.dnsv_verifier.specs.declared.entry.Entry.{Entry}
 use Rattle.dnsv_verifier.specs.Table.{IsTableOf, TableContents, unknown_entries}
 use Rattle.dnsv_program.specs.declared.command_line.request.Listing.{Listing}
 use Rattle.dnsv_program.specs.declared.command_line.request.Listing.TheVariants.{All, Compact, Open}
-use Rattle.dnsv_program.specs.declared.opening.Opening.TheVariants.{Plain}
-use Rattle.dnsv_program.specs.Files.Capture.{Holds, NewEvidence}
-use Rattle.dnsv_program.specs.Files.{Files, octets_or_none}
-use Rattle.dnsv_program.specs.Files.Statements.{IsMeaningOf}
+use Rattle.dnsv_files.specs.declared.opening.Opening.TheVariants.{Plain}
+use Rattle.dnsv_files.specs.Files.Capture.{Holds, NewEvidence}
+use Rattle.dnsv_files.specs.Files.{Files, octets_or_none}
+use Rattle.dnsv_files.specs.Files.Statements.{IsMeaningOf}
 use Rattle.dnsv_texts.specs.declared.format.Format.{Format}
 use Rattle.dnsv_texts.specs.Compact.{compact_text}
 use Rattle.dnsv_texts.specs.Listing.{ListsRrsets, SignedOctets, listing_text}

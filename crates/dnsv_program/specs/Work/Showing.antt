@@ -1,8 +1,8 @@
 -- What `show` shows of the file.
 use Rattle.std.specs.Prelude.{◌≡◌, ℕ, List}
 use Rattle.dnsv_message.specs.Message.{Contents}
-use Rattle.dnsv_program.specs.declared.opening.Opening.TheVariants.{Plain}
-use Rattle.dnsv_program.specs.Files.Capture.{Holds, AnyMessage}
+use Rattle.dnsv_files.specs.declared.opening.Opening.TheVariants.{Plain}
+use Rattle.dnsv_files.specs.Files.Capture.{Holds, AnyMessage}
 use Rattle.dnsv_texts.specs.Showing.{message_text, texts_from}
 
 -- the file holds messages, whatever they are, and the text has the lines of each

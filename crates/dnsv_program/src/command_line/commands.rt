@@ -6,8 +6,8 @@ ghost use Rattle.dnsv_program.specs.CommandLine.Commands.{all_rule, answers_rule
 ghost use Rattle.dnsv_program.specs.CommandLine.Commands.{anchors_rule, name_rule, questions_rule, type_rule};
 ghost use Rattle.dnsv_program.specs.CommandLine.Commands.{asking_app, list_app, program_app, question_app, show_app};
 
-use crate::command_line::moment::Moment;
 use clap::{Arg, ArgAction, Command, value_parser};
+use dnsv_files::Moment;
 use std::alloc::{AllocError, Global};
 
 /// The version of the program, which is that of the tools, the package and the change log.

@@ -4,8 +4,8 @@ ghost use Rattle.dnsv_canonical.specs.Rrsets.{IsQuestion};
 ghost use Rattle.dnsv_program.specs.CommandLine.Question.{Spells};
 ghost use Rattle.dnsv_program.specs.Run.{IsFaultOfQuestion};
 
-use crate::status::{Fault, Place, Refusal};
 use dnsv_canonical::is_question;
+use dnsv_files::{Fault, Place, Refusal};
 use dnsv_names::{Name, RecordType};
 use dnsv_verdict::VerdictError;
 

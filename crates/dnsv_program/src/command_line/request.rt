@@ -3,7 +3,7 @@ ghost use Rattle.std.specs.Prelude.{◌≡◌};
 ghost use Rattle.std.specs.Option.{option_map};
 ghost use Rattle.dnsv_program.specs.CommandLine.Paths.{anchors_of, answers_of, capture_of, keys_of, macs_of, questions_of, statements_of};
 
-use crate::command_line::moment::Moment;
+use dnsv_files::Moment;
 use dnsv_names::RecordType;
 use dnsv_texts::Format;
 

@@ -1,27 +1,26 @@
 //! The work of `check` and of `explain`: the question and the files are read, and then it is judged.
 ghost use Rattle.std.specs.Prelude.{◌≡◌, ◌⊎◌, IfErr, IfOk, string_bytes};
 ghost use Rattle.dnsv_canonical.specs.Rrsets.{IsQuestion};
-ghost use Rattle.dnsv_program.specs.Files.Faults.{OfFailedRead, TellsFaults};
-ghost use Rattle.dnsv_program.specs.Files.{AreTold, Files};
+ghost use Rattle.dnsv_files.specs.Files.Faults.{OfFailedRead, TellsFaults};
+ghost use Rattle.dnsv_files.specs.Files.{AreTold, Files};
 ghost use Rattle.dnsv_program.specs.Run.{IsAnswered, IsFaultOfQuestion, IsFirstFaultOfCheck, IsFirstFaultOfName};
 ghost use Rattle.dnsv_program.specs.Run.{IsReachedByCheck, IsReachedOfFiles};
-ghost use Rattle.dnsv_program.specs.Told.{IsFaultOf};
+ghost use Rattle.dnsv_files.specs.Told.{IsFaultOf};
 ghost use Rattle.dnsv_program.specs.Work.Checking as specs;
 ghost use Rattle.dnsv_program.specs.Work.Checking.{IsCheck, IsJudged};
 ghost use Rattle.dnsv_program.specs.Work.Known.{AreMiscountedIn, Ground};
 ghost use Rattle.dnsv_verdict.specs.Verdict.{basis_of};
 ghost use Rattle.dnsv_verdict.specs.Way.{IsRefusedFor};
 ghost use Rattle.dnsv_verdict.specs.declared.error.VerdictError.{VerdictError};
-ghost use Rattle.dnsv_program.specs.declared.status.Status.TheVariants.{Refused};
+ghost use Rattle.dnsv_files.specs.declared.status.Status.TheVariants.{Refused};
 
-use crate::command_line::moment::Moment;
 use crate::command_line::question::question_name;
-use crate::status::Fault;
+use crate::work::Outcome;
 use crate::work::given::{Given, given_in};
 use crate::work::judging::{Asked, Telling, judge};
 use crate::work::known::{OpenNumbers, open_case};
-use crate::work::{Inputs, Outcome};
 use bumpalo::Bump;
+use dnsv_files::{Fault, Inputs, Moment};
 use dnsv_names::RecordType;
 use std::alloc::Global;
 use std::io::Read;

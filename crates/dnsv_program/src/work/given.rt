@@ -1,24 +1,20 @@
 //! The files that questions are judged by.
 ghost use Rattle.std.specs.Prelude.{◌≡◌, ◌⊎◌, IfErr, IfOk, List, Option, ℕ};
 ghost use Rattle.dnsv_message.specs.Streams.Frames.{IsCapture, octets_at_each};
-ghost use Rattle.dnsv_program.specs.Files.Faults.{IsAbout, OfFailedRead, OfOctets, TellsFailedReads, TellsFaultsBeside};
-ghost use Rattle.dnsv_program.specs.Files.{AreToldBeside, Files, IsToldBy, given_failures};
+ghost use Rattle.dnsv_files.specs.Files.Faults.{IsAbout, OfFailedRead, OfOctets, TellsFailedReads, TellsFaultsBeside};
+ghost use Rattle.dnsv_files.specs.Files.{AreToldBeside, Files, IsToldBy, given_failures};
 ghost use Rattle.dnsv_program.specs.Run.{IsFirstFaultOfFiles, IsReachedOfFiles};
 ghost use Rattle.dnsv_program.specs.Work.Checking.{AreReadFrom};
 ghost use Rattle.dnsv_program.specs.Work.Known.{IsFaultBeforeKnown, IsKnownReached, IsSaidBy};
 
-use crate::command_line::moment::Moment;
-use crate::files::anchors::anchors_in;
-use crate::files::answers::answers_in;
-use crate::files::capture::framed_evidence_in;
-use crate::files::text::text_in;
-use crate::opening::opening_in;
-use crate::status::{Fault, InputFile};
-use crate::work::Inputs;
 use bumpalo::Bump;
 use dnsv_answers::Answers;
 use dnsv_canonical::Capture;
 use dnsv_chain::Anchors;
+use dnsv_files::{
+    Fault, InputFile, Inputs, Moment, anchors_in, answers_in, framed_evidence_in, opening_in,
+    text_in,
+};
 use dnsv_message::Counted;
 use dnsv_verifier::Statements;
 use std::alloc::Global;

@@ -3,22 +3,17 @@ ghost use Rattle.std.specs.Prelude.{◌≡◌, Contains, IfErr, IfOk, false, str
 ghost use Rattle.dnsv_verifier.specs.Admissible.{IsAsked};
 ghost use Rattle.dnsv_verifier.specs.Table.{IsTableOf, TableContents, unknown_entries};
 ghost use Rattle.dnsv_verifier.specs.declared.entry.Entry.{Entry};
-ghost use Rattle.dnsv_program.specs.Files.Faults.{OfFailedRead, TellsFaults};
-ghost use Rattle.dnsv_program.specs.Files.{AreTold, Files};
+ghost use Rattle.dnsv_files.specs.Files.Faults.{OfFailedRead, TellsFaults};
+ghost use Rattle.dnsv_files.specs.Files.{AreTold, Files};
 ghost use Rattle.dnsv_program.specs.Run.{IsFirstFaultOfList, IsListed, IsReachedByList};
 ghost use Rattle.dnsv_program.specs.Work.Listing as specs;
 ghost use Rattle.dnsv_program.specs.Work.Listing.{ListsEntries};
 
-use crate::command_line::moment::Moment;
 use crate::command_line::request::Listing;
-use crate::files::capture::evidence_in;
-use crate::files::text::text_in;
-use crate::opening::Opening;
-use crate::status::{Fault, InputFile};
-use crate::work::Inputs;
 use bumpalo::Bump;
 use dnsv_canonical::{Capture, Rrset};
 use dnsv_compact::CompactList;
+use dnsv_files::{Fault, InputFile, Inputs, Moment, Opening, evidence_in, text_in};
 use dnsv_names::Count;
 use dnsv_texts::{Format, compact_text, listing_text, todo_text};
 use dnsv_verifier::{Entries, Statements, Verifier, ask_all};

@@ -1,4 +1,4 @@
-use Rattle.dnsv_program.specs.Files.Capture.{NewEvidence}
+use Rattle.dnsv_files.specs.Files.Capture.{NewEvidence}
 use Rattle.dnsv_program.proofs.LawLemmas.Answers.{file_answer}
 use Rattle.dnsv_program.proofs.LawLemmas.Listed.{evidence_or_fails, listed}
 use Rattle.dnsv_program.proofs.laws.every_file_is_listed_or_refused.Goals as goal

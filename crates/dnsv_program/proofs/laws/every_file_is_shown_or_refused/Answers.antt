@@ -1,5 +1,5 @@
 use Rattle.std.proofs.Common.{inl}
-use Rattle.dnsv_program.specs.Files.Capture.{AnyMessage}
+use Rattle.dnsv_files.specs.Files.Capture.{AnyMessage}
 use Rattle.dnsv_program.proofs.LawLemmas.Answers.{file_answer, shown}
 use Rattle.dnsv_program.proofs.laws.every_file_is_shown_or_refused.Goals as goal
 

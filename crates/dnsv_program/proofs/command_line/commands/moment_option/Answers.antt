@@ -5,7 +5,7 @@ use Rattle.clap.specs.declared.Arg.{Arg}
 use Rattle.clap.specs.declared.builder.ValueParser.{ValueParser}
 use Rattle.clap.specs.declared.builder.ValueParser.TheVariants as parser
 use Rattle.dnsv_program.proofs.CommandLineLemmas.Numbers.{demanded, narrowed_to}
-use Rattle.dnsv_program.specs.CommandLine.Moment.{last_moment}
+use Rattle.dnsv_files.specs.Moment.{last_moment}
 use Rattle.dnsv_program.proofs.command_line.commands.moment_option.Goals as goal
 
 abbrev named : Rule

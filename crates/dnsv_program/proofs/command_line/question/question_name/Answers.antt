@@ -1,5 +1,5 @@
 use Rattle.std.proofs.Common.{ap, Err, refl, rules}
-use Rattle.dnsv_program.specs.declared.status.Fault.{Fault}
+use Rattle.dnsv_files.specs.declared.status.Fault.{Fault}
 use Rattle.dnsv_program.proofs.CommandLineLemmas.Question.{bad_name, bad_type, no_question_fault}
 use Rattle.dnsv_program.proofs.command_line.question.question_name.Goals as goal
 

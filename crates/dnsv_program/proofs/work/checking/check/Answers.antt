@@ -1,6 +1,6 @@
 use Rattle.std.proofs.Common.{inr}
 use Rattle.dnsv_program.specs.Run.{IsFirstFaultOfCheck, IsFirstFaultOfName, IsReachedByCheck, IsReachedOfFiles}
-use Rattle.dnsv_program.proofs.FileLemmas.Faults.{TellsFaults-weaker}
+use Rattle.dnsv_files.proofs.FileLemmas.Faults.{TellsFaults-weaker}
 use Rattle.dnsv_program.proofs.ReachedLemmas.{reached_in}
 use Rattle.dnsv_program.proofs.work.checking.check.Goals as goal
 

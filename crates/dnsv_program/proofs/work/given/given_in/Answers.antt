@@ -1,9 +1,10 @@
 use Rattle.std.proofs.Common.{inl, inr, refl}
 use Rattle.std.proofs.lemmas.Result.{err_from_is_err_and}
-use Rattle.dnsv_program.specs.declared.status.InputFile.TheVariants.{Anchors, Capture}
+use Rattle.dnsv_files.specs.declared.status.InputFile.TheVariants.{Anchors, Capture}
 use Rattle.dnsv_program.specs.Run.{IsFirstFaultOfFiles, IsReachedOfFiles}
 use Rattle.dnsv_program.proofs.WorkLemmas.Checking.{all_read, framed_by}
-use Rattle.dnsv_program.proofs.FileLemmas.Faults.{all_taken, anchored, captured, has_evidence, reads_then, unsaid, unsealed}
+use Rattle.dnsv_files.proofs.FileLemmas.Faults.{reads_then}
+use Rattle.dnsv_program.proofs.TakenLemmas.{all_taken, anchored, captured, has_evidence, unsaid, unsealed}
 use Rattle.dnsv_program.proofs.ReachedLemmas.{given_file, reached_by, reached_given, reached_known, reached_sealed}
 use Rattle.dnsv_program.proofs.work.given.given_in.Goals as goal
 

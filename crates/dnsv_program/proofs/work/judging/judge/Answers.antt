@@ -3,7 +3,7 @@ use Rattle.dnsv_canonical.specs.Rrsets.{IsQuestion}
 use Rattle.dnsv_verdict.specs.Way.{IsRefusal, IsRefusedFor}
 use Rattle.dnsv_verdict.specs.declared.error.VerdictError.TheVariants.{BadQuestion, OutOfMemory}
 use Rattle.dnsv_texts.specs.Checking.{check_text}
-use Rattle.dnsv_program.specs.Status.{status_code}
+use Rattle.dnsv_files.specs.Status.{status_code}
 use Rattle.dnsv_program.specs.Work.Checking.{verdict_fault}
 use Rattle.dnsv_program.proofs.work.judging.judge.Goals as goal
 

@@ -1,7 +1,7 @@
 use Rattle.std.proofs.Common.{ℕ}
 use Rattle.dnsv_answers.specs.AnswerFile.{AreMiscounted}
 use Rattle.dnsv_verifier.specs.Asked.{IsNumberAsked}
-use Rattle.dnsv_program.proofs.FileLemmas.Answers.{refused_for}
+use Rattle.dnsv_files.proofs.FileLemmas.Answers.{refused_for}
 use Rattle.dnsv_program.proofs.work.known.table_of.Goals as goal
 
 pub returns-in-Err-clause-fault : goal.returns-in-Err-clause-fault

@@ -1,10 +1,11 @@
 use Rattle.std.proofs.Common.{refl, sym, ◌∙◌}
 use Rattle.std.proofs.lemmas.Result.{err_from_is_err_and}
-use Rattle.dnsv_program.specs.declared.opening.Opening.TheVariants.{Plain}
-use Rattle.dnsv_program.specs.declared.status.InputFile.TheVariants.{Capture, Statements}
+use Rattle.dnsv_files.specs.declared.opening.Opening.TheVariants.{Plain}
+use Rattle.dnsv_files.specs.declared.status.InputFile.TheVariants.{Capture, Statements}
 use Rattle.dnsv_program.specs.Work.Listing.{lists_all}
 use Rattle.dnsv_program.specs.Run.{IsFirstFaultOfList, IsReachedByList}
-use Rattle.dnsv_program.proofs.FileLemmas.Faults.{captured, has_evidence, reads_untouched, with_questions}
+use Rattle.dnsv_files.proofs.FileLemmas.Faults.{reads_untouched, with_questions}
+use Rattle.dnsv_program.proofs.TakenLemmas.{captured, has_evidence}
 use Rattle.dnsv_program.proofs.ReachedLemmas.{given_file, list_captured, list_reached, list_stated, reached_by, reached_given}
 use Rattle.dnsv_program.proofs.work.listing.list.Goals as goal
 

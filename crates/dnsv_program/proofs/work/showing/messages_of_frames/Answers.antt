@@ -1,5 +1,5 @@
 use Rattle.std.proofs.lemmas.Result.{err_from_is_err_and}
-use Rattle.dnsv_program.proofs.FileLemmas.Capture.{IsFaultOf-weaker, MessagesSoFar-no_message, frame_at}
+use Rattle.dnsv_files.proofs.FileLemmas.Capture.{IsFaultOf-weaker, MessagesSoFar-no_message, frame_at}
 use Rattle.dnsv_program.proofs.WorkLemmas.Showing.{ShownSoFar-next}
 use Rattle.dnsv_program.proofs.work.showing.messages_of_frames.Goals as goal
 

@@ -1,5 +1,5 @@
 use Rattle.std.proofs.lemmas.Result.{IfErr-weaker}
-use Rattle.dnsv_program.specs.declared.status.InputFile.TheVariants.{Capture}
+use Rattle.dnsv_files.specs.declared.status.InputFile.TheVariants.{Capture}
 use Rattle.dnsv_program.specs.Run.{IsCaptureReached}
 use Rattle.dnsv_program.proofs.ReachedLemmas.{reached_by}
 use Rattle.dnsv_program.proofs.work.showing.show.Goals as goal

@@ -1,8 +1,8 @@
 use Rattle.std.proofs.Common.{inr}
 use Rattle.std.proofs.lemmas.Result.{err_from_is_err_and}
-use Rattle.dnsv_program.specs.Files.Capture.{AnyMessage}
-use Rattle.dnsv_program.specs.declared.opening.Opening.TheVariants.{Plain}
-use Rattle.dnsv_program.proofs.FileLemmas.Faults.{TellsFileFaults-passed, TellsFileFaults-then, frames_refused}
+use Rattle.dnsv_files.specs.Files.Capture.{AnyMessage}
+use Rattle.dnsv_files.specs.declared.opening.Opening.TheVariants.{Plain}
+use Rattle.dnsv_files.proofs.FileLemmas.Faults.{TellsFileFaults-passed, TellsFileFaults-then, frames_refused}
 use Rattle.dnsv_program.proofs.work.showing.showing.Goals as goal
 
 pub returns-in_err-frames-clause-faults : goal.returns-in_err-frames-clause-faults

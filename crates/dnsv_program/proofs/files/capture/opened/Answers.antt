@@ -1,5 +1,0 @@
-use Rattle.dnsv_program.proofs.OpeningLemmas.Frames.{not_opened}
-use Rattle.dnsv_program.proofs.files.capture.opened.Goals as goal
-
-pub returns-in-Err-clause-refused : goal.returns-in-Err-clause-refused
-returns-in-Err-clause-refused c = not_opened c.args.number _ _ _ _ c.in-Err.error _ c.in-Err.ensures c.tsig_fault.ensures.told
