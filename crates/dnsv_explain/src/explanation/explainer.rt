@@ -5,7 +5,7 @@ ghost use Rattle.dnsv_derivations.specs.Explained.{setting_in};
 ghost use Rattle.dnsv_explain.specs.Derived.{IsDerived};
 ghost use Rattle.dnsv_explain.specs.Explained.{explained_by};
 ghost use Rattle.dnsv_explain.specs.Explanation.{IsExplanationOf};
-ghost use Rattle.dnsv_explain.specs.SharedWays.{AreHopedWays};
+ghost use Rattle.dnsv_explain.specs.SharedWays.{AreHopedWays, AreOfCase};
 ghost use Rattle.dnsv_derivations.specs.derivations.WaySearch.{AreFirstWays};
 ghost use Rattle.dnsv_verdict.specs.Case.{IsCaseOf, basis_by};
 ghost use Rattle.dnsv_verdict.specs.Hope.{HasHope};
@@ -127,25 +127,14 @@ impl<'a> Explainer<'a> {
             ⊎ ((error ≡ VerdictError.BadQuestion) × (¬ IsQuestion name.now rtype.0))) }
         ensures same { self.new ≡ self.old }
     {
-        let case = self.open_case.case();
-        let traced = case.trace(alloc, name, rtype)?;
-        // What is true of every case.
-        let _trust = case.trust();
-        let bare = evidence_of(case, None);
-        let evidence = bare.with_ways(&self.ways);
-        match traced {
-            Traced::Reached(judged) => {
-                keep_hoped(alloc, case, &judged, rtype, &mut self.hoped)?;
-                let lines = derivation_of(alloc, &evidence, case, &judged, &self.hoped, rtype)?;
-                let outcome = Outcome::Verdict(judged.report);
-                Ok(Derivation { outcome, lines })
-            }
-            Traced::Stopped(stopped) => {
-                let lines = stop_derivation_of(alloc, &evidence, case, &stopped)?;
-                let outcome = Outcome::Refused(stopped.error);
-                Ok(Derivation { outcome, lines })
-            }
-        }
+        derive_by(
+            alloc,
+            &mut self.open_case,
+            &self.ways,
+            &mut self.hoped,
+            name,
+            rtype,
+        )
     }
 }
 
@@ -194,4 +183,44 @@ fn hoped_ways(
 {
     let evidence = evidence_of(hope.case.as_ref(), Some(unknown));
     first_ways(alloc, &evidence)
+}
+
+/// What is told of a question of the case, and the lines that derive it, by the first ways into its RRsets.
+fn derive_by<'s, 'a>(
+    alloc: Global,
+    open_case: &'s mut OpenCase<'a>,
+    ways: &'s [KeptWay],
+    hoped: &mut Vec<KeptWay>,
+    name: &Name,
+    rtype: RecordType,
+) -> Result<Derivation<'a>, VerdictError>
+    requires ways { AreOfCase open_case.now ways.now }
+    requires hoped { AreHopedWays open_case.now hoped.now.items }
+    ensures derived { (basis : Basis) → IsCaseOf basis open_case.old
+        → IfOk result (λ told. IsDerived basis name.now rtype.0 told.outcome told.lines.items) }
+    ensures question { ¬ IsQuestion name.now rtype.0 → IsErrOf result VerdictError.BadQuestion }
+    ensures refused { IfErr result (λ error. (error ≡ VerdictError.OutOfMemory)
+        ⊎ ((error ≡ VerdictError.BadQuestion) × (¬ IsQuestion name.now rtype.0))) }
+    ensures same { open_case.new ≡ open_case.old }
+    ensures hoped { AreHopedWays open_case.old hoped.new.items }
+{
+    let traced = open_case.trace(alloc, name, rtype)?;
+    let case = open_case.case();
+    // What is true of every case.
+    let _trust = case.trust();
+    let bare = evidence_of(case, None);
+    let evidence = bare.with_ways(ways);
+    match traced {
+        Traced::Reached(judged) => {
+            keep_hoped(alloc, case, &judged, rtype, hoped)?;
+            let lines = derivation_of(alloc, &evidence, case, &judged, hoped, rtype)?;
+            let outcome = Outcome::Verdict(judged.report);
+            Ok(Derivation { outcome, lines })
+        }
+        Traced::Stopped(stopped) => {
+            let lines = stop_derivation_of(alloc, &evidence, case, &stopped)?;
+            let outcome = Outcome::Refused(stopped.error);
+            Ok(Derivation { outcome, lines })
+        }
+    }
 }

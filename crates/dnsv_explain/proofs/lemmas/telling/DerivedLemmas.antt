@@ -16,8 +16,7 @@ use Rattle.dnsv_explain.specs.Derived.{AreLinksDerived, AreLinksTold, IsDerivati
 use Rattle.dnsv_explain.specs.Explained.{explained_by}
 use Rattle.dnsv_explain.specs.Explanation.{IsLinkTold, IsUnproved, IsVerdictTold, IsWayTold}
 use Rattle.dnsv_lines.specs.declared.line.Line.{Line}
-use Rattle.dnsv_derivations.proofs.lemmas.SayingLemmas.{all_added, next_added}
-use Rattle.dnsv_explain.proofs.lemmas.telling.WholeLemmas.{way_added}
+use Rattle.dnsv_derivations.proofs.lemmas.SayingLemmas.{all_added, both_added, next_added}
 
 -- behind no lines
 said_first : (Says : List Line → List Line → Type 0) (old new : List Line) → old ≡ [] → Adds Says old new → Says [] new
@@ -66,7 +65,7 @@ module _ (explained : Explained) (case : CaseContents) (same : explained ≡ exp
   way_told mid proved front back =
       subst Whole same (whole_way explained t links last verdict proved new
       (said_first (IsWayTold explained t links last verdict) old new empty
-      (way_added explained t links last verdict old mid new front back)))
+      (both_added (AreEach (IsLinkTold (setting_in explained)) links) (IsVerdictTold explained last t verdict) old mid new front back)))
 
 -- ---- an alias that can't be followed
 
