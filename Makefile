@@ -1,10 +1,13 @@
 # `all`, `try`, `test` and `wrong-bodies` need the kit's command `rt` on the path, and `test` the packages of `packages`
 # besides; `demo`, `examples`, `faults`, `pages`, `install` and `deb` take the program that is built, and build it where there
 # is none. `check` builds nothing.
-.PHONY: all try test check packages lint demo examples faults wrong-bodies test-tools pages pictures install deb
+.PHONY: all try test check packages lint demo examples faults wrong-bodies test-tools pages pictures install deb library \
+	install-library deb-library
 
 program = crates/dnssec_check/out/dnssec_check
 rows = crates/dnsv_rows/out/dnsv_rows
+made = out/library
+shared = $(made)/libdnssec_check.so.1
 PREFIX = /usr/local
 # What runs the tools, installed or not, and their tests: Debian's, which Debian's packages serve. Another one needs the
 # packages that pyproject.toml names.
@@ -66,7 +69,8 @@ test-tools:
 
 # The commands of the pages, against what the pages show, with the program and the tools as they are installed.
 # CAPTURING.md and BREAKS.md need root, and the packages that they name; `check` runs the others. So does the table of
-# incidents in BREAKS.md, of which `check` makes three where root has what they need.
+# incidents in BREAKS.md, of which `check` makes three where root has what they need. LIBRARY.md runs over the library that
+# is built and not installed.
 pages: | $(program)
 	tools/pages --installed docs/CAPTURING.md
 	tools/pages --installed docs/BREAKS.md
@@ -79,6 +83,7 @@ pages: | $(program)
 	tools/pages --installed docs/VERDICTS.md
 	tools/pages --installed docs/COMPACT.md
 	tools/pages --installed docs/EXPLANATION.md
+	if test -e $(shared); then tools/pages docs/LIBRARY.md; fi
 
 # The pictures that README.md shows, from the examples; needs chromium, fonts-liberation and pngquant besides what the page
 # of `dnssec_check-judge --html` needs, and no program.
@@ -115,8 +120,59 @@ install: | $(program)
 		ln -sf dnssec_check $(of_bash)/dnssec_check-$$tool; \
 		ln -sf dnssec_check.fish $(of_fish)/dnssec_check-$$tool.fish; \
 	done
+	if test -e $(shared); then $(MAKE) install-library; fi
 
-# The same as a Debian package, out/dnssec-check_VERSION_amd64.deb; needs the packages debhelper, dh-python and dpkg-dev.
+# The library for C, as an archive and a shared library; docs/LIBRARY.md says how it is used. What it does is proved and built
+# by the kit; what of it C sees, and nothing else, is library/calls.c.
+calls = crates/dnssec_check_c/out/libdnssec_check_c.a
+kit = $(dir $(shell rt doc))
+version = $(shell sed -n 's/^VERSION = "\([^"]*\)".*/\1/p' tools/$(package)/command.py)
+library: $(made)/libdnssec_check.a $(shared)
+
+$(calls):
+	cd crates/dnssec_check_c && rt lib
+
+# One object, in which only the calls of the header are seen.
+$(made)/dnssec_check.o: library/calls.c library/dnssec_check.h library/symbols $(calls)
+	install -d $(made)
+	$(CC) -std=c99 -O2 -fPIC -Wall -Wextra -Werror -DDNSSEC_CHECK_VERSION='"$(version)"' -c library/calls.c -o $(made)/calls.o
+	$(LD) -r -o $@ $(made)/calls.o --whole-archive $(calls) --no-whole-archive $(kit)c/liblibc_c.a
+	objcopy --keep-global-symbols=library/symbols $@
+
+$(made)/libdnssec_check.a: $(made)/dnssec_check.o
+	rm -f $@
+	$(AR) rcs $@ $<
+
+$(shared): $(made)/dnssec_check.o
+	$(CC) -shared -Wl,-soname,$(notdir $@) -Wl,--gc-sections -Wl,-z,defs -Wl,-z,relro,-z,now -o $@ $<
+	ln -sf $(notdir $@) $(made)/libdnssec_check.so
+
+# Puts the library that is built below PREFIX; `install` does it too, where it is built. Python's module goes where the
+# interpreter looks, where that lies below PREFIX, and else to the folder that has this place for one of that PREFIX; where
+# the tools are installed, their package, of which it takes the verifier, is found beside it.
+LIBRARY_FOLDER = $(PREFIX)/lib
+of_library = $(DESTDIR)$(LIBRARY_FOLDER)
+PYTHON_FOLDER ?= $(shell $(PYTHON) -c 'import sys, sysconfig; place = sysconfig.get_path("purelib"); \
+	print(place if place.startswith("$(PREFIX)/lib/") else "$(PREFIX)/lib/python%d.%d/site-packages" % sys.version_info[:2])')
+of_python = $(DESTDIR)$(PYTHON_FOLDER)/dnssec_check
+install-library:
+	install -D -m 644 $(made)/libdnssec_check.a $(of_library)/libdnssec_check.a
+	install -m 644 $(shared) $(of_library)
+	ln -sf libdnssec_check.so.1 $(of_library)/libdnssec_check.so
+	install -D -m 644 library/dnssec_check.h $(DESTDIR)$(PREFIX)/include/dnssec_check.h
+	install -d $(of_library)/pkgconfig $(of_python)
+	sed 's|@PREFIX@|$(PREFIX)|; s|@FOLDER@|$(LIBRARY_FOLDER)|; s|@VERSION@|$(version)|' library/dnssec_check.pc.in \
+		> $(of_library)/pkgconfig/dnssec_check.pc
+	install -m 644 library/python/dnssec_check/*.py library/python/dnssec_check/py.typed $(of_python)
+	if test -d $(lib)/$(package) && ! test -e $(of_python)_tools; then \
+		ln -s $(PREFIX)/lib/dnssec_check/$(package) $(of_python)_tools; \
+	fi
+
+# The same as Debian packages: libdnssec-check1, libdnssec-check-dev and python3-dnssec-check.
+deb-library:
+	tools/deb library
+
+# The program and the tools as a Debian package, out/dnssec-check_VERSION_amd64.deb; needs the packages debhelper, dh-python and dpkg-dev.
 deb: | $(program)
 	tools/deb
 

@@ -12,8 +12,9 @@ TREE = Path(__file__).resolve().parent.parent.parent
 TESTS = TREE / "tools" / "tests"
 PROGRAM = "crates/dnssec_check/out/dnssec_check"
 ROWS = "crates/dnsv_rows/out/dnsv_rows"
+LIBRARY = "out/library/libdnssec_check.so.1"
 # What is built by what.
-BUILT_BY = {PROGRAM: "make", ROWS: "cd crates/dnsv_rows && rt run < /dev/null"}
+BUILT_BY = {PROGRAM: "make", LIBRARY: "make library", ROWS: "cd crates/dnsv_rows && rt run < /dev/null"}
 
 OF_TOOLS = ("python3-cryptography", "python3-dnspython")
 OF_TESTS = (
@@ -22,6 +23,7 @@ OF_TESTS = (
     "dh-python",
     "dns-root-data",
     "dpkg-dev",
+    "g++",
     "gcc",
     "graphviz",
     "ldnsutils",
@@ -34,6 +36,7 @@ OF_TESTS = (
     "python3-rich",
     "python3-zstandard",
     "tshark",
+    "valgrind",
 )
 # What the linters read of other packages is there when they look.
 OF_LINT = ("black", "mypy", "pylint", *OF_TOOLS, "python3-jinja2", "python3-rich")
@@ -63,7 +66,8 @@ def of_tests(folder: Path) -> Guard:
     """The tests of a folder; those that lie in none have the name of the tools."""
     words = ("python3", "-m", "unittest", *sorted(module_of(file) for file in folder.glob("test_*.py")))
     name = "tests" if folder == TESTS else f"tests/{folder.name}"
-    return Guard(name, ("env", "-C", str(TESTS), "PYTHONPATH=..", *words), of_unittest, OF_TESTS, (PROGRAM,))
+    built = (PROGRAM, LIBRARY) if folder.name == "library" else (PROGRAM,)
+    return Guard(name, ("env", "-C", str(TESTS), "PYTHONPATH=..", *words), of_unittest, OF_TESTS, built)
 
 
 def module_of(file: Path) -> str:
@@ -107,5 +111,11 @@ def guards() -> list[Guard]:
         of_page("docs/EXPLANATION.md"),
         of_page("docs/AUDITING.md", packages=(*OF_TOOLS, "parallel")),
         of_page("docs/ODD.md"),
+        Guard(
+            "docs/LIBRARY.md",
+            ("tools/pages", "docs/LIBRARY.md"),
+            packages=("gcc", "libc6-dev", "python3-cryptography"),
+            built=(LIBRARY,),
+        ),
         of_page("examples/README.md"),
     ]

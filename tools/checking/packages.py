@@ -38,6 +38,7 @@ PACKAGES = (
     Package("dnsviz", command="dnsviz"),
     Package("dpkg-dev", command="dpkg-buildpackage"),
     Package("fish", command="fish"),
+    Package("g++", command="c++"),
     Package("gcc", command="cc"),
     Package("graphviz", command="dot"),
     Package("ldnsutils", command="ldns-signzone"),
@@ -59,6 +60,7 @@ PACKAGES = (
     Package("tshark", command="tshark"),
     Package("unbound", command="unbound"),
     Package("unbound-host", command="unbound-host"),
+    Package("valgrind", command="valgrind"),
     Package("zsh", command="zsh"),
 )
 

@@ -60,6 +60,7 @@ from .asking.questions import LIST
 from .asking.kinds import table
 from .asking.moments import seconds_of
 from .command import read, run, tell, write
+from .in_process import asked_by
 from .judge_options import INPUTS, command_line, fault_of, once
 from .judging.cluster import WAIT_SECONDS, by_workers
 from .judging.page import Page
@@ -74,7 +75,7 @@ from .judging.text import Lines, Sums, json_line, rows_text, tsv_head, tsv_line
 from .judging.work import Common
 from .odd.options import wish_of
 from .outputs import is_same_output, overwritten
-from .program import FAILED, FROM_BEST, REFUSED, WRONG, program_of
+from .program import FAILED, FROM_BEST, REFUSED, WRONG
 from .resuming.rows import JSONL, TSV
 from .resuming.table import Kept, Table
 from .started import processors
@@ -103,7 +104,7 @@ def table_text(options: argparse.Namespace) -> Optional[Text]:
 def results_of(tasks: Iterable[Task], common: Common, options: argparse.Namespace, count: int) -> Results:
     if options.scheduler:
         return by_workers(tasks, common, once(options.scheduler), options.wait or WAIT_SECONDS)
-    program = program_of(once(options.program), sys.argv[0])
+    program = asked_by(once(options.program), sys.argv[0])
     return in_processes(tasks, common, program, options.jobs or processors(), count)
 
 

@@ -69,6 +69,16 @@ class Unlisted(Exception):
         self.said = said
 
 
+class Manner(NamedTuple):
+    """How questions are judged: by CHECK or EXPLAIN, at a moment."""
+
+    subcommand: str
+    moment: int
+
+    def words(self, files: Files) -> List[str]:
+        return [self.subcommand, *named(files), f"--moment={self.moment}", "--json"]
+
+
 @dataclass(frozen=True)
 class Program:
     """The program by its path. What it reads is open here: files by the options that name them, each by its number."""
@@ -105,20 +115,28 @@ class Program:
     ) -> Iterator[Told]:
         """What CHECK or EXPLAIN says of each question, in their order, while there is time. One run answers all, but
         for those whose names no file of questions can have; an answer takes so many octets of memory."""
-        words = [subcommand, *named(files), f"--moment={moment}", "--json"]
-        asking = Asking(self, words, files, left, octets)
+        asking = Asking(self, Manner(subcommand, moment), files, left, octets)
         together = list(map(spelled, questions))
         answers = asking.together([each for each in together if each])
         for question, each in zip(questions, together):
             yield from itertools.islice(answers, 1) if each else [asking.alone(question)]
 
+    def judged(self, manner: Manner, files: Files, question: Question) -> Run:
+        """What is said of a question, in a run of its own."""
+        words = [*manner.words(files), f"--name={question.name[:NAME_MOST]}", f"--type={question.kind}"]
+        return self.run(words, files)
+
+    def judged_each(self, manner: Manner, files: Files, left: Time, memory: Optional[Memory]) -> Asked:
+        """What is said of each question of a file, which is one of the files."""
+        return Asked([self.path, *manner.words(files)], files.values(), left, memory)
+
 
 class Asking(NamedTuple):
-    """How questions are asked: the words of each run, the files that it keeps open, and for how many octets of answers
-    it has memory."""
+    """How questions are asked: the manner and the files of each run, and for how many octets of answers it has
+    memory."""
 
     program: Program
-    words: List[str]
+    manner: Manner
     files: Files
     left: Time
     octets: Optional[int]
@@ -126,12 +144,11 @@ class Asking(NamedTuple):
     def alone(self, question: Question) -> Told:
         if self.left.left <= 0:
             return of_late(self.left)
-        words = [*self.words, f"--name={question.name[:NAME_MOST]}", f"--type={question.kind}"]
-        done = self.program.run(words, self.files)
+        done = self.program.judged(self.manner, self.files, question)
         self.left.spend(done.seconds)
         if done.status in VERDICTS and done.output:
             return told_by(json.loads(done.output))
-        return told_without_verdict(done, self.words[0])
+        return told_without_verdict(done, self.manner.subcommand)
 
     def together(self, questions: List[Question]) -> Iterator[Told]:
         for first in range(0, len(questions), QUESTIONS_MOST):
@@ -154,10 +171,9 @@ class Asking(NamedTuple):
             questions = questions[len(ended) :]
 
     def run(self, questions: int) -> Asked:
-        words = [self.program.path, *self.words, *named({"questions": questions})]
         files = {**self.files, "questions": questions}
         memory = None if self.octets is None else memory_for(files, self.octets)
-        return Asked(words, files.values(), self.left, memory)
+        return self.program.judged_each(self.manner, files, self.left, memory)
 
     def end_of(self, run: Asked) -> Told:
         """What is told of a question that the run didn't answer."""
@@ -166,7 +182,7 @@ class Asking(NamedTuple):
         if run.is_full and run.memory:
             said = f"its answer takes more memory than the {run.memory.most:,} octets that it may; {MORE_OCTETS}"
             return Told(FAILED, "fault", None, f"- {said}")
-        return told_without_verdict(Run(run.status, "", run.errors), self.words[0])
+        return told_without_verdict(Run(run.status, "", run.errors), self.manner.subcommand)
 
 
 def memory_for(files: Files, octets: int) -> Optional[Memory]:

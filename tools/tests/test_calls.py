@@ -8,7 +8,8 @@ from pages.guarantees import CRATES, pages, rows, section
 USED = re.compile(r"^pub use ([^;]+);", re.MULTILINE)
 IMPL = re.compile(r"impl(?:<.*?>)? (?:(?:\w+::)*(\w+)(?:<.*?>)? for )?(\w+)")
 TRAIT = re.compile(r"pub trait (\w+)")
-FUNCTION, METHOD, DECLARED = (re.compile(f"{front}fn (\\w+)") for front in ("pub ", "    pub ", "    "))
+FUNCTION, METHOD, DECLARED = (re.compile(f"{front}fn (\\w+)") for front in ('pub (?:extern "C" )?', "    pub ", "    "))
+FOR_C = re.compile(r'^pub extern "C" fn (\w+)', re.MULTILINE)
 # In the last cell: lines of dnsv_rows, by the names that they begin with.
 ROWS = re.compile(r"rows ((?:`[^`]+`(?:, | and )?)+)")
 # How rows call a trait; what is told by none: views, marks of types, and the `From` that `?` calls.
@@ -21,9 +22,10 @@ def libraries():
 
 
 def exported(crate):
-    """The names that the root of the crate exports."""
+    """The names that the root of the crate exports, and those that it exports for C."""
     paths = USED.findall((CRATES / crate / "src" / "lib.rt").read_text())
-    return {name for path in paths for name in re.findall(r"(\w+)(?=\s*(?:[,}]|$))", path)}
+    for_c = {name for file in (CRATES / crate / "src").glob("*.rt") for name in FOR_C.findall(file.read_text())}
+    return for_c | {name for path in paths for name in re.findall(r"(\w+)(?=\s*(?:[,}]|$))", path)}
 
 
 def calls_in(text):

@@ -1,0 +1,104 @@
+-- What the numbers of a call ask of its octets, as the request of the program that says the same.
+use Rattle.std.specs.Prelude.{◌≡◌, ◌≤◌, ◌<◌, ◌^◌, ◌==◌, ◌&&◌, ⊤, Bool, ℕ, List, IsUtf8, string_bytes, Option, Some, None}
+use Rattle.dnsv_texts.specs.declared.format.Format.{Format}
+use Rattle.dnsv_texts.specs.declared.format.Format.TheVariants as format
+use Rattle.dnsv_files.specs.Moment.{IsMoment}
+use Rattle.dnsv_files.specs.Files.{Files}
+use Rattle.dnsv_program.specs.declared.command_line.request.Asking.{Asking}
+use Rattle.dnsv_program.specs.declared.command_line.request.Asking.TheVariants as asking
+use Rattle.dnsv_program.specs.declared.command_line.request.Known.{Known}
+use Rattle.dnsv_program.specs.declared.command_line.request.Known.TheVariants as known
+use Rattle.dnsv_program.specs.declared.command_line.request.Listing.{Listing}
+use Rattle.dnsv_program.specs.declared.command_line.request.Listing.TheVariants as listing
+use Rattle.dnsv_program.specs.declared.command_line.request.Request.{Request}
+use Rattle.dnsv_program.specs.declared.command_line.request.Request.TheVariants as request
+use Rattle.dnssec_check_c.specs.Octets.{given_octets}
+use Rattle.dnssec_check_c.specs.declared.options.Options.{Options}
+
+-- ---- numbers
+
+abbrev pub IsFormat : Format → ℕ → Type 0
+IsFormat format.Lines number = number ≡ 0
+IsFormat format.Json number = number ≡ 1
+
+abbrev pub IsListing : Listing → ℕ → Type 0
+IsListing listing.Open number = number ≡ 0
+IsListing listing.Compact number = number ≡ 1
+IsListing listing.All number = number ≡ 2
+
+-- what was verified are statements, or nothing, or answers
+abbrev pub IsKnown : Known → ℕ → Type 0
+IsKnown (known.Statements path) number = number ≤ 1
+IsKnown (known.Answers path) number = number ≡ 2
+
+-- The options name this moment and this format.
+pub record IsManner (options : Options) (moment : ℕ) (form : Format) : Type 0 where
+  pub at : moment ≡ options.moment
+  pub bound : IsMoment options.moment
+  pub written : IsFormat form options.format
+
+-- ---- requests
+
+abbrev pub AsksToShow : Request → Type 0
+AsksToShow (request.Show capture) = ⊤
+AsksToShow (request.List capture moment statements lists form) = ⊥
+AsksToShow (request.Check capture anchors moment asked knows keys macs form why) = ⊥
+
+abbrev pub AsksToList : Options → ℕ → Request → Type 0
+AsksToList options listed (request.Show capture) = ⊥
+AsksToList options listed (request.List capture moment statements lists form) =
+    IsListing lists listed × (options.verified ≤ 1) × IsManner options moment form
+AsksToList options listed (request.Check capture anchors moment asked knows keys macs form why) = ⊥
+
+-- one question: of a name, whose text is UTF-8, and a type
+abbrev pub AsksOne : Options → List ℕ → ℕ → Request → Type 0
+AsksOne options name rtype (request.Show capture) = ⊥
+AsksOne options name rtype (request.List capture moment statements lists form) = ⊥
+AsksOne options name rtype (request.Check capture anchors moment (asking.One asked number) knows keys macs form why) =
+    IsUtf8 name × (string_bytes asked ≡ name) × (rtype < 2 ^ 16) × (number.0 ≡ rtype)
+    × IsKnown knows options.verified × IsManner options moment form × (why ≡ options.why)
+AsksOne options name rtype (request.Check capture anchors moment (asking.Each questions) knows keys macs form why) = ⊥
+
+-- the questions of a text
+abbrev pub AsksEach : Options → Request → Type 0
+AsksEach options (request.Show capture) = ⊥
+AsksEach options (request.List capture moment statements lists form) = ⊥
+AsksEach options (request.Check capture anchors moment (asking.One asked number) knows keys macs form why) = ⊥
+AsksEach options (request.Check capture anchors moment (asking.Each questions) knows keys macs form why) =
+    IsKnown knows options.verified × IsManner options moment form × (why ≡ options.why)
+
+-- it asks this at the moment, in this form, and this says whether it asks why
+abbrev pub Judges : Asking → Known → ℕ → Format → Bool → Request → Type 0
+Judges asked held at form why (request.Show capture) = ⊥
+Judges asked held at form why (request.List capture moment statements lists format) = ⊥
+Judges asked held at form why (request.Check capture anchors moment asks knows keys macs format whether) =
+    (asks ≡ asked) × (knows ≡ held) × (moment ≡ at) × (format ≡ form) × (whether ≡ why)
+
+-- ---- files
+
+abbrev pub shown_files : List ℕ → Files
+shown_files capture = record
+    { capture = capture; anchors = None; statements = None; answers = None; keys = None; macs = None; questions = None }
+
+abbrev pub listed_files : Options → List ℕ → List ℕ → Files
+listed_files options capture verified = record {
+  capture = capture;
+  anchors = None;
+  statements = given_octets verified (options.verified == 1);
+  answers = None;
+  keys = None;
+  macs = None;
+  questions = None;
+}
+
+-- keys and MACs are given where the options say so, the MACs only with keys
+abbrev pub judged_files : Options → List ℕ → List ℕ → List ℕ → List ℕ → List ℕ → Option (List ℕ) → Files
+judged_files options capture anchors verified keys macs questions = record {
+  capture = capture;
+  anchors = Some anchors;
+  statements = given_octets verified (options.verified == 1);
+  answers = given_octets verified (options.verified == 2);
+  keys = given_octets keys options.has_keys;
+  macs = given_octets macs (options.has_keys && options.has_macs);
+  questions = questions;
+}

@@ -1,0 +1,87 @@
+//! The exports. C gives each slice as a pointer, which is never null, and a length.
+ghost use Rattle.std.specs.Prelude.{None, Some};
+ghost use Rattle.dnssec_check_c.specs.Asked.{AsksEach, AsksOne, AsksToList, AsksToShow, judged_files, listed_files, shown_files};
+ghost use Rattle.dnssec_check_c.specs.Ends.{CallEnds};
+
+use crate::calls::{check, check_each, list, show};
+use crate::options::Options;
+use crate::outcome::Outcome;
+use std::alloc::Global;
+
+/// Shows every message of the capture.
+#[unsafe(no_mangle)]
+pub extern "C" fn dnssec_check_c_show(
+    alloc: Global,
+    capture: &[u8],
+    buffer: &mut [u8],
+    outcome: &mut Outcome,
+) -> u32
+    ensures { CallEnds AsksToShow (shown_files capture.now) buffer.old buffer.new outcome.new result }
+{
+    show(alloc, capture, buffer, outcome)
+}
+
+/// Lists what `listed` names: 0 is the signatures that a verifier still has to check, 1 the same with each octet once, and
+/// 2 the signed octets of every signature, for which it doesn't matter what was verified.
+#[unsafe(no_mangle)]
+pub extern "C" fn dnssec_check_c_list(
+    alloc: Global,
+    capture: &[u8],
+    verified: &[u8],
+    options: &Options,
+    listed: u32,
+    buffer: &mut [u8],
+    outcome: &mut Outcome,
+) -> u32
+    ensures { CallEnds (AsksToList options.now listed) (listed_files options.now capture.now verified.now)
+        buffer.old buffer.new outcome.new result }
+{
+    list(alloc, capture, verified, options, listed, buffer, outcome)
+}
+
+/// Says what the capture proves of a question.
+#[unsafe(no_mangle)]
+pub extern "C" fn dnssec_check_c_check(
+    alloc: Global,
+    capture: &[u8],
+    anchors: &[u8],
+    verified: &[u8],
+    keys: &[u8],
+    macs: &[u8],
+    options: &Options,
+    name: &[u8],
+    rtype: u32,
+    buffer: &mut [u8],
+    outcome: &mut Outcome,
+) -> u32
+    ensures { CallEnds (AsksOne options.now name.now rtype)
+        (judged_files options.now capture.now anchors.now verified.now keys.now macs.now None)
+        buffer.old buffer.new outcome.new result }
+{
+    check(
+        alloc, capture, anchors, verified, keys, macs, options, name, rtype, buffer, outcome,
+    )
+}
+
+/// Says what the capture proves of each question of a text.
+#[unsafe(no_mangle)]
+pub extern "C" fn dnssec_check_c_check_each(
+    alloc: Global,
+    capture: &[u8],
+    anchors: &[u8],
+    verified: &[u8],
+    keys: &[u8],
+    macs: &[u8],
+    options: &Options,
+    questions: &[u8],
+    buffer: &mut [u8],
+    outcome: &mut Outcome,
+) -> u32
+    ensures { CallEnds (AsksEach options.now)
+        (judged_files options.now capture.now anchors.now verified.now keys.now macs.now (Some questions.now))
+        buffer.old buffer.new outcome.new result }
+{
+    check_each(
+        alloc, capture, anchors, verified, keys, macs, options, questions, buffer, outcome,
+    )
+}

@@ -1,0 +1,131 @@
+//! How a call asks.
+ghost use Rattle.std.specs.Prelude.{◌≡◌, ◌<◌, ◌≤◌, ◌^◌, ◌==◌, ◌&&◌, MatchOption, ℕ};
+ghost use Rattle.dnsv_texts.specs.declared.format.Format.{Format};
+ghost use Rattle.dnsv_program.specs.declared.command_line.request.Known.{Known};
+ghost use Rattle.dnsv_program.specs.declared.command_line.request.Listing.{Listing};
+ghost use Rattle.dnssec_check_c.specs.Asked.{IsFormat, IsKnown, IsListing, IsManner};
+
+use dnsv_files::Moment;
+use dnsv_names::RecordType;
+use dnsv_program::{Known, Listing};
+use dnsv_texts::Format;
+use std::alloc::Global;
+
+/// At which moment and by what a capture is judged, and how that is written.
+#[repr(C)]
+#[derive(Clone, Copy)]
+pub struct Options {
+    /// The moment in seconds since 1970, up to 2^48 - 1.
+    pub moment: u64,
+    /// What it says of signatures that were verified: 0 is nothing, 1 statements, 2 answers by number.
+    pub verified: u32,
+    /// How the text is written: 0 is lines, 1 JSON.
+    pub format: u32,
+    /// Whether it says besides why a verdict stands.
+    pub why: bool,
+    /// Whether keys are given, by which the messages were signed.
+    pub has_keys: bool,
+    /// Whether the MACs of requests are given. They are read where keys are.
+    pub has_macs: bool,
+}
+
+/// The moment, and how a text is written.
+#[derive(Clone, Copy)]
+pub struct Manner {
+    pub moment: Moment,
+    pub format: Format,
+}
+
+impl Options {
+    /// What the numbers name, where each names something.
+    pub fn manner(&self) -> Option<Manner>
+        ensures { MatchOption result ((moment : ℕ) (form : Format) → IsManner self.now moment form → ⊥)
+            (λ manner. IsManner self.now manner.moment manner.format) }
+    {
+        let Some(moment) = Moment::new(self.moment) else {
+            return None;
+        };
+        let Some(format) = format_of(self.format) else {
+            return None;
+        };
+        Some(Manner { moment, format })
+    }
+
+    /// The same of a list, which takes no answers.
+    pub fn list_manner(&self) -> Option<Manner>
+        ensures { MatchOption result ((moment : ℕ) (form : Format) → self.now.verified ≤ 1
+            → IsManner self.now moment form → ⊥)
+            (λ manner. (self.now.verified ≤ 1) × IsManner self.now manner.moment manner.format) }
+    {
+        if self.verified > 1 {
+            return None;
+        }
+        self.manner()
+    }
+
+    /// By what it is known which signatures are good, where the number names it.
+    pub fn known(&self, alloc: Global) -> Option<Known>
+        ensures { MatchOption result ((known : Known) → IsKnown known self.now.verified → ⊥)
+            (λ known. IsKnown known self.now.verified) }
+    {
+        match self.verified {
+            0 | 1 => Some(Known::Statements(None)),
+            2 => Some(Known::Answers(String::new(alloc))),
+            _ => None,
+        }
+    }
+
+    /// Whether statements are given.
+    pub fn has_statements(&self) -> bool
+        ensures { result ≡ (self.now.verified == 1) }
+    {
+        self.verified == 1
+    }
+
+    /// Whether answers by number are given.
+    pub fn has_answers(&self) -> bool
+        ensures { result ≡ (self.now.verified == 2) }
+    {
+        self.verified == 2
+    }
+
+    /// Whether the MACs of requests are read.
+    pub fn reads_macs(&self) -> bool
+        ensures { result ≡ (self.now.has_keys && self.now.has_macs) }
+    {
+        self.has_keys && self.has_macs
+    }
+}
+
+/// How a text is written.
+fn format_of(number: u32) -> Option<Format>
+    ensures { MatchOption result ((form : Format) → IsFormat form number → ⊥) (λ form. IsFormat form number) }
+{
+    match number {
+        0 => Some(Format::Lines),
+        1 => Some(Format::Json),
+        _ => None,
+    }
+}
+
+/// The type of a number up to 2^16 - 1.
+pub fn type_of(number: u32) -> Option<RecordType>
+    ensures { MatchOption result (2 ^ 16 ≤ number) (λ rtype. (number < 2 ^ 16) × (rtype.0 ≡ number)) }
+{
+    match u16::try_from(number) {
+        Ok(number) => Some(RecordType(number)),
+        Err(_) => None,
+    }
+}
+
+/// What a list has.
+pub fn listing_of(number: u32) -> Option<Listing>
+    ensures { MatchOption result ((lists : Listing) → IsListing lists number → ⊥) (λ lists. IsListing lists number) }
+{
+    match number {
+        0 => Some(Listing::Open),
+        1 => Some(Listing::Compact),
+        2 => Some(Listing::All),
+        _ => None,
+    }
+}

@@ -1,0 +1,32 @@
+"""The types of records by mnemonic."""
+import re
+from typing import Union
+
+from .faults import Misused
+
+# By the registry of IANA, without those that are obsolete or ask for several types.
+TABLE = """
+A=1 NS=2 CNAME=5 SOA=6 PTR=12 HINFO=13 MX=15 TXT=16 RP=17 AFSDB=18 SIG=24 KEY=25 AAAA=28 LOC=29 SRV=33 NAPTR=35
+KX=36 CERT=37 DNAME=39 APL=42 DS=43 SSHFP=44 IPSECKEY=45 RRSIG=46 NSEC=47 DNSKEY=48 DHCID=49 NSEC3=50
+NSEC3PARAM=51 TLSA=52 SMIMEA=53 HIP=55 CDS=59 CDNSKEY=60 OPENPGPKEY=61 CSYNC=62 ZONEMD=63 SVCB=64 HTTPS=65
+EUI48=108 EUI64=109 URI=256 CAA=257
+"""
+NUMBERS = {word: int(number) for word, number in (pair.split("=") for pair in TABLE.split())}
+UNKNOWN = re.compile(r"(?:TYPE)?([0-9]{1,5})")  # RFC 3597 5
+
+
+def type_number(kind: Union[str, int]) -> int:
+    """The number of a type by its number or as people write it.
+
+    >>> type_number("aaaa"), type_number("TYPE65"), type_number(16)
+    (28, 65, 16)
+    """
+    if isinstance(kind, int):
+        return kind
+    found = UNKNOWN.fullmatch(kind.upper())
+    if found:
+        return int(found[1])
+    try:
+        return NUMBERS[kind.upper()]
+    except KeyError:
+        raise Misused(f"{kind!r} is no type that is known here: write its number, as TYPE65") from None

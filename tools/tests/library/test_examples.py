@@ -1,0 +1,93 @@
+"""What the library says to each command line of the examples is what has to come of the program, octet for octet: from
+Python, and from C."""
+import pathlib
+import shutil
+import subprocess
+import tempfile
+import unittest
+
+from cases import examples
+from . import LIBRARY, MADE, SHARED
+
+FORMS = {"--all": 2, "--compact": 1}
+FILES = ("capture", "anchors", "statements", "answers", "keys", "macs", "questions")
+
+
+def asked():
+    """The examples whose command line is one, and whose files open."""
+    for example in examples():
+        if example.status != 2 and all(path.is_file() for path in example.files.values()):
+            yield example
+
+
+def pairs_of(example):
+    return dict(zip(example.words, example.words[1:]))
+
+
+def listing_of(example):
+    return next((FORMS[word] for word in example.words if word in FORMS), 0)
+
+
+def given_of(calls, example):
+    """What an example gives."""
+    octets = {option: path.read_bytes() for option, path in example.files.items()}
+    questions, pairs = octets.pop("questions", None), pairs_of(example)
+    if "keys" not in octets:
+        octets.pop("macs", None)
+    return calls.Given(moment=int(pairs.get("--moment", 0)), **octets), questions, pairs
+
+
+def answer_of(calls, example, given, questions, pairs):
+    if example.words[0] == "show":
+        return calls.show(given.capture)
+    if example.words[0] == "list":
+        return calls.listed(given, listing_of(example), int(example.is_json))
+    why = example.words[0] == "explain"
+    if questions is not None:
+        return calls.judged_each(given, questions, int(example.is_json), why)
+    return calls.judged(given, pairs["--name"].encode(errors="surrogateescape"), int(pairs["--type"]), int(example.is_json), why)
+
+
+@unittest.skipUnless(SHARED.exists(), "needs the library that `make library` builds")
+class Examples(unittest.TestCase):
+    def test_each_command_line_is_answered_as_by_the_program(self):
+        from dnssec_check import calls
+        from dnssec_check.faults import Fault
+
+        count = 0
+        for example in asked():
+            count += 1
+            with self.subTest(example.name):
+                for room in (1, 1 << 16):
+                    calls.ROOM_FIRST = room
+                    try:
+                        told = (*answer_of(calls, example, *given_of(calls, example)), b"")
+                    except Fault as fault:
+                        told = (7 if fault.word == "refused" else 1, b"", f"{fault}\n".encode())
+                    self.assertEqual(told, (example.status, example.output, example.errors))
+        self.assertGreater(count, 600)
+
+    @unittest.skipUnless(shutil.which("cc"), "needs cc")
+    def test_each_command_line_is_answered_in_c(self):
+        count = 0
+        with tempfile.TemporaryDirectory() as room:
+            program, source = pathlib.Path(room) / "asked", pathlib.Path(__file__).with_name("asked.c")
+            words = ["cc", "-Wall", "-Wextra", "-Werror", f"-I{LIBRARY}", source, MADE / "libdnssec_check.a", "-o", program]
+            subprocess.run(words, check=True)
+            for example in asked():
+                count += 1
+                with self.subTest(example.name):
+                    done = subprocess.run([program, *words_of(example)], capture_output=True, check=False)
+                    told = (done.returncode, done.stdout, done.stderr)
+                    self.assertEqual(told, (example.status, example.output, example.errors))
+        self.assertGreater(count, 600)
+
+
+def words_of(example):
+    pairs = pairs_of(example)
+    asks = pairs.get("--moment", "0"), pairs.get("--name", ""), pairs.get("--type", "0")
+    return [example.words[0], str(listing_of(example)), str(int(example.is_json)), *asks, *(example.files.get(each, "-") for each in FILES)]
+
+
+if __name__ == "__main__":
+    unittest.main()
