@@ -16,7 +16,17 @@ use Rattle.dnsv_explain.specs.Listing.{AreOfEach}
 use Rattle.dnsv_moments.specs.Dated.{AreDated}
 use Rattle.dnsv_timeline_texts.specs.declared.shown.ShownBorder.{ShownBorder}
 
--- this is what stands in the evidence for the signature with the number: its RRset, and what it names its key by
+-- a signature of the RRset, with the number and what it names its key by
+abbrev pub shown_of : SignatureNumber → ReceivedRrset → Rrsig → ShownSignature
+shown_of number rrset rrsig = record {
+  owner = rrset.owner;
+  rtype = record { 0 = rrset.rtype };
+  number = number;
+  key = record { tag = rrsig.key_tag; algorithm = rrsig.algorithm };
+  signer = rrsig.signer;
+}
+
+-- this is the signature with the number, as the evidence has it
 pub record IsSignatureShown (rrsets : List ReceivedRrset) (number : SignatureNumber) (shown : ShownSignature) : Type 0 where
   pub rrset : ReceivedRrset
   pub is_rrset : IsNumbered rrsets number.rrset rrset
@@ -24,12 +34,7 @@ pub record IsSignatureShown (rrsets : List ReceivedRrset) (number : SignatureNum
   pub is_signature : IsNumbered rrset.signatures number.signature rdata
   pub rrsig : Rrsig
   pub read : IsRrsig rdata rrsig
-  pub same : shown.number ≡ number
-  pub owner : shown.owner ≡ rrset.owner
-  pub rtype : shown.rtype.0 ≡ rrset.rtype
-  pub tag : shown.key.tag ≡ rrsig.key_tag
-  pub algorithm : shown.key.algorithm ≡ rrsig.algorithm
-  pub signer : shown.signer ≡ rrsig.signer
+  pub is : shown ≡ shown_of number rrset rrsig
 
 pub record IsBorderShown (rrsets : List ReceivedRrset) (border : Border) (shown : ShownBorder) : Type 0 where
   pub same : shown.border ≡ border

@@ -1,5 +1,5 @@
 //! The intervals of a timeline as they are shown.
-ghost use Rattle.std.specs.Prelude.{◌≡◌, IfOk};
+ghost use Rattle.std.specs.Prelude.{◌≡◌, ◌↔◌, IfOk, IsTrue};
 ghost use Rattle.dnsv_timeline_texts.specs.Following.{Follows};
 ghost use Rattle.dnsv_timeline_texts.specs.Pieces as specs;
 
@@ -65,16 +65,14 @@ fn next<'a>(
     capture: &Capture<'_>,
     kinds: bool,
     pieces: &mut Vec<Piece<'a>>,
-    mut piece: Piece<'a>,
+    piece: Piece<'a>,
     stretch: &'a Stretch<Said>,
 ) -> Result<Piece<'a>, AllocError>
-    ensures { IfOk result (λ next. Follows capture.now.rrsets kinds piece stretch.now pieces.old.items pieces.new.items
-        next) }
+    ensures { IfOk result (λ next. Follows capture.now.rrsets kinds piece.entry stretch.now pieces.old.items
+        pieces.new.items next) }
 {
-    if kinds && piece.last.kind() == stretch.said.kind() {
-        piece.to = stretch.to;
-        piece.last = &stretch.said;
-        return Ok(piece);
+    if are_joined(kinds, piece.last, &stretch.said) {
+        return Ok(longer(piece, stretch));
     }
     let borders = shown_borders(
         alloc,
@@ -98,4 +96,24 @@ fn begun<'a>(borders: Vec<ShownBorder>, stretch: &'a Stretch<Said>) -> Piece<'a>
         first: &stretch.said,
         last: &stretch.said,
     }
+}
+
+/// The same interval up to the end of the stretch.
+fn longer<'a>(piece: Piece<'a>, stretch: &'a Stretch<Said>) -> Piece<'a>
+    ensures { result ≡ specs.longer piece.entry stretch.now }
+{
+    Piece {
+        borders: piece.borders,
+        from: piece.from,
+        to: stretch.to,
+        first: piece.first,
+        last: &stretch.said,
+    }
+}
+
+/// Whether kinds are shown alone, and both have one kind.
+fn are_joined(kinds: bool, last: &Said, said: &Said) -> bool
+    ensures { IsTrue result ↔ specs.AreJoined kinds last.now said.now }
+{
+    kinds && last.kind() == said.kind()
 }

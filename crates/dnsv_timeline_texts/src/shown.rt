@@ -1,15 +1,16 @@
 //! Border lines: what is shown of a signature that ends or begins.
-ghost use Rattle.std.specs.Prelude.{◌≡◌, IfOk, MatchOption};
+ghost use Rattle.std.specs.Prelude.{◌≡◌, IfOk, MatchOption, OnOk};
+ghost use Rattle.dnsv_explain.specs.Listing.{AreOfEach};
 ghost use Rattle.dnsv_lines.specs.Sentence.{said_sentence};
 ghost use Rattle.dnsv_lines.specs.declared.line.fault.signature.ShownSignature.{ShownSignature};
-ghost use Rattle.dnsv_moments.specs.Dated.{AreDated};
-ghost use Rattle.dnsv_timeline_texts.specs.Shown.{AreBordersShown, AreShownAs, IsBorderShown, IsSignatureShown, border_row, edge_word};
+ghost use Rattle.dnsv_timeline_texts.specs.Following.{AddsShown};
+ghost use Rattle.dnsv_timeline_texts.specs.Shown as specs;
 ghost use Rattle.dnsv_timeline_texts.specs.declared.shown.ShownBorder.{ShownBorder};
-ghost use Rattle.dnsv_explain.specs.Listing.{AreOfEach};
 
 use dnsv_canonical::{Capture, Rrset, SignatureNumber, numbered};
 use dnsv_lines::{Field, KeyName, Sentence, ShownSignature, Value};
 use dnsv_moments::dated_signatures;
+use dnsv_records::Rrsig;
 use dnsv_timeline::{Border, Edge, borders_between};
 use std::alloc::{AllocError, Global};
 
@@ -23,7 +24,7 @@ pub struct ShownBorder {
 impl ShownBorder {
     /// The words and the fields of its line.
     pub fn sentence(&self) -> Sentence<'_>
-        ensures { said_sentence result ≡ border_row self.now }
+        ensures { said_sentence result ≡ specs.border_row self.now }
     {
         let shown = &self.signature;
         let times = self.border.signature.times;
@@ -56,7 +57,7 @@ impl ShownBorder {
 
 /// What the signature does, in a word.
 fn edge_word(edge: Edge) -> &'static str
-    ensures { result.now ≡ edge_word edge }
+    ensures { result.now ≡ specs.edge_word edge }
 {
     match edge {
         Edge::Ends => "ends",
@@ -73,11 +74,11 @@ pub fn shown_borders(
     by: &[SignatureNumber],
     from: u64,
 ) -> Result<Vec<ShownBorder>, AllocError>
-    ensures { IfOk result (λ shown. AreBordersShown capture.now.rrsets before.now by.now from shown.items) }
+    ensures { IfOk result (λ shown. specs.AreBordersShown capture.now.rrsets before.now by.now from shown.items) }
 {
-    let before = dated_signatures(alloc, capture, before)?;
-    let by = dated_signatures(alloc, capture, by)?;
-    let borders = borders_between(alloc, &before, &by, from)?;
+    let dated_before = dated_signatures(alloc, capture, before)?;
+    let dated_by = dated_signatures(alloc, capture, by)?;
+    let borders = borders_between(alloc, &dated_before, &dated_by, from)?;
     shown_each(alloc, capture.rrsets(), &borders)
 }
 
@@ -87,21 +88,34 @@ fn shown_each(
     rrsets: &[Rrset<'_>],
     borders: &[Border],
 ) -> Result<Vec<ShownBorder>, AllocError>
-    ensures { IfOk result (λ shown. AreOfEach (AreShownAs rrsets.now) borders.now shown.items) }
+    ensures { IfOk result (λ shown. AreOfEach (specs.AreShownAs rrsets.now) borders.now shown.items) }
 {
     let mut all = Vec::new(alloc);
     for border in borders {
-        if let Some(shown) = shown_border(rrsets, *border)? {
-            all.push(shown)?;
-        }
+        push_shown(&mut all, rrsets, *border)?;
     }
     Ok(all)
 }
 
+/// Adds what is shown of the border, where the evidence has its signature.
+fn push_shown(
+    all: &mut Vec<ShownBorder>,
+    rrsets: &[Rrset<'_>],
+    border: Border,
+) -> Result<(), AllocError>
+    ensures { OnOk result (AddsShown rrsets.now border all.old.items all.new.items) }
+{
+    let Some(shown) = shown_border(rrsets, border)? else {
+        return Ok(());
+    };
+    all.push(shown)?;
+    Ok(())
+}
+
 /// What is shown of the border; `None` where the evidence has no such signature.
 fn shown_border(rrsets: &[Rrset<'_>], border: Border) -> Result<Option<ShownBorder>, AllocError>
-    ensures { IfOk result (λ found. MatchOption found ((shown : ShownBorder) → ¬ IsBorderShown rrsets.now border shown)
-        (IsBorderShown rrsets.now border)) }
+    ensures { IfOk result (λ found. MatchOption found ((shown : ShownBorder) → ¬ specs.IsBorderShown rrsets.now border shown)
+        (specs.IsBorderShown rrsets.now border)) }
 {
     let Some(signature) = shown_signature(rrsets, border.signature.number)? else {
         return Ok(None);
@@ -109,13 +123,13 @@ fn shown_border(rrsets: &[Rrset<'_>], border: Border) -> Result<Option<ShownBord
     Ok(Some(ShownBorder { border, signature }))
 }
 
-/// What stands in the evidence for the signature with the number.
+/// What is shown of the signature with the number; `None` where the evidence has none.
 fn shown_signature(
     rrsets: &[Rrset<'_>],
     number: SignatureNumber,
 ) -> Result<Option<ShownSignature>, AllocError>
     ensures { IfOk result (λ found. MatchOption found
-        ((shown : ShownSignature) → ¬ IsSignatureShown rrsets.now number shown) (IsSignatureShown rrsets.now number)) }
+        ((shown : ShownSignature) → ¬ specs.IsSignatureShown rrsets.now number shown) (specs.IsSignatureShown rrsets.now number)) }
 {
     let Some(rrset) = numbered(rrsets, number.rrset) else {
         return Ok(None);
@@ -123,7 +137,18 @@ fn shown_signature(
     let Some(rrsig) = numbered(rrset.signatures(), number.signature) else {
         return Ok(None);
     };
-    Ok(Some(ShownSignature {
+    Ok(Some(shown_of(number, rrset, rrsig)?))
+}
+
+/// A signature of the RRset, with the number and what it names its key by.
+fn shown_of(
+    number: SignatureNumber,
+    rrset: &Rrset<'_>,
+    rrsig: &Rrsig<'_>,
+) -> Result<ShownSignature, AllocError>
+    ensures { IfOk result (λ shown. shown ≡ specs.shown_of number rrset.now rrsig.now) }
+{
+    Ok(ShownSignature {
         owner: rrset.owner().clone()?,
         rtype: rrset.rtype(),
         number,
@@ -132,5 +157,5 @@ fn shown_signature(
             algorithm: rrsig.algorithm,
         },
         signer: rrsig.signer.to_name(),
-    }))
+    })
 }
