@@ -92,7 +92,7 @@ fn shown_each(
 {
     let mut all = Vec::new(alloc);
     for border in borders {
-        push_shown(&mut all, rrsets, *border)?;
+        push_shown(&mut all, rrsets, border)?;
     }
     Ok(all)
 }
@@ -101,11 +101,11 @@ fn shown_each(
 fn push_shown(
     all: &mut Vec<ShownBorder>,
     rrsets: &[Rrset<'_>],
-    border: Border,
+    border: &Border,
 ) -> Result<(), AllocError>
-    ensures { OnOk result (AddsShown rrsets.now border all.old.items all.new.items) }
+    ensures { OnOk result (AddsShown rrsets.now border.now all.old.items all.new.items) }
 {
-    let Some(shown) = shown_border(rrsets, border)? else {
+    let Some(shown) = shown_border(rrsets, *border)? else {
         return Ok(());
     };
     all.push(shown)?;
