@@ -1,11 +1,10 @@
 -- The intervals of a timeline, one stretch after another.
-use Rattle.std.proofs.Common.{◌≡◌, ℕ, ◌+◌, ◌⊎◌, Bool, inl, inr, List, [], ◌∷◌, ◌++◌, drop, refl, sym, ap, ◌∙◌, subst, append_assoc, ⊎_elim}
+use Rattle.std.proofs.Common.{◌≡◌, ℕ, ◌+◌, Bool, inl, inr, List, [], ◌∷◌, ◌++◌, drop, refl, sym, ap, ◌∙◌, subst, append_assoc}
 use Rattle.dnsv_canonical.specs.Rrsets.{ReceivedRrset}
 use Rattle.dnsv_timeline.specs.declared.stretch.Stretch.{Stretch}
 use Rattle.dnsv_timeline_laws.specs.Said.{Said}
 use Rattle.dnsv_timeline_texts.specs.Following.{Follows}
-use Rattle.dnsv_timeline_texts.specs.Pieces.{AreJoined, ArePieces, GoOn, Piece, begun, longer}
-use Rattle.dnsv_timeline_texts.specs.Shown.{AreBordersShown}
+use Rattle.dnsv_timeline_texts.specs.Pieces.{ArePieces, GoOn, Piece, begun, longer}
 use Rattle.dnsv_timeline_texts.specs.declared.shown.ShownBorder.{ShownBorder}
 
 module _ (rrsets : List ReceivedRrset) (kinds : Bool) (stretches others : List (Stretch Said)) where

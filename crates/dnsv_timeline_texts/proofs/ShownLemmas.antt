@@ -13,7 +13,7 @@ use Rattle.dnsv_derivations.proofs.lemmas.intervals.ShownLemmas.{rdata_at}
 use Rattle.dnsv_explain.specs.Listing.{AreOfEach}
 use Rattle.dnsv_moments.proofs.DatedLemmas.{none_dated}
 use Rattle.dnsv_timeline_texts.specs.Following.{AddsShown}
-use Rattle.dnsv_timeline_texts.specs.Shown.{AreShownAs, IsBorderShown, IsSignatureShown, shown_of}
+use Rattle.dnsv_timeline_texts.specs.Shown.{AreShownAs, IsSignatureShown, shown_of}
 use Rattle.dnsv_timeline_texts.specs.declared.shown.ShownBorder.{ShownBorder}
 
 -- ---- each of a list

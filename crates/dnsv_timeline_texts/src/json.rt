@@ -1,7 +1,7 @@
 //! The JSON of a timeline.
-ghost use Rattle.std.specs.Prelude.{◌≡◌, ◌++◌, ◌∷◌, [], Some, codes, false, map, true, IfOk, OnOk, string_bytes};
+ghost use Rattle.std.specs.Prelude.{◌≡◌, ◌++◌, ◌∷◌, [], codes, false, map, true, IfOk, OnOk, string_bytes};
 ghost use Rattle.std.specs.List.{flat_map};
-ghost use Rattle.dnsv_lines.specs.Json.{array, member, parted, still_first};
+ghost use Rattle.dnsv_lines.specs.Json.{parted, still_first};
 ghost use Rattle.dnsv_texts.specs.declared.format.Format.TheVariants.{Json};
 ghost use Rattle.dnsv_timeline_texts.specs.Shown.{border_json};
 ghost use Rattle.dnsv_timeline_texts.specs.Text as specs;

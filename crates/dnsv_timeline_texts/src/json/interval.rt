@@ -1,6 +1,6 @@
 //! The JSON of intervals.
-ghost use Rattle.std.specs.Prelude.{◌≡◌, ◌++◌, ◌∷◌, [], codes, false, map, true, OnOk, string_bytes};
-ghost use Rattle.dnsv_lines.specs.Json.{array, parted};
+ghost use Rattle.std.specs.Prelude.{◌≡◌, ◌++◌, ◌∷◌, [], false, map, true, OnOk, string_bytes};
+ghost use Rattle.dnsv_lines.specs.Json.{parted};
 ghost use Rattle.dnsv_timeline_texts.specs.Text as specs;
 
 use crate::pieces::Piece;
