@@ -1,0 +1,3 @@
+mod PieceLemmas
+mod ShownLemmas
+mod TextLemmas

@@ -1,0 +1,4 @@
+pub mod Following
+pub mod Pieces
+pub mod Shown
+pub mod Text
