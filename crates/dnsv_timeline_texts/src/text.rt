@@ -15,8 +15,11 @@ use std::alloc::{AllocError, Global};
 /// What a timeline is asked of.
 #[derive(Clone, Copy)]
 pub struct Question<'a> {
+    /// The name that is asked for.
     pub name: &'a Name,
+    /// The type that is asked for.
     pub rtype: RecordType,
+    /// The moments that the timeline is of.
     pub range: Range,
 }
 
