@@ -2,17 +2,20 @@
 
 pub mod parse;
 
-ghost use Rattle.std.specs.Prelude.{◌≡◌, ◌+◌, ◌*◌, ◌<◌, ◌≤◌, ◌++◌, ◌∷◌, [], Some, length};
+ghost use Rattle.std.specs.Prelude.{◌≡◌, ◌+◌, ◌*◌, ◌<◌, ◌≤◌, ◌++◌, ◌∷◌, [], Some, IsTrue, IfSome, length};
 ghost use Rattle.arrayvec.specs.ArrayString.{array_string_len};
 ghost use Rattle.dnsv_names.specs.Text.{octet_text, label_text, text_of};
 
 use crate::name::{Name, WIRE_LIMIT};
 use crate::order::{behind_label, first_label};
 use arrayvec::ArrayString;
-use std::fmt;
+use std::{fmt, str};
 
 /// No text of a name has more octets: each octet but the root's takes four at most.
 pub const TEXT_LIMIT: usize = 4 * (WIRE_LIMIT - 1);
+
+/// Of fewer octets it takes less to push each by itself than to look whether all are plain.
+const RUN_LEAST: usize = 8;
 
 impl Name {
     /// The text of the name: each label and a dot, the root as `.`. A dot and a backslash within a label have a
@@ -50,10 +53,50 @@ pub fn push_label<const N: usize>(text: &mut ArrayString<N>, label: &[u8])
     ensures text { text.new.bytes ≡ text.old.bytes ++ (label_text label.now ++ 46 ∷ []) }
     ensures length { array_string_len text.new ≤ array_string_len text.old + 4 * length label.now + 1 }
 {
-    for octet in label {
-        push_octet(text, *octet);
+    match plain_text(label) {
+        Some(run) => text.push_str(run),
+        None => push_octets(text, label),
     }
     text.push('.');
+}
+
+/// The octets as a text where each stands as it is, and they are many enough to be pushed at once.
+fn plain_text(octets: &[u8]) -> Option<&str>
+    ensures { IfSome result (λ run. (run.now ≡ octets.now) × (label_text octets.now ≡ octets.now)) }
+{
+    if octets.len() < RUN_LEAST || !are_plain(octets) {
+        return None;
+    }
+    str::from_utf8(octets).ok()
+}
+
+/// Whether each octet stands as it is. The loop has no branch, so that many are tested at once.
+fn are_plain(octets: &[u8]) -> bool
+    ensures { IsTrue result → label_text octets.now ≡ octets.now }
+{
+    let mut plain = true;
+    for octet in octets {
+        plain &= is_plain(*octet);
+    }
+    plain
+}
+
+/// Whether the octet stands as it is.
+fn is_plain(octet: u8) -> bool
+    ensures { IsTrue result → octet_text octet ≡ octet ∷ [] }
+{
+    (b'!' <= octet) & (octet <= b'~') & (octet != b'.') & (octet != b'\\')
+}
+
+/// Adds the text of each octet.
+fn push_octets<const N: usize>(text: &mut ArrayString<N>, octets: &[u8])
+    requires { array_string_len text.old + 4 * length octets.now ≤ N }
+    ensures text { text.new.bytes ≡ text.old.bytes ++ label_text octets.now }
+    ensures length { array_string_len text.new ≤ array_string_len text.old + 4 * length octets.now }
+{
+    for octet in octets {
+        push_octet(text, *octet);
+    }
 }
 
 /// Adds the text of an octet.
