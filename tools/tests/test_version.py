@@ -6,7 +6,7 @@ from tool import PROGRAM, TOOLS, run_program
 from dnssec_check_tools.command import VERSION
 
 TOP = TOOLS.parent
-COMMANDS = TOP / "crates" / "dnsv_program" / "src" / "command_line" / "commands.rt"
+COMMANDS = TOP / "crates" / "dnsv_commands" / "src" / "commands.rt"
 
 
 class Version(unittest.TestCase):

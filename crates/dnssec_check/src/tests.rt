@@ -24,6 +24,7 @@ mod desk;
 mod explaining;
 mod key_files;
 mod listing;
+mod misuse;
 mod names;
 mod questions;
 mod showing;
@@ -93,6 +94,11 @@ fn reads_key_files_as_the_rows_say(rt: HostRuntime) -> Result<(), Fail> {
 #[test]
 fn reads_command_lines_as_the_rows_say(rt: HostRuntime) -> Result<(), Fail> {
     meets(&rt, command_line::SHARED, command_line::ROWS)
+}
+
+#[test]
+fn refuses_words_that_are_no_command(rt: HostRuntime) -> Result<(), Fail> {
+    meets(&rt, "", misuse::ROWS)
 }
 
 #[test]

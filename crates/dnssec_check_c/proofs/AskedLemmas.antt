@@ -2,11 +2,11 @@
 use Rattle.std.proofs.Common.{◌≡◌, ◌<◌, ◌^◌, ℕ, List, subst, sym, string_bytes}
 use Rattle.std.specs.Prelude.{⊤, IsUtf8}
 use Rattle.dnsv_texts.specs.declared.format.Format.{Format}
-use Rattle.dnsv_program.specs.declared.command_line.request.Asking.{Asking}
-use Rattle.dnsv_program.specs.declared.command_line.request.Asking.TheVariants as asking
-use Rattle.dnsv_program.specs.declared.command_line.request.Known.{Known}
-use Rattle.dnsv_program.specs.declared.command_line.request.Request.{Request}
-use Rattle.dnsv_program.specs.declared.command_line.request.Request.TheVariants as request
+use Rattle.dnsv_commands.specs.declared.request.Asking.{Asking}
+use Rattle.dnsv_commands.specs.declared.request.Asking.TheVariants as asking
+use Rattle.dnsv_commands.specs.declared.request.Known.{Known}
+use Rattle.dnsv_commands.specs.declared.request.Request.{Request}
+use Rattle.dnsv_commands.specs.declared.request.Request.TheVariants as request
 use Rattle.dnssec_check_c.specs.Asked.{AsksEach, AsksOne, IsKnown, IsManner, Judges}
 use Rattle.dnssec_check_c.specs.declared.options.Options.{Options}
 
@@ -29,6 +29,8 @@ pub one_asked : (options : Options) (name : List ℕ) (rtype : ℕ) (asks : Aski
     → AsksOne options name rtype asked
 one_asked options name rtype asks held moment form (request.Show capture) judges is utf8 low known manner = absurd judges
 one_asked options name rtype asks held moment form (request.List capture at statements lists written) judges is utf8 low known manner = absurd judges
+one_asked options name rtype asks held moment form (request.ListRange capture from to statements each written) judges is utf8 low known manner = absurd judges
+one_asked options name rtype asks held moment form (request.Timeline capture anchors from to text kind knows kinds written) judges is utf8 low known manner = absurd judges
 one_asked options name rtype asks held moment form (request.Check capture anchors at (asking.Each questions) knows keys macs written why) judges is utf8 low known manner =
     absurd (subst (λ (each : Asking). IsOne name rtype each) (sym judges.0) is)
 one_asked options name rtype asks held moment form (request.Check capture anchors at (asking.One text kind) knows keys macs written why) judges is utf8 low known manner =
@@ -40,6 +42,8 @@ pub each_asked : (options : Options) (asks : Asking) (held : Known) (moment : �
     → Judges asks held moment form options.why asked → AreMany asks → IsKnown held options.verified → IsManner options moment form → AsksEach options asked
 each_asked options asks held moment form (request.Show capture) judges are known manner = absurd judges
 each_asked options asks held moment form (request.List capture at statements lists written) judges are known manner = absurd judges
+each_asked options asks held moment form (request.ListRange capture from to statements each written) judges are known manner = absurd judges
+each_asked options asks held moment form (request.Timeline capture anchors from to text kind knows kinds written) judges are known manner = absurd judges
 each_asked options asks held moment form (request.Check capture anchors at (asking.One text kind) knows keys macs written why) judges are known manner =
     absurd (subst AreMany (sym judges.0) are)
 each_asked options asks held moment form (request.Check capture anchors at (asking.Each questions) knows keys macs written why) judges are known manner =

@@ -4,9 +4,9 @@ use Rattle.std.specs.Prelude.{Err, Result}
 use Rattle.dnsv_files.specs.Files.{Files}
 use Rattle.dnsv_files.specs.Files.Faults.{OfFailedRead, OfOctets}
 use Rattle.dnsv_program.specs.Run.{AsksRefused, IsFirstFault, IsReached, IsTextAskedFor}
-use Rattle.dnsv_program.specs.declared.command_line.request.Asking.TheVariants as asking
-use Rattle.dnsv_program.specs.declared.command_line.request.Request.{Request}
-use Rattle.dnsv_program.specs.declared.command_line.request.Request.TheVariants as request
+use Rattle.dnsv_commands.specs.declared.request.Asking.TheVariants as asking
+use Rattle.dnsv_commands.specs.declared.request.Request.{Request}
+use Rattle.dnsv_commands.specs.declared.request.Request.TheVariants as request
 use Rattle.dnsv_files.specs.declared.status.Fault.{Fault}
 use Rattle.dnsv_files.specs.declared.status.Fault.TheVariants as fault
 use Rattle.dnsv_files.specs.declared.status.InputFile.{InputFile}
@@ -38,6 +38,13 @@ fault_ends asked files (fault.Refused why place) first reached opened tells = in
 refused_alone : (asked : Request) (refused : Fault) → AsksRefused asked refused → in_memory refused ≡ refused
 refused_alone (request.Show capture) refused is = absurd is
 refused_alone (request.List capture moment statements lists form) refused is = absurd is
+refused_alone (request.ListRange capture from to statements listed form) refused is = absurd is
+refused_alone (request.Timeline capture anchors from to asked rtype knows kinds form) fault.OutOfMemory is = absurd is
+refused_alone (request.Timeline capture anchors from to asked rtype knows kinds form) fault.WriteFailed is = absurd is
+refused_alone (request.Timeline capture anchors from to asked rtype knows kinds form) (fault.ReadFailed file) is = absurd is
+refused_alone (request.Timeline capture anchors from to asked rtype knows kinds form) (fault.TooLong file) is = absurd is
+refused_alone (request.Timeline capture anchors from to asked rtype knows kinds form) (fault.OpenFailed file) is = absurd is
+refused_alone (request.Timeline capture anchors from to asked rtype knows kinds form) (fault.Refused reason place) is = refl
 refused_alone (request.Check capture anchors moment (asking.Each questions) knows keys macs form why) refused is = absurd is
 refused_alone (request.Check capture anchors moment (asking.One name rtype) knows keys macs form why) fault.OutOfMemory is = absurd is
 refused_alone (request.Check capture anchors moment (asking.One name rtype) knows keys macs form why) fault.WriteFailed is = absurd is

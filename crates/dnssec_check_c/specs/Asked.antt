@@ -4,14 +4,15 @@ use Rattle.dnsv_texts.specs.declared.format.Format.{Format}
 use Rattle.dnsv_texts.specs.declared.format.Format.TheVariants as format
 use Rattle.dnsv_files.specs.Moment.{IsMoment}
 use Rattle.dnsv_files.specs.Files.{Files}
-use Rattle.dnsv_program.specs.declared.command_line.request.Asking.{Asking}
-use Rattle.dnsv_program.specs.declared.command_line.request.Asking.TheVariants as asking
-use Rattle.dnsv_program.specs.declared.command_line.request.Known.{Known}
-use Rattle.dnsv_program.specs.declared.command_line.request.Known.TheVariants as known
-use Rattle.dnsv_program.specs.declared.command_line.request.Listing.{Listing}
-use Rattle.dnsv_program.specs.declared.command_line.request.Listing.TheVariants as listing
-use Rattle.dnsv_program.specs.declared.command_line.request.Request.{Request}
-use Rattle.dnsv_program.specs.declared.command_line.request.Request.TheVariants as request
+use Rattle.dnsv_commands.specs.declared.request.Asking.{Asking}
+use Rattle.dnsv_commands.specs.declared.request.Asking.TheVariants as asking
+use Rattle.dnsv_commands.specs.declared.request.Form.TheVariants as form
+use Rattle.dnsv_commands.specs.declared.request.Known.{Known}
+use Rattle.dnsv_commands.specs.declared.request.Known.TheVariants as known
+use Rattle.dnsv_commands.specs.declared.request.Listing.{Listing}
+use Rattle.dnsv_commands.specs.declared.request.Listing.TheVariants as listing
+use Rattle.dnsv_commands.specs.declared.request.Request.{Request}
+use Rattle.dnsv_commands.specs.declared.request.Request.TheVariants as request
 use Rattle.dnssec_check_c.specs.Octets.{given_octets}
 use Rattle.dnssec_check_c.specs.declared.options.Options.{Options}
 
@@ -22,8 +23,8 @@ IsFormat format.Lines number = number ≡ 0
 IsFormat format.Json number = number ≡ 1
 
 abbrev pub IsListing : Listing → ℕ → Type 0
-IsListing listing.Open number = number ≡ 0
-IsListing listing.Compact number = number ≡ 1
+IsListing (listing.Todo form.Whole) number = number ≡ 0
+IsListing (listing.Todo form.Compact) number = number ≡ 1
 IsListing listing.All number = number ≡ 2
 
 -- what was verified are statements, or nothing, or answers
@@ -42,18 +43,24 @@ pub record IsManner (options : Options) (moment : ℕ) (form : Format) : Type 0 
 abbrev pub AsksToShow : Request → Type 0
 AsksToShow (request.Show capture) = ⊤
 AsksToShow (request.List capture moment statements lists form) = ⊥
+AsksToShow (request.ListRange capture from to statements listed form) = ⊥
+AsksToShow (request.Timeline capture anchors from to spelled rtype knows kinds form) = ⊥
 AsksToShow (request.Check capture anchors moment asked knows keys macs form why) = ⊥
 
 abbrev pub AsksToList : Options → ℕ → Request → Type 0
 AsksToList options listed (request.Show capture) = ⊥
 AsksToList options listed (request.List capture moment statements lists form) =
     IsListing lists listed × (options.verified ≤ 1) × IsManner options moment form
+AsksToList options listed (request.ListRange capture from to statements each form) = ⊥
+AsksToList options listed (request.Timeline capture anchors from to spelled rtype knows kinds form) = ⊥
 AsksToList options listed (request.Check capture anchors moment asked knows keys macs form why) = ⊥
 
 -- one question: of a name, whose text is UTF-8, and a type
 abbrev pub AsksOne : Options → List ℕ → ℕ → Request → Type 0
 AsksOne options name rtype (request.Show capture) = ⊥
 AsksOne options name rtype (request.List capture moment statements lists form) = ⊥
+AsksOne options name rtype (request.ListRange capture from to statements listed form) = ⊥
+AsksOne options name rtype (request.Timeline capture anchors from to spelled number knows kinds form) = ⊥
 AsksOne options name rtype (request.Check capture anchors moment (asking.One asked number) knows keys macs form why) =
     IsUtf8 name × (string_bytes asked ≡ name) × (rtype < 2 ^ 16) × (number.0 ≡ rtype)
     × IsKnown knows options.verified × IsManner options moment form × (why ≡ options.why)
@@ -63,6 +70,8 @@ AsksOne options name rtype (request.Check capture anchors moment (asking.Each qu
 abbrev pub AsksEach : Options → Request → Type 0
 AsksEach options (request.Show capture) = ⊥
 AsksEach options (request.List capture moment statements lists form) = ⊥
+AsksEach options (request.ListRange capture from to statements listed form) = ⊥
+AsksEach options (request.Timeline capture anchors from to spelled rtype knows kinds form) = ⊥
 AsksEach options (request.Check capture anchors moment (asking.One asked number) knows keys macs form why) = ⊥
 AsksEach options (request.Check capture anchors moment (asking.Each questions) knows keys macs form why) =
     IsKnown knows options.verified × IsManner options moment form × (why ≡ options.why)
@@ -71,6 +80,8 @@ AsksEach options (request.Check capture anchors moment (asking.Each questions) k
 abbrev pub Judges : Asking → Known → ℕ → Format → Bool → Request → Type 0
 Judges asked held at form why (request.Show capture) = ⊥
 Judges asked held at form why (request.List capture moment statements lists format) = ⊥
+Judges asked held at form why (request.ListRange capture from to statements listed format) = ⊥
+Judges asked held at form why (request.Timeline capture anchors from to spelled rtype knows kinds format) = ⊥
 Judges asked held at form why (request.Check capture anchors moment asks knows keys macs format whether) =
     (asks ≡ asked) × (knows ≡ held) × (moment ≡ at) × (format ≡ form) × (whether ≡ why)
 

@@ -3,7 +3,7 @@ use Rattle.std.specs.Prelude.{◌≡◌, ◌⊎◌, ◌≤◌, ◌<◌, ◌++◌
 use Rattle.dnsv_files.specs.Files.{Files}
 use Rattle.dnsv_program.specs.Run.{AsksRefused, IsFirstFault, IsReached, IsTextAskedFor}
 use Rattle.dnsv_files.specs.Status.{fault_code, fault_number, status_code}
-use Rattle.dnsv_program.specs.declared.command_line.request.Request.{Request}
+use Rattle.dnsv_commands.specs.declared.request.Request.{Request}
 use Rattle.dnsv_files.specs.declared.status.Fault.{Fault}
 use Rattle.dnsv_files.specs.declared.status.Fault.TheVariants as fault
 use Rattle.dnsv_files.specs.declared.status.InputFile.{InputFile}

@@ -1,13 +1,13 @@
 //! How a call asks.
 ghost use Rattle.std.specs.Prelude.{◌≡◌, ◌<◌, ◌≤◌, ◌^◌, ◌==◌, ◌&&◌, MatchOption, ℕ};
 ghost use Rattle.dnsv_texts.specs.declared.format.Format.{Format};
-ghost use Rattle.dnsv_program.specs.declared.command_line.request.Known.{Known};
-ghost use Rattle.dnsv_program.specs.declared.command_line.request.Listing.{Listing};
+ghost use Rattle.dnsv_commands.specs.declared.request.Known.{Known};
+ghost use Rattle.dnsv_commands.specs.declared.request.Listing.{Listing};
 ghost use Rattle.dnssec_check_c.specs.Asked.{IsFormat, IsKnown, IsListing, IsManner};
 
 use dnsv_files::Moment;
 use dnsv_names::RecordType;
-use dnsv_program::{Known, Listing};
+use dnsv_program::{Form, Known, Listing};
 use dnsv_texts::Format;
 use std::alloc::Global;
 
@@ -123,8 +123,8 @@ pub fn listing_of(number: u32) -> Option<Listing>
     ensures { MatchOption result ((lists : Listing) → IsListing lists number → ⊥) (λ lists. IsListing lists number) }
 {
     match number {
-        0 => Some(Listing::Open),
-        1 => Some(Listing::Compact),
+        0 => Some(Listing::Todo(Form::Whole)),
+        1 => Some(Listing::Todo(Form::Compact)),
         2 => Some(Listing::All),
         _ => None,
     }

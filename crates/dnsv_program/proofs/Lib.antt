@@ -1,8 +1,8 @@
 mod AskingLemmas
-pub mod CommandLineLemmas
 mod JudgedLemmas
 pub mod LawLemmas
 pub mod ProgramLemmas
+pub mod QuestionLemmas
 pub mod ReachedLemmas
 mod TakenLemmas
 pub mod WorkLemmas

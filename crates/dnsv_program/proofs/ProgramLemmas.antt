@@ -6,7 +6,7 @@ use Rattle.std.proofs.Common.{◌≡◌, ◌⊎◌, ◌↔◌, ℕ, Bool, true, 
 use Rattle.std.specs.Prelude.{Result, Ok, Err, IfErr, IfOk, IfSome}
 use Rattle.std.specs.Io.KnownBytes.{Appends}
 use Rattle.dnsv_message.specs.Streams.Counted.{AppendsBeginning}
-use Rattle.dnsv_program.specs.declared.command_line.request.Request.{Request}
+use Rattle.dnsv_commands.specs.declared.request.Request.{Request}
 use Rattle.dnsv_files.specs.declared.status.Status.{Status}
 use Rattle.dnsv_files.specs.declared.status.Status.TheVariants.{Done, Insecure, Pending, Bogus, Indeterminate, Refused}
 use Rattle.dnsv_files.specs.declared.status.Fault.{Fault}
@@ -14,9 +14,9 @@ use Rattle.dnsv_files.specs.declared.status.Fault.TheVariants as fault
 use Rattle.dnsv_files.specs.declared.status.Place.{Place}
 use Rattle.dnsv_files.specs.declared.status.Refusal.{Refusal}
 use Rattle.dnsv_files.specs.Files.{Files}
-use Rattle.dnsv_program.specs.CommandLine.{IsAccepted}
+use Rattle.dnsv_commands.specs.CommandLine.{IsAccepted}
 use Rattle.dnsv_program.specs.Program.{AreFilesAt, BeganText, IsEnd, RefusedFiles, RefusedWords, WroteFirst, WroteRefused, WroteText, first_unopened, given_path, paths_of}
-use Rattle.dnsv_program.specs.CommandLine.Paths.{anchors_of, answers_of, capture_of, keys_of, macs_of, questions_of, statements_of}
+use Rattle.dnsv_commands.specs.Paths.{anchors_of, answers_of, capture_of, keys_of, macs_of, questions_of, statements_of}
 use Rattle.dnsv_files.specs.Told.{IsOpenFault, IsUnopened}
 use Rattle.dnsv_files.specs.declared.status.InputFile.{InputFile}
 use Rattle.dnsv_files.specs.declared.status.InputFile.TheVariants.{Anchors, Answers, Capture, Keys, Macs, Questions, Statements}

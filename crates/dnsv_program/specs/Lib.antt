@@ -1,5 +1,5 @@
-pub mod CommandLine
 pub mod Layers
 pub mod Program
+pub mod Question
 pub mod Run
 pub mod Work

@@ -5,8 +5,8 @@ use Rattle.std.specs.Io.KnownBytes.{Appends}
 use Rattle.dnsv_message.specs.Streams.Counted.{AppendsBeginning, failures_of, inner_of}
 use Rattle.dnsv_message.specs.declared.streams.counted.Counted.{Counted}
 use Rattle.clap.specs.Words.{Text}
-use Rattle.dnsv_program.specs.declared.command_line.request.Request.{Request}
-use Rattle.dnsv_program.specs.declared.command_line.CommandLineError.{CommandLineError}
+use Rattle.dnsv_commands.specs.declared.request.Request.{Request}
+use Rattle.dnsv_commands.specs.declared.command_line.CommandLineError.{CommandLineError}
 use Rattle.dnsv_files.specs.declared.status.Fault.{Fault}
 use Rattle.dnsv_files.specs.declared.status.Fault.TheVariants as fault
 use Rattle.dnsv_files.specs.declared.status.InputFile.{InputFile}
@@ -17,8 +17,8 @@ use Rattle.dnsv_files.specs.declared.status.Place.{Place}
 use Rattle.dnsv_files.specs.declared.status.Refusal.{Refusal}
 use Rattle.dnsv_files.specs.Files.Faults.{OfFailedRead, OfOctets}
 use Rattle.dnsv_files.specs.Files.{Files}
-use Rattle.dnsv_program.specs.CommandLine.{IsAccepted, IsRefused, command_line_code}
-use Rattle.dnsv_program.specs.CommandLine.Paths.{anchors_of, answers_of, capture_of, keys_of, macs_of, questions_of, statements_of}
+use Rattle.dnsv_commands.specs.CommandLine.{IsAccepted, IsRefused, command_line_code}
+use Rattle.dnsv_commands.specs.Paths.{anchors_of, answers_of, capture_of, keys_of, macs_of, questions_of, statements_of}
 use Rattle.dnsv_program.specs.Run.{AsksMany, AsksRefused, IsTextAskedFor, IsTextOfFirst, IsFirstFault, IsReached}
 use Rattle.dnsv_files.specs.Status.{fault_line, status_code}
 

@@ -7,11 +7,11 @@ use Rattle.dnsv_canonical.specs.Rrsets.{IsQuestion, ReceivedRrset}
 use Rattle.dnsv_chain.specs.declared.anchor.Anchor.{Anchor}
 use Rattle.dnsv_files.specs.declared.opening.Opening.{Opening}
 use Rattle.dnsv_files.specs.declared.opening.Opening.TheVariants.{Plain}
-use Rattle.dnsv_program.specs.declared.command_line.request.Asking.TheVariants as asking
-use Rattle.dnsv_program.specs.declared.command_line.request.Listing.{Listing}
-use Rattle.dnsv_program.specs.declared.command_line.request.Listing.TheVariants as listing
-use Rattle.dnsv_program.specs.declared.command_line.request.Request.{Request}
-use Rattle.dnsv_program.specs.declared.command_line.request.Request.TheVariants as request
+use Rattle.dnsv_commands.specs.declared.request.Asking.TheVariants as asking
+use Rattle.dnsv_commands.specs.declared.request.Listing.{Listing}
+use Rattle.dnsv_commands.specs.declared.request.Listing.TheVariants as listing
+use Rattle.dnsv_commands.specs.declared.request.Request.{Request}
+use Rattle.dnsv_commands.specs.declared.request.Request.TheVariants as request
 use Rattle.dnsv_files.specs.declared.status.Fault.{Fault}
 use Rattle.dnsv_files.specs.declared.status.Fault.TheVariants as fault
 use Rattle.dnsv_files.specs.declared.status.InputFile.{InputFile}
@@ -29,7 +29,7 @@ use Rattle.dnsv_program.specs.Work.Known.{IsFaultOfKnown, IsKnownReached}
 use Rattle.dnsv_files.specs.Opening.Given.{IsOpeningOf, IsOpeningReached, IsFaultOfOpening}
 use Rattle.dnsv_files.specs.Files.{Files, IsGiven, octets_or_none}
 use Rattle.dnsv_program.specs.Work.Listing.{IsListing, IsTodo, lists_all}
-use Rattle.dnsv_program.specs.CommandLine.Question.{IsQuestionRefused, Spells}
+use Rattle.dnsv_program.specs.Question.{IsQuestionRefused, Spells}
 use Rattle.dnsv_program.specs.Work.Showing.{IsShowing}
 use Rattle.dnsv_files.specs.Files.Statements.{IsFaultOfStatements}
 
@@ -43,14 +43,15 @@ IsAnswered format why asked rtype moment files end text =
 -- what each signature signs, or what a verifier still has to check
 abbrev pub IsListed : Listing → Format → ℕ → Files → List ℕ → Type 0
 IsListed listing.All format moment files text = IsListing format moment files.capture text
-IsListed listing.Open format moment files text = IsTodo listing.Open format moment files text
-IsListed listing.Compact format moment files text = IsTodo listing.Compact format moment files text
+IsListed (listing.Todo form) format moment files text = IsTodo (listing.Todo form) format moment files text
 
 -- over these files the request ends so, with this text: in JSON, and with why the verdict stands, where it asks for that
 abbrev pub IsTextAskedFor : Request → Files → Status → List ℕ → Type 0
 IsTextAskedFor (request.Show capture) files end text = (end ≡ Done) × IsShowing files.capture text
 IsTextAskedFor (request.List capture moment statements lists format) files end text =
     (end ≡ Done) × IsListed lists format moment files text
+IsTextAskedFor (request.ListRange capture from to statements form format) files end text = ⊥
+IsTextAskedFor (request.Timeline capture anchors from to asked rtype known kinds format) files end text = ⊥
 IsTextAskedFor (request.Check capture anchors moment (asking.One asked rtype) known keys macs format why) files end text =
     IsAnswered format why (string_bytes asked) rtype.0 moment files end text
 IsTextAskedFor (request.Check capture anchors moment (asking.Each questions) known keys macs format why) files end text =
@@ -60,6 +61,8 @@ IsTextAskedFor (request.Check capture anchors moment (asking.Each questions) kno
 abbrev pub AsksMany : Request → Type 0
 AsksMany (request.Show capture) = ⊥
 AsksMany (request.List capture moment statements lists format) = ⊥
+AsksMany (request.ListRange capture from to statements form format) = ⊥
+AsksMany (request.Timeline capture anchors from to asked rtype known kinds format) = ⊥
 AsksMany (request.Check capture anchors moment (asking.One asked rtype) known keys macs format why) = ⊥
 AsksMany (request.Check capture anchors moment (asking.Each questions) known keys macs format why) = Unit {0}
 
@@ -67,6 +70,8 @@ AsksMany (request.Check capture anchors moment (asking.Each questions) known key
 abbrev pub IsManyAsked : Request → Format → Bool → ℕ → Type 0
 IsManyAsked (request.Show capture) format why moment = ⊥
 IsManyAsked (request.List capture at statements lists form) format why moment = ⊥
+IsManyAsked (request.ListRange capture from to statements each form) format why moment = ⊥
+IsManyAsked (request.Timeline capture anchors from to asked rtype known kinds form) format why moment = ⊥
 IsManyAsked (request.Check capture anchors at (asking.One asked rtype) known keys macs form whether) format why moment = ⊥
 IsManyAsked (request.Check capture anchors at (asking.Each questions) known keys macs form whether) format why moment =
     (format ≡ form) × (why ≡ whether) × (moment ≡ at)
@@ -76,6 +81,8 @@ abbrev pub IsTextOfFirst : Request → Files → List ℕ → Type 0
 IsTextOfFirst (request.Show capture) files text = (end : Status) × IsTextAskedFor (request.Show capture) files end text
 IsTextOfFirst (request.List capture moment statements lists format) files text =
     (end : Status) × IsTextAskedFor (request.List capture moment statements lists format) files end text
+IsTextOfFirst (request.ListRange capture from to statements form format) files text = ⊥
+IsTextOfFirst (request.Timeline capture anchors from to asked rtype known kinds format) files text = ⊥
 IsTextOfFirst (request.Check capture anchors moment (asking.One asked rtype) known keys macs format why) files text =
     (end : Status) × IsAnswered format why (string_bytes asked) rtype.0 moment files end text
 IsTextOfFirst (request.Check capture anchors moment (asking.Each questions) known keys macs format why) files text =
@@ -129,6 +136,9 @@ IsFaultOfQuestion asked rtype _ = ⊥
 abbrev pub AsksRefused : Request → Fault → Type 0
 AsksRefused (request.Show capture) fault = ⊥
 AsksRefused (request.List capture moment statements lists format) fault = ⊥
+AsksRefused (request.ListRange capture from to statements form format) fault = ⊥
+AsksRefused (request.Timeline capture anchors from to asked rtype known kinds format) fault =
+    IsFaultOfQuestion (string_bytes asked) rtype.0 fault
 AsksRefused (request.Check capture anchors moment (asking.One asked rtype) known keys macs format why) fault =
     IsFaultOfQuestion (string_bytes asked) rtype.0 fault
 AsksRefused (request.Check capture anchors moment (asking.Each questions) known keys macs format why) fault = ⊥
@@ -154,6 +164,8 @@ IsFirstFaultOfEach moment files fault =
 abbrev pub IsFirstFault : Request → Files → Fault → Type 0
 IsFirstFault (request.Show capture) files fault = IsFaultOfCapture AnyMessage Plain files.capture fault
 IsFirstFault (request.List capture moment statements lists format) files fault = IsFirstFaultOfList (lists_all lists) files fault
+IsFirstFault (request.ListRange capture from to statements form format) files fault = ⊥
+IsFirstFault (request.Timeline capture anchors from to asked rtype known kinds format) files fault = ⊥
 IsFirstFault (request.Check capture anchors moment (asking.One asked rtype) known keys macs format why) files fault =
     IsFirstFaultOfCheck (string_bytes asked) rtype.0 moment files fault
 IsFirstFault (request.Check capture anchors moment (asking.Each questions) known keys macs format why) files fault =
@@ -210,6 +222,8 @@ IsReachedByEach moment files file =
 abbrev pub IsReached : Request → Files → InputFile → Type 0
 IsReached (request.Show capture) files file = IsCaptureReached file
 IsReached (request.List capture moment statements lists format) files file = IsReachedByList (lists_all lists) files file
+IsReached (request.ListRange capture from to statements form format) files file = ⊥
+IsReached (request.Timeline capture anchors from to asked rtype known kinds format) files file = ⊥
 IsReached (request.Check capture anchors moment (asking.One asked rtype) known keys macs format why) files file =
     IsReachedByCheck (string_bytes asked) rtype.0 moment files file
 IsReached (request.Check capture anchors moment (asking.Each questions) known keys macs format why) files file =

@@ -12,7 +12,7 @@ ghost use Rattle.dnsv_program.specs.Layers.{LayerLaws};
 ghost use Rattle.dnsv_program.specs.Run.{IsFirstFault, IsTextAskedFor};
 ghost use Rattle.dnsv_files.specs.declared.status.Status.{Status};
 ghost use Rattle.dnsv_files.specs.declared.status.Fault.{Fault};
-ghost use Rattle.dnsv_program.specs.declared.command_line.request.Request.{Request};
+ghost use Rattle.dnsv_commands.specs.declared.request.Request.{Request};
 ghost use Rattle.dnsv_files.specs.declared.status.Place.{Place};
 ghost use Rattle.dnsv_files.specs.declared.status.Refusal.{Refusal};
 

@@ -1,10 +1,10 @@
 //! What the program has of the machine that runs it: the words of its command line, and files.
 ghost use Rattle.std.specs.Prelude.{◌≡◌, Bool, ℕ, List, Option, None, Some, map, string_bytes};
 ghost use Rattle.std.specs.Prelude.{IfErr, IfOk, IfSome, is_ok};
-ghost use Rattle.dnsv_program.specs.declared.command_line.CommandLineError.{CommandLineError};
-ghost use Rattle.dnsv_program.specs.declared.command_line.CommandLineError.TheVariants.{OutOfMemory};
+ghost use Rattle.dnsv_commands.specs.declared.command_line.CommandLineError.{CommandLineError};
+ghost use Rattle.dnsv_commands.specs.declared.command_line.CommandLineError.TheVariants.{OutOfMemory};
 
-use crate::command_line::CommandLineError;
+use dnsv_commands::CommandLineError;
 use std::alloc::Global;
 use std::fs::File;
 use std::io::Read;

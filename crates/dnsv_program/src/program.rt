@@ -5,7 +5,7 @@ ghost use Rattle.std.specs.Io.KnownBytes.{Appends};
 ghost use Rattle.dnsv_message.specs.Streams.Counted.{inner_of, failures_of, AppendsBeginning};
 ghost use Rattle.dnsv_files.specs.Files.Faults.{OfFailedRead, OfOctets};
 ghost use Rattle.dnsv_files.specs.Files.{AreTold, Files, IsToldBy};
-ghost use Rattle.dnsv_program.specs.CommandLine.{IsAccepted, IsRefused, command_line_code};
+ghost use Rattle.dnsv_commands.specs.CommandLine.{IsAccepted, IsRefused, command_line_code};
 ghost use Rattle.dnsv_program.specs.Program.{AreFilesAt, BeganText, IsEnd, RefusedFiles, RefusedWords, WroteFirst, WroteRefused, WroteText};
 ghost use Rattle.dnsv_program.specs.Program.{FailedRequest, FailedWords, HasToldIn, HasWritten, LeavesOutput, TellsQuestion};
 ghost use Rattle.dnsv_program.specs.Program.{first_unopened, given_path, paths_of};
@@ -18,10 +18,9 @@ ghost use Rattle.dnsv_files.specs.declared.status.Place.{Place};
 ghost use Rattle.dnsv_files.specs.declared.status.Status.{Status};
 ghost use Rattle.dnsv_files.specs.declared.status.Refusal.{Refusal};
 
-use crate::command_line::request::Request;
-use crate::command_line::{CommandLineError, read_command_line};
 use crate::machine::{Host, Machine};
 use crate::work::run;
+use dnsv_commands::{CommandLineError, Request, read_command_line};
 use dnsv_files::{Fault, InputFile, Inputs, Status};
 use dnsv_message::Counted;
 use std::alloc::Global;
@@ -234,7 +233,9 @@ fn refuse<W: Write, E: Write>(
         CommandLineError::NotText
         | CommandLineError::Misused(_)
         | CommandLineError::Unclear
+        | CommandLineError::Undated
         | CommandLineError::TwoLists
+        | CommandLineError::AllOfRange
         | CommandLineError::BothKnown => {
             let code = error.code();
             // Nothing is left to tell where the text itself can't be written.

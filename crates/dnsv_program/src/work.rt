@@ -15,13 +15,13 @@ pub mod known;
 pub mod listing;
 pub mod showing;
 
-use crate::command_line::request::{Asking, Request};
 use crate::work::asking::check_each;
 use crate::work::checking::check;
 use crate::work::judging::Telling;
 use crate::work::listing::list;
 use crate::work::showing::show;
 use bumpalo::Bump;
+use dnsv_commands::{Asking, Request};
 use dnsv_files::{Fault, Inputs, Moment, Status};
 use dnsv_message::Counted;
 use std::alloc::Global;
@@ -173,6 +173,7 @@ fn outcome_of<R: Read>(
             let text = list(alloc, *listing, *format, *moment, inputs, bump)?;
             Ok(done(text))
         }
+        Request::ListRange { .. } | Request::Timeline { .. } => Err(Fault::OutOfMemory),
         Request::Check {
             asking,
             moment,

@@ -13,11 +13,11 @@ use Rattle.dnsv_verdict.specs.Way.{IsRefusedFor, IsVerdictOf}
 use Rattle.dnsv_chain.specs.declared.anchor.Anchor.{Anchor}
 use Rattle.dnsv_files.specs.declared.opening.Opening.{Opening}
 use Rattle.dnsv_files.specs.declared.opening.Opening.TheVariants.{Plain, Signed}
-use Rattle.dnsv_program.specs.declared.command_line.request.Asking.TheVariants as asking
-use Rattle.dnsv_program.specs.declared.command_line.request.Listing.{Listing}
-use Rattle.dnsv_program.specs.declared.command_line.request.Listing.TheVariants as listing
-use Rattle.dnsv_program.specs.declared.command_line.request.Request.{Request}
-use Rattle.dnsv_program.specs.declared.command_line.request.Request.TheVariants as request
+use Rattle.dnsv_commands.specs.declared.request.Asking.TheVariants as asking
+use Rattle.dnsv_commands.specs.declared.request.Listing.{Listing}
+use Rattle.dnsv_commands.specs.declared.request.Listing.TheVariants as listing
+use Rattle.dnsv_commands.specs.declared.request.Request.{Request}
+use Rattle.dnsv_commands.specs.declared.request.Request.TheVariants as request
 use Rattle.dnsv_files.specs.declared.status.Fault.{Fault}
 use Rattle.dnsv_files.specs.declared.status.Fault.TheVariants as fault
 use Rattle.dnsv_files.specs.declared.status.Place.{Place}
@@ -32,7 +32,7 @@ use Rattle.dnsv_files.specs.Opening.Given.{IsOpeningOf, IsFaultOfOpening}
 use Rattle.dnsv_files.specs.Files.{Files, octets_or_none}
 use Rattle.dnsv_files.specs.Opening.Keys.{IsFaultOfKeys, MayHaveKeys}
 use Rattle.dnsv_program.specs.Layers.{LayerLaws}
-use Rattle.dnsv_program.specs.CommandLine.Question.{IsNameRefused, IsQuestionRefused, Spells}
+use Rattle.dnsv_program.specs.Question.{IsNameRefused, IsQuestionRefused, Spells}
 use Rattle.dnsv_program.specs.Run.{IsAnswered, IsFaultOfQuestion, IsFirstFault, IsFirstFaultBehind, IsFirstFaultOfCheck, IsFirstFaultOfEvidence, IsFirstFaultOfFiles, IsFirstFaultOfName, IsFirstFaultOfTodo, IsTextAskedFor}
 use Rattle.dnsv_program.specs.Work.Listing.{IsTodo}
 use Rattle.dnsv_files.proofs.FileLemmas.Anchors.{no_anchors_fault, one_anchors_fault}
@@ -212,8 +212,9 @@ module _ (laws : LayerLaws) where
       → IsTextAskedFor asked files end text → IsFirstFault asked files told → ⊥
   text_stands (request.Show capture) files are end text told x bad = no_capture_fault laws AnyMessage Plain files.capture are x.1.0 told x.1.1 bad
   text_stands (request.List capture moment statements listing.All format) files are end text told x bad = no_capture_fault laws NewEvidence Plain files.capture are x.1.0 told x.1.1 bad
-  text_stands (request.List capture moment statements listing.Open format) files are end text told x bad = todo_stands files are listing.Open format moment text told x.1 bad
-  text_stands (request.List capture moment statements listing.Compact format) files are end text told x bad = todo_stands files are listing.Compact format moment text told x.1 bad
+  text_stands (request.List capture moment statements (listing.Todo form) format) files are end text told x bad = todo_stands files are (listing.Todo form) format moment text told x.1 bad
+  text_stands (request.ListRange capture from to statements form format) files are end text told x bad = absurd x
+  text_stands (request.Timeline capture anchors from to asked rtype known kinds format) files are end text told x bad = absurd x
   text_stands (request.Check capture anchors moment (asking.One asked rtype) statements keys macs format why) files are end text told x bad =
       answer_stands files are format why (string_bytes asked) rtype.0 moment end text told x bad
   text_stands (request.Check capture anchors moment (asking.Each questions) statements keys macs format why) files are end text told x (inl bad) =
@@ -225,8 +226,9 @@ module _ (laws : LayerLaws) where
   pub one_first_fault : (asked : Request) (files : Files) → AreOctets files.capture → (a b : Fault) → IsFirstFault asked files a → IsFirstFault asked files b → a ≡ b
   one_first_fault (request.Show capture) files are a b x y = one_capture_fault laws AnyMessage Plain files.capture are a b x y
   one_first_fault (request.List capture moment statements listing.All format) files are a b x y = one_capture_fault laws NewEvidence Plain files.capture are a b x y
-  one_first_fault (request.List capture moment statements listing.Open format) files are a b x y = one_todo_fault files are a b x y
-  one_first_fault (request.List capture moment statements listing.Compact format) files are a b x y = one_todo_fault files are a b x y
+  one_first_fault (request.List capture moment statements (listing.Todo form) format) files are a b x y = one_todo_fault files are a b x y
+  one_first_fault (request.ListRange capture from to statements form format) files are a b x y = absurd x
+  one_first_fault (request.Timeline capture anchors from to asked rtype known kinds format) files are a b x y = absurd x
   one_first_fault (request.Check capture anchors moment (asking.One asked rtype) statements keys macs format why) files are a b x y =
       one_fault_of_check files are (string_bytes asked) rtype.0 moment a b x y
   one_first_fault (request.Check capture anchors moment (asking.Each questions) statements keys macs format why) files are a b (inl x) (inl y) =

@@ -4,10 +4,10 @@ use Rattle.std.specs.Prelude.{string_bytes}
 use Rattle.dnsv_names.specs.Octets.{AreOctets}
 use Rattle.dnsv_canonical.specs.Evidence.{evidence_of}
 use Rattle.dnsv_files.specs.declared.opening.Opening.TheVariants.{Plain}
-use Rattle.dnsv_program.specs.declared.command_line.request.Asking.TheVariants as asking
-use Rattle.dnsv_program.specs.declared.command_line.request.Listing.TheVariants as listing
-use Rattle.dnsv_program.specs.declared.command_line.request.Request.{Request}
-use Rattle.dnsv_program.specs.declared.command_line.request.Request.TheVariants as request
+use Rattle.dnsv_commands.specs.declared.request.Asking.TheVariants as asking
+use Rattle.dnsv_commands.specs.declared.request.Listing.TheVariants as listing
+use Rattle.dnsv_commands.specs.declared.request.Request.{Request}
+use Rattle.dnsv_commands.specs.declared.request.Request.TheVariants as request
 use Rattle.dnsv_files.specs.declared.status.Status.{Status}
 use Rattle.dnsv_files.specs.Files.Capture.{AnyMessage, NewEvidence}
 use Rattle.dnsv_files.specs.Files.{Files}
@@ -30,8 +30,9 @@ module _ (laws : LayerLaws) where
     x.1.4 ∙ ap (listing_text format moment) (one_list laws 1 (evidence_of x.1.0).rrsets x.1.2 y.1.2 x.1.3
         (subst (λ messages. ListsRrsets 1 (evidence_of messages).rrsets y.1.2) (one_holding laws NewEvidence Plain files.capture are y.1.0 x.1.0 y.1.1 x.1.1) y.1.3)) ∙ sym y.1.4,
   )
-  one_text (request.List capture moment statements listing.Open format) files are s t a b x y = (x.0 ∙ sym y.0, one_todo laws listing.Open format moment files are a b x.1 y.1)
-  one_text (request.List capture moment statements listing.Compact format) files are s t a b x y = (x.0 ∙ sym y.0, one_todo laws listing.Compact format moment files are a b x.1 y.1)
+  one_text (request.List capture moment statements (listing.Todo form) format) files are s t a b x y = (x.0 ∙ sym y.0, one_todo laws (listing.Todo form) format moment files are a b x.1 y.1)
+  one_text (request.ListRange capture from to statements form format) files are s t a b x y = absurd x
+  one_text (request.Timeline capture anchors from to asked rtype known kinds format) files are s t a b x y = absurd x
   one_text (request.Check capture anchors moment (asking.One asked rtype) statements keys macs format why) files are s t a b x y =
       one_answer laws rtype.0 moment files are format why (string_bytes asked) s t a b x y
   one_text (request.Check capture anchors moment (asking.Each questions) statements keys macs format why) files are s t a b x y =

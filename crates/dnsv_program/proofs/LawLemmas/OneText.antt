@@ -20,8 +20,9 @@ use Rattle.dnsv_verdict.specs.declared.verdict.Verdict.{Verdict}
 use Rattle.dnsv_explain.specs.Explained.{Explained}
 use Rattle.dnsv_explain.specs.Explanation.{IsExplanation, IsExplanationOf}
 use Rattle.dnsv_lines.specs.declared.line.Line.{Line}
-use Rattle.dnsv_program.specs.declared.command_line.request.Listing.{Listing}
-use Rattle.dnsv_program.specs.declared.command_line.request.Listing.TheVariants as listing
+use Rattle.dnsv_commands.specs.declared.request.Listing.{Listing}
+use Rattle.dnsv_commands.specs.declared.request.Form.TheVariants as form
+use Rattle.dnsv_commands.specs.declared.request.Listing.TheVariants as listing
 use Rattle.dnsv_files.specs.declared.opening.Opening.{Opening}
 use Rattle.dnsv_files.specs.declared.opening.Opening.TheVariants.{Plain, Signed}
 use Rattle.dnsv_files.specs.declared.status.Status.{Status}
@@ -35,7 +36,7 @@ use Rattle.dnsv_files.specs.Files.{Files, octets_or_none}
 use Rattle.dnsv_files.specs.Opening.Keys.{MayHaveKeys}
 use Rattle.dnsv_program.specs.Layers.{LayerLaws}
 use Rattle.dnsv_texts.specs.Listing.{ListsRrsets, ListsSignatures, SignedOctets}
-use Rattle.dnsv_program.specs.CommandLine.Question.{Spells}
+use Rattle.dnsv_program.specs.Question.{Spells}
 use Rattle.dnsv_files.specs.Status.{status_code}
 use Rattle.dnsv_program.specs.Run.{IsAnswered}
 use Rattle.dnsv_program.specs.Work.Listing.{IsTodo, ListsEntries}
@@ -72,8 +73,8 @@ module _ (laws : LayerLaws) where
   -- entries are listed in one way
   one_listing : (lists : Listing) (format : Format) (moment : ℕ) (rrsets : List ReceivedRrset) (entries : List Entry) (a b : List ℕ)
       → ListsEntries lists format moment rrsets entries a → ListsEntries lists format moment rrsets entries b → a ≡ b
-  one_listing listing.Open format moment rrsets entries a b x y = x ∙ sym y
-  one_listing listing.Compact format moment rrsets entries a b x y =
+  one_listing (listing.Todo form.Whole) format moment rrsets entries a b x y = x ∙ sym y
+  one_listing (listing.Todo form.Compact) format moment rrsets entries a b x y =
       x.2 ∙ ap (compact_text format moment) (one_compact_list laws moment rrsets entries x.0 y.0 x.1 y.1) ∙ sym y.2
   one_listing listing.All format moment rrsets entries a b x y = absurd x
 

@@ -2,12 +2,12 @@
 use Rattle.std.proofs.Common.{◌≡◌, ◌⊎◌, List, Option, inl, inr, subst, ℕ}
 use Rattle.std.specs.Prelude.{Err, IfErr, IfOk, IfSome, Ok, OnOk, Result}
 use Rattle.std.specs.Io.KnownBytes.{Appends}
-use Rattle.dnsv_program.specs.CommandLine.{IsAccepted}
+use Rattle.dnsv_commands.specs.CommandLine.{IsAccepted}
 use Rattle.dnsv_files.specs.Files.{Files}
 use Rattle.dnsv_program.specs.Program.{AreFilesAt, RefusedFiles, WroteFirst, WroteRefused}
 use Rattle.dnsv_program.specs.Run.{AsksMany, IsFirstFault, IsTextAskedFor, IsTextOfFirst}
 use Rattle.dnsv_files.specs.Status.{outcome_code}
-use Rattle.dnsv_program.specs.declared.command_line.request.Request.{Request}
+use Rattle.dnsv_commands.specs.declared.request.Request.{Request}
 use Rattle.dnsv_files.specs.declared.status.Fault.{Fault}
 use Rattle.dnsv_files.specs.declared.status.Fault.TheVariants as fault
 use Rattle.dnsv_files.specs.declared.status.Place.{Place}

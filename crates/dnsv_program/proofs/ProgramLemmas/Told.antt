@@ -4,8 +4,8 @@ use Rattle.std.specs.Prelude.{Result, Ok, Err, IfErr, IfSome, OnOk, is_err}
 use Rattle.std.specs.Io.KnownBytes.{Appends}
 use Rattle.dnsv_message.specs.Streams.Counted.{AppendsBeginning, count_after, failures_of, inner_of}
 use Rattle.dnsv_message.specs.declared.streams.counted.Counted.{Counted}
-use Rattle.dnsv_program.specs.declared.command_line.CommandLineError.{CommandLineError}
-use Rattle.dnsv_program.specs.declared.command_line.request.Request.{Request}
+use Rattle.dnsv_commands.specs.declared.command_line.CommandLineError.{CommandLineError}
+use Rattle.dnsv_commands.specs.declared.request.Request.{Request}
 use Rattle.dnsv_files.specs.declared.status.Fault.{Fault}
 use Rattle.dnsv_files.specs.declared.status.Fault.TheVariants as fault
 use Rattle.dnsv_files.specs.declared.status.InputFile.{InputFile}
@@ -13,7 +13,7 @@ use Rattle.dnsv_files.specs.declared.status.Status.{Status}
 use Rattle.dnsv_files.specs.declared.status.Status.TheVariants.{Refused}
 use Rattle.dnsv_files.specs.Files.Faults.{OfFailedRead, OfOctets}
 use Rattle.dnsv_files.specs.Files.{Files}
-use Rattle.dnsv_program.specs.CommandLine.{IsAccepted, IsRefused, command_line_code}
+use Rattle.dnsv_commands.specs.CommandLine.{IsAccepted, IsRefused, command_line_code}
 use Rattle.dnsv_program.specs.Program.{AreFilesAt, FailedRequest, FailedWords, HasToldIn, IsEnd, LeavesOutput, TellsQuestion, first_unopened, paths_of}
 use Rattle.dnsv_program.specs.Run.{AsksRefused, IsFirstFault, IsReached}
 use Rattle.dnsv_files.specs.Status.{fault_code, fault_line, outcome_code}

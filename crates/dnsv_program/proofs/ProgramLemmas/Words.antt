@@ -1,9 +1,9 @@
 -- How the program ends where its words ask for nothing.
 use Rattle.std.proofs.Common.{◌≡◌, ◌≤◌, ◌⊎◌, ℕ, List, Option, Some, None, sym, ◌∙◌, inl, inr, arith}
 use Rattle.std.specs.Prelude.{IfSome}
-use Rattle.dnsv_program.specs.declared.command_line.CommandLineError.{CommandLineError}
-use Rattle.dnsv_program.specs.declared.command_line.CommandLineError.TheVariants as line
-use Rattle.dnsv_program.specs.CommandLine.{IsRefused, command_line_code}
+use Rattle.dnsv_commands.specs.declared.command_line.CommandLineError.{CommandLineError}
+use Rattle.dnsv_commands.specs.declared.command_line.CommandLineError.TheVariants as line
+use Rattle.dnsv_commands.specs.CommandLine.{IsRefused, command_line_code}
 use Rattle.dnsv_program.specs.Program.{BeganText, IsEnd, RefusedWords, WroteText}
 
 -- the exit status of the error, or 1 where help that was asked for wasn't written
@@ -29,7 +29,9 @@ end_of_words line.NotText code is ends = absurd (no_end_of_2 code is ends)
 end_of_words (line.Help refusal) code is ends = is
 end_of_words (line.Misused refusal) code is ends = absurd (no_end_of_2 code is ends)
 end_of_words line.Unclear code is ends = absurd (no_end_of_2 code is ends)
+end_of_words line.Undated code is ends = absurd (no_end_of_2 code is ends)
 end_of_words line.TwoLists code is ends = absurd (no_end_of_2 code is ends)
+end_of_words line.AllOfRange code is ends = absurd (no_end_of_2 code is ends)
 end_of_words line.BothKnown code is ends = absurd (no_end_of_2 code is ends)
 
 pub at_most_2 : (error : CommandLineError) → command_line_code error ≤ 2
@@ -38,7 +40,9 @@ at_most_2 line.NotText = omega arith
 at_most_2 (line.Help refusal) = omega arith
 at_most_2 (line.Misused refusal) = omega arith
 at_most_2 line.Unclear = omega arith
+at_most_2 line.Undated = omega arith
 at_most_2 line.TwoLists = omega arith
+at_most_2 line.AllOfRange = omega arith
 at_most_2 line.BothKnown = omega arith
 
 pub at_most_7 : (error : CommandLineError) (code : ℕ) → EndsSo error code → code ≤ 7

@@ -5,9 +5,9 @@ use Rattle.dnsv_texts.specs.declared.format.Format.{Format}
 use Rattle.dnsv_files.specs.Files.{Files}
 use Rattle.dnsv_program.specs.Run.{AsksMany, AsksRefused, IsFirstFault, IsFirstFaultOfEach, IsManyAsked, IsReached, IsReachedByEach, IsTextAskedFor, IsTextOfFirst}
 use Rattle.dnsv_program.specs.Work.Asking.{AreAnswered, AreFirstAnswered}
-use Rattle.dnsv_program.specs.declared.command_line.request.Asking.TheVariants as asking
-use Rattle.dnsv_program.specs.declared.command_line.request.Request.{Request}
-use Rattle.dnsv_program.specs.declared.command_line.request.Request.TheVariants as request
+use Rattle.dnsv_commands.specs.declared.request.Asking.TheVariants as asking
+use Rattle.dnsv_commands.specs.declared.request.Request.{Request}
+use Rattle.dnsv_commands.specs.declared.request.Request.TheVariants as request
 use Rattle.dnsv_files.specs.declared.status.Fault.{Fault}
 use Rattle.dnsv_files.specs.declared.status.InputFile.{InputFile}
 use Rattle.dnsv_files.specs.declared.status.Status.{Status}
@@ -23,6 +23,8 @@ pub record AskedAlike (asked : Request) (format : Format) (why : Bool) (moment :
 pub asked_alike : (asked : Request) (format : Format) (why : Bool) (moment : ℕ) → IsManyAsked asked format why moment → AskedAlike asked format why moment
 asked_alike (request.Show capture) format why moment is = absurd is
 asked_alike (request.List capture at statements lists form) format why moment is = absurd is
+asked_alike (request.ListRange capture from to statements each form) format why moment is = absurd is
+asked_alike (request.Timeline capture anchors from to asked rtype known kinds form) format why moment is = absurd is
 asked_alike (request.Check capture anchors at (asking.One name rtype) statements keys macs form whether) format why moment is = absurd is
 asked_alike (request.Check capture anchors at (asking.Each questions) statements keys macs form whether) format why moment is = record {
   texts = λ files end text holds. rw (is.0, is.1, is.2) at holds;

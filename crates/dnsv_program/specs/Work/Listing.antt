@@ -7,8 +7,9 @@ use Rattle.dnsv_compact.specs.CompactList.{IsCompactList, ListContents}
 use Rattle.dnsv_verifier.specs.declared.answer.Answer.{Answer}
 use Rattle.dnsv_verifier.specs.declared.entry.Entry.{Entry}
 use Rattle.dnsv_verifier.specs.Table.{IsTableOf, TableContents, unknown_entries}
-use Rattle.dnsv_program.specs.declared.command_line.request.Listing.{Listing}
-use Rattle.dnsv_program.specs.declared.command_line.request.Listing.TheVariants.{All, Compact, Open}
+use Rattle.dnsv_commands.specs.declared.request.Listing.{Listing}
+use Rattle.dnsv_commands.specs.declared.request.Form.TheVariants.{Compact, Whole}
+use Rattle.dnsv_commands.specs.declared.request.Listing.TheVariants.{All, Todo}
 use Rattle.dnsv_files.specs.declared.opening.Opening.TheVariants.{Plain}
 use Rattle.dnsv_files.specs.Files.Capture.{Holds, NewEvidence}
 use Rattle.dnsv_files.specs.Files.{Files, octets_or_none}
@@ -26,14 +27,13 @@ IsListing format moment file text =
 
 -- whether the signed octets of all signatures are listed, whatever was checked
 abbrev pub lists_all : Listing → Bool
-lists_all Open = false
-lists_all Compact = false
+lists_all (Todo form) = false
 lists_all All = true
 
 -- the text lists entries that are asked of the RRsets: each whole, or each octet once
 abbrev pub ListsEntries : Listing → Format → ℕ → List ReceivedRrset → List Entry → List ℕ → Type 0
-ListsEntries Open format moment rrsets entries text = text ≡ todo_text format moment entries
-ListsEntries Compact format moment rrsets entries text =
+ListsEntries (Todo Whole) format moment rrsets entries text = text ≡ todo_text format moment entries
+ListsEntries (Todo Compact) format moment rrsets entries text =
     (list : ListContents) × IsCompactList moment rrsets entries list × (text ≡ compact_text format moment list)
 ListsEntries All format moment rrsets entries text = ⊥
 

@@ -14,7 +14,7 @@ ghost use Rattle.dnsv_verdict.specs.Way.{IsRefusedFor};
 ghost use Rattle.dnsv_verdict.specs.declared.error.VerdictError.{VerdictError};
 ghost use Rattle.dnsv_files.specs.declared.status.Status.TheVariants.{Refused};
 
-use crate::command_line::question::question_name;
+use crate::question::question_name;
 use crate::work::Outcome;
 use crate::work::given::{Given, given_in};
 use crate::work::judging::{Asked, Telling, judge};

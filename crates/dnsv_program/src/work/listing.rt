@@ -9,9 +9,9 @@ ghost use Rattle.dnsv_program.specs.Run.{IsFirstFaultOfList, IsListed, IsReached
 ghost use Rattle.dnsv_program.specs.Work.Listing as specs;
 ghost use Rattle.dnsv_program.specs.Work.Listing.{ListsEntries};
 
-use crate::command_line::request::Listing;
 use bumpalo::Bump;
 use dnsv_canonical::{Capture, Rrset};
+use dnsv_commands::{Form, Listing};
 use dnsv_compact::CompactList;
 use dnsv_files::{Fault, InputFile, Inputs, Moment, Opening, evidence_in, text_in};
 use dnsv_names::Count;
@@ -51,7 +51,7 @@ fn lists_all(listing: Listing) -> bool
 {
     match listing {
         Listing::All => true,
-        Listing::Open | Listing::Compact => false,
+        Listing::Todo(_) => false,
     }
 }
 
@@ -99,8 +99,8 @@ fn entries_text(
     ensures { IfOk result (λ text. ListsEntries listing format moment rrsets.now entries.now (string_bytes text)) }
 {
     match listing {
-        Listing::Open => todo_text(alloc, format, moment.seconds(), entries),
-        Listing::Compact => {
+        Listing::Todo(Form::Whole) => todo_text(alloc, format, moment.seconds(), entries),
+        Listing::Todo(Form::Compact) => {
             let list = CompactList::of(alloc, bump, moment.seconds(), rrsets, entries)?;
             compact_text(alloc, format, moment.seconds(), rrsets, &list)
         }

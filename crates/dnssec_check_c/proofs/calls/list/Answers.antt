@@ -1,5 +1,5 @@
 use Rattle.std.specs.Prelude.{None}
-use Rattle.dnsv_program.specs.declared.command_line.request.Request.TheVariants as request
+use Rattle.dnsv_commands.specs.declared.request.Request.TheVariants as request
 use Rattle.dnssec_check_c.specs.Asked.{AsksToList, listed_files}
 use Rattle.dnssec_check_c.specs.Octets.{files_of}
 use Rattle.dnssec_check_c.proofs.EndLemmas.{request_ends}

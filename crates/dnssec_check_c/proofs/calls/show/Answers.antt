@@ -1,4 +1,4 @@
-use Rattle.dnsv_program.specs.declared.command_line.request.Request.TheVariants as request
+use Rattle.dnsv_commands.specs.declared.request.Request.TheVariants as request
 use Rattle.dnssec_check_c.specs.Asked.{AsksToShow, shown_files}
 use Rattle.dnssec_check_c.specs.Octets.{files_of}
 use Rattle.dnssec_check_c.proofs.EndLemmas.{request_ends}

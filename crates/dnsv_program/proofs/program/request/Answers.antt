@@ -1,4 +1,4 @@
-use Rattle.dnsv_program.specs.CommandLine.{IsAccepted, IsRefused}
+use Rattle.dnsv_commands.specs.CommandLine.{IsAccepted, IsRefused}
 use Rattle.dnsv_program.proofs.ProgramLemmas.{told_ok, told_err}
 use Rattle.dnsv_program.proofs.program.request.Goals as goal
 
