@@ -9,7 +9,7 @@ pub use dated::dated_signatures;
 pub use dnsv_timeline_laws::Kind;
 pub use kind::kind_word;
 pub use moments::Moments;
-pub use question::{kinds_of_question, timeline_of_question};
+pub use question::timeline_of_question;
 pub use said::Said;
 
 mod dated;

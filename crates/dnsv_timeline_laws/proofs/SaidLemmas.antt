@@ -8,19 +8,15 @@ use Rattle.dnsv_verdict.specs.declared.error.VerdictError.{VerdictError}
 use Rattle.dnsv_verdict.specs.declared.link.Link.{Link}
 use Rattle.dnsv_verdict.specs.declared.verdict.Verdict.{Verdict}
 use Rattle.dnsv_timeline.specs.Dates.{AreTimesOf, times_of}
-use Rattle.dnsv_timeline.proofs.OneTimeline.{one_by}
-use Rattle.dnsv_timeline.specs.Timeline.{AreSameValid, DependsOn, IsTimelineBy}
-use Rattle.dnsv_timeline.specs.declared.stretch.Stretch.{Stretch}
+use Rattle.dnsv_timeline.specs.Timeline.{AreSameValid, DependsOn}
 use Rattle.dnsv_timeline.specs.declared.times.Times.{Times}
 use Rattle.dnsv_timeline_laws.proofs.MomentLemmas.{refused_to, same_by_times, verdict_of_to}
 use Rattle.dnsv_timeline_laws.proofs.ToldLemmas.{derivation_of, links_derived}
-use Rattle.dnsv_timeline_laws.specs.Said.{IsKindAt, IsRefusalSaid, IsSaid, IsSaidAt, IsVerdictSaid, Said, Told, told_refusal, told_verdict}
+use Rattle.dnsv_timeline_laws.specs.Said.{IsRefusalSaid, IsSaid, IsSaidAt, IsVerdictSaid, Said, told_refusal, told_verdict}
 use Rattle.dnsv_explain.specs.Derived.{alias_of}
 use Rattle.dnsv_timeline_laws.specs.Said.IsSaid.{a_refusal, a_verdict}
 use Rattle.dnsv_timeline_laws.specs.SameValid.{AreSignaturesSameValid, HaveTimes, at_moment}
-use Rattle.dnsv_timeline_laws.specs.declared.kind.Kind.{Kind}
 use Rattle.dnsv_texts.specs.declared.format.Format.{Format}
-use Rattle.dnsv_texts.specs.declared.format.Format.TheVariants.{Lines}
 
 module _ (basis : Basis) (other : ℕ) (same : AreSignaturesSameValid basis.rrsets basis.moment other) (name : Labels) (t : ℕ) where
   verdict_said : (format : Format) (said : Said) → IsVerdictSaid format basis name t said → IsVerdictSaid format (at_moment basis other) name t said
@@ -61,14 +57,6 @@ pub said_depends : (format : Format) (basis : Basis) (name : Labels) (t : ℕ) (
 said_depends format basis name t signatures have moment other said same =
     said_too (at_moment basis moment) other (same_by_times basis.rrsets signatures moment other have same) name t format said
 
-pub kind_depends : (basis : Basis) (name : Labels) (t : ℕ) (signatures : List Times) → HaveTimes basis.rrsets signatures
-    → DependsOn (IsKindAt basis name t) signatures
-kind_depends basis name t signatures have moment other kind same is = record {
-  said = is.said;
-  is = said_depends Lines basis name t signatures have moment other is.said same is.is;
-  kind_is = is.kind_is;
-}
-
 -- ---- one thing is told
 
 -- a question has one way to one verdict
@@ -99,13 +87,3 @@ module _ (one_verdict : HasOneVerdict) (one_refusal : HasOneRefusal) (not_both :
       absurd (not_both basis name t q.links q.last q.verdict p.error q.is p.is)
   one_told format basis said other (a_refusal p) (a_refusal q) =
       p.told ∙ ap (λ (error : VerdictError). told_refusal error) (one_refusal basis name t p.error q.error p.is q.is) ∙ sym q.told
-
-  one_kind : (basis : Basis) (moment : ℕ) (kind other : Kind) → IsKindAt basis name t moment kind → IsKindAt basis name t moment other
-      → kind ≡ other
-  one_kind basis moment kind other p q =
-      p.kind_is ∙ ap (λ (told : Told). told.kind) (one_told Lines (at_moment basis moment) p.said q.said p.is q.is) ∙ sym q.kind_is
-
-  pub one_of_kinds : (basis : Basis) (from to : ℕ) (kinds others : List (Stretch Kind)) → IsTimelineBy (IsKindAt basis name t) from to kinds
-      → IsTimelineBy (IsKindAt basis name t) from to others → kinds ≡ others
-  one_of_kinds basis from to kinds others =
-      one_by (IsKindAt basis name t) (one_kind basis) from to kinds others

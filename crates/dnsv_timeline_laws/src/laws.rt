@@ -5,15 +5,13 @@ ghost use Rattle.std.specs.Prelude.{◌≡◌, ◌↔◌, ◌≤◌, ℕ, List};
 ghost use Rattle.dnsv_canonical.specs.Rrsets.{ReceivedRrset};
 ghost use Rattle.dnsv_names.specs.Name.{Labels};
 ghost use Rattle.dnsv_timeline.specs.Dates.{AreTimesOf};
-ghost use Rattle.dnsv_timeline.specs.Timeline.{AreSameValid, DependsOn, IsTimelineBy};
-ghost use Rattle.dnsv_timeline.specs.declared.stretch.Stretch.{Stretch};
+ghost use Rattle.dnsv_timeline.specs.Timeline.{AreSameValid, DependsOn};
 ghost use Rattle.dnsv_timeline.specs.declared.times.Times.{Times};
 ghost use Rattle.dnsv_texts.specs.declared.format.Format.{Format};
 ghost use Rattle.dnsv_lines.specs.declared.line.Line.{Line};
 ghost use Rattle.dnsv_explain.specs.Derived.{AreLinksDerived, IsDerivationOf};
-ghost use Rattle.dnsv_timeline_laws.specs.Said.{IsKindAt, IsSaid, IsSaidAt, Said};
+ghost use Rattle.dnsv_timeline_laws.specs.Said.{IsSaid, IsSaidAt, Said};
 ghost use Rattle.dnsv_timeline_laws.specs.SameValid.{AreSignaturesSameValid, HaveTimes, at_moment};
-ghost use Rattle.dnsv_timeline_laws.specs.declared.kind.Kind.{Kind};
 ghost use Rattle.dnsv_verifier.specs.Within.{IsAskedWithin, IsTableWithin};
 ghost use Rattle.dnsv_verdict.specs.Verdict.{Basis, IsVerdictAt};
 ghost use Rattle.dnsv_verdict.specs.Way.{IsRefusal, IsVerdictOf};
@@ -66,22 +64,16 @@ pub fn the_times_of_all_signatures_tell()
 {}
 
 /// What is said of a question at a moment, which is what `check` tells of it with the signatures that derive it, depends
-/// on the moment through the validity of the evidence's signatures alone; so does its kind. So both have timelines.
+/// on the moment through the validity of the evidence's signatures alone. So it has a timeline.
 pub fn what_is_said_depends_on_signatures()
-    ensures said { (format : Format) (basis : Basis) (name : Labels) (t : ℕ) (signatures : List Times)
+    ensures { (format : Format) (basis : Basis) (name : Labels) (t : ℕ) (signatures : List Times)
         → HaveTimes basis.rrsets signatures → DependsOn (IsSaidAt format basis name t) signatures }
-    ensures kinds { (basis : Basis) (name : Labels) (t : ℕ) (signatures : List Times)
-        → HaveTimes basis.rrsets signatures → DependsOn (IsKindAt basis name t) signatures }
 {}
 
-/// At a moment one thing is told of a question, whichever signatures derive it; and of kinds alone it has at most one
-/// timeline.
+/// At a moment one thing is told of a question, whichever signatures derive it.
 pub fn one_thing_is_told_of_a_question()
-    ensures told { (format : Format) (basis : Basis) (name : Labels) (t : ℕ) (said other : Said)
+    ensures { (format : Format) (basis : Basis) (name : Labels) (t : ℕ) (said other : Said)
         → IsSaid format basis name t said → IsSaid format basis name t other → said.told ≡ other.told }
-    ensures kinds { (basis : Basis) (name : Labels) (t from to : ℕ) (kinds others : List (Stretch Kind))
-        → IsTimelineBy (IsKindAt basis name t) from to kinds → IsTimelineBy (IsKindAt basis name t) from to others
-        → kinds ≡ others }
 {
     a_question_leads_one_way();
 }
