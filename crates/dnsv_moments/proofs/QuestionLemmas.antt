@@ -9,9 +9,8 @@ use Rattle.dnsv_verdict.specs.declared.error.VerdictError.{VerdictError}
 use Rattle.dnsv_verdict.specs.declared.error.VerdictError.TheVariants.{BadQuestion, OutOfMemory}
 use Rattle.dnsv_verdict.specs.declared.verdict.Verdict.{Verdict}
 use Rattle.dnsv_verdict.specs.declared.verdict.Verdict.TheVariants as verdict
-use Rattle.dnsv_verifier.specs.declared.answer.Answer.{Answer}
-use Rattle.dnsv_verifier.specs.declared.entry.Entry.{Entry}
 use Rattle.dnsv_texts.specs.declared.format.Format.{Format}
+use Rattle.dnsv_timeline.specs.Timeline.{IsTimelineBy}
 use Rattle.dnsv_timeline.specs.declared.stretch.Stretch.{Stretch}
 use Rattle.dnsv_timeline_laws.proofs.SaidLemmas.{HasNotBoth, HasOneRefusal}
 use Rattle.dnsv_timeline_laws.specs.Kinds.{verdict_kind}
@@ -20,8 +19,7 @@ use Rattle.dnsv_timeline_laws.specs.Said.IsSaid.{a_refusal, a_verdict}
 use Rattle.dnsv_timeline_laws.specs.SameValid.{at_moment}
 use Rattle.dnsv_timeline_laws.specs.declared.kind.Kind.{Kind}
 use Rattle.dnsv_timeline_laws.specs.declared.kind.Kind.TheVariants.{Refused}
-use Rattle.dnsv_moments.specs.Moments.{MomentsContents, basis_with}
-use Rattle.dnsv_moments.specs.Question.{IsRefusedFor, IsRefusedThroughout, IsTimelineFor, TellKind}
+use Rattle.dnsv_moments.specs.Question.{IsRefusedThroughout, TellKind}
 use Rattle.dnsv_moments.proofs.TimelineLemmas.{lies_within, says_of, some_stretch, stretch_at}
 
 -- ---- refusals
@@ -96,32 +94,34 @@ one_refused one_refusal basis from to name t error other turned is its =
     (is from (omega arith) turned)
 
 -- of a question that can be asked
-module _ (one_refusal : HasOneRefusal) (not_both : HasNotBoth) (meaning : Entry → Answer) (moments : MomentsContents) (name : Labels) (t : ℕ)
-    (turned : moments.from ≤ moments.to) (question : IsQuestion name t) (format : Format) (xs : List (Stretch Said))
-    (timeline : IsTimelineFor meaning moments format name t xs) where
+module _ (one_refusal : HasOneRefusal) (not_both : HasNotBoth) (basis : Basis) (from to : ℕ) (name : Labels) (t : ℕ)
+    (turned : from ≤ to) (question : IsQuestion name t) (format : Format) (xs : List (Stretch Said))
+    (timeline : IsTimelineBy (IsSaidAt format basis name t) from to xs) where
   abbrev Says : ℕ → Said → Type 0
-  Says = IsSaidAt format (basis_with meaning moments) name t
+  Says = IsSaidAt format basis name t
 
-  pub said_told : (error : VerdictError) → TellKind (Refused error) xs → IsRefusedFor meaning moments name t error
+  pub said_told : (error : VerdictError) → TellKind (Refused error) xs → IsRefusedThroughout basis from to name t error
   said_told error all moment begun ends =
-      let (x, found, starts, stops) = stretch_at moments.from (moments.to + 1) moment xs timeline.without_gap begun (omega (arith, ends)) in
-      inr (question, refused_said format (at_moment (basis_with meaning moments) moment) name t x.said error
-      (says_of Says xs x timeline.each found moment starts stops) (all x found))
+      let (x, found, starts, stops) = stretch_at from (to + 1) moment xs timeline.without_gap begun (omega (arith, ends)) in
+      inr (
+        question,
+        refused_said format (at_moment basis moment) name t x.said error
+            (says_of Says xs x timeline.each found moment starts stops) (all x found),
+      )
 
-  pub all_told : (error : VerdictError) → IsRefusedFor meaning moments name t error → TellKind (Refused error) xs
+  pub all_told : (error : VerdictError) → IsRefusedThroughout basis from to name t error → TellKind (Refused error) xs
   all_told error is x found =
-      let (begins, within, ends) = lies_within moments.from (moments.to + 1) xs x timeline.without_gap found in
-      said_refused format (at_moment (basis_with meaning moments) x.from) name t one_refusal not_both x.said error
+      let (begins, within, ends) = lies_within from (to + 1) xs x timeline.without_gap found in
+      said_refused format (at_moment basis x.from) name t one_refusal not_both x.said error
       (says_of Says xs x timeline.each found x.from (omega arith) within)
-      (refused_at (basis_with meaning moments) moments.from moments.to name t error question is x.from begins (omega (arith, within, ends)))
+      (refused_at basis from to name t error question is x.from begins (omega (arith, within, ends)))
 
   -- two that all are refused for are one
-  pub said_one : (one other : VerdictError) → TellKind (Refused one) xs → IsRefusedFor meaning moments name t other → one ≡ other
+  pub said_one : (one other : VerdictError) → TellKind (Refused one) xs → IsRefusedThroughout basis from to name t other → one ≡ other
   said_one one other all is =
-      let (x, found, starts, stops) = stretch_at moments.from (moments.to + 1) moments.from xs timeline.without_gap (omega arith) (omega (arith, turned)) in
-      same_error one other (sym (all x found) ∙ all_told other is x found)
+      one_refused one_refusal basis from to name t one other turned (said_told one all) is
 
   pub said_none : ((error : VerdictError) → xs ≢ [] → ¬ TellKind (Refused error) xs) → (error : VerdictError)
-      → ¬ IsRefusedFor meaning moments name t error
+      → ¬ IsRefusedThroughout basis from to name t error
   said_none none error is =
-      none error (some_stretch moments.from moments.to xs turned timeline.without_gap) (all_told error is)
+      none error (some_stretch from to xs turned timeline.without_gap) (all_told error is)

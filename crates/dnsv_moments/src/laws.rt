@@ -4,12 +4,14 @@
 ghost use Rattle.std.specs.Prelude.{◌≡◌, ◌↔◌, ◌≤◌, List, ℕ};
 ghost use Rattle.dnsv_canonical.specs.Rrsets.{IsQuestion};
 ghost use Rattle.dnsv_moments.specs.Moments.{IsSaidBy, MomentsContents};
-ghost use Rattle.dnsv_moments.specs.Question.{IsRefusedFor, IsTimelineFor, TellKind};
+ghost use Rattle.dnsv_moments.specs.Question.{IsRefusedFor, IsRefusedThroughout, IsTimelineFor, TellKind};
 ghost use Rattle.dnsv_names.specs.Name.{Labels};
 ghost use Rattle.dnsv_texts.specs.declared.format.Format.{Format};
+ghost use Rattle.dnsv_timeline.specs.Timeline.{IsTimelineBy};
 ghost use Rattle.dnsv_timeline.specs.declared.stretch.Stretch.{Stretch};
-ghost use Rattle.dnsv_timeline_laws.specs.Said.{Said};
+ghost use Rattle.dnsv_timeline_laws.specs.Said.{IsSaidAt, Said};
 ghost use Rattle.dnsv_timeline_laws.specs.declared.kind.Kind.TheVariants.{Refused};
+ghost use Rattle.dnsv_verdict.specs.Verdict.{Basis};
 ghost use Rattle.dnsv_verdict.specs.declared.error.VerdictError.{VerdictError};
 ghost use Rattle.dnsv_verifier.specs.declared.answer.Answer.{Answer};
 ghost use Rattle.dnsv_verifier.specs.declared.entry.Entry.{Entry};
@@ -36,17 +38,17 @@ pub fn a_question_has_one_timeline()
     a_table_for_a_range_serves_each_moment();
 }
 
-/// A question is refused throughout for at most one reason, just where each stretch of its timeline tells that one, and
-/// alike for all verifiers that the table may be of. The stretches may still be several: they differ in the signatures
-/// that derive the alias which can't be followed.
+/// A question is refused throughout for at most one reason, and one that can be asked is, just where each stretch of its
+/// timeline tells that reason. The stretches may be several all the same, since they differ in the signatures that derive
+/// the alias which can't be followed. It is refused alike for all verifiers that the table may be of.
 pub fn what_is_refused_throughout()
-    ensures one { (meaning : Entry → Answer) (moments : MomentsContents) (name : Labels) (t : ℕ)
-        (error other : VerdictError) → moments.from ≤ moments.to
-        → IsRefusedFor meaning moments name t error → IsRefusedFor meaning moments name t other → error ≡ other }
-    ensures told { (meaning : Entry → Answer) (moments : MomentsContents) (format : Format) (name : Labels) (t : ℕ)
-        (error : VerdictError) (stretches : List (Stretch Said)) → moments.from ≤ moments.to → IsQuestion name t
-        → IsTimelineFor meaning moments format name t stretches
-        → (IsRefusedFor meaning moments name t error ↔ TellKind (Refused error) stretches) }
+    ensures one { (basis : Basis) (from to : ℕ) (name : Labels) (t : ℕ) (error other : VerdictError) → from ≤ to
+        → IsRefusedThroughout basis from to name t error → IsRefusedThroughout basis from to name t other
+        → error ≡ other }
+    ensures told { (format : Format) (basis : Basis) (from to : ℕ) (name : Labels) (t : ℕ) (error : VerdictError)
+        (stretches : List (Stretch Said)) → from ≤ to → IsQuestion name t
+        → IsTimelineBy (IsSaidAt format basis name t) from to stretches
+        → (IsRefusedThroughout basis from to name t error ↔ TellKind (Refused error) stretches) }
     ensures whoever { (meaning other : Entry → Answer) (moments : MomentsContents) (name : Labels) (t : ℕ)
         (error : VerdictError) → IsSaidBy meaning moments → IsSaidBy other moments
         → IsRefusedFor meaning moments name t error → IsRefusedFor other moments name t error }

@@ -1,17 +1,15 @@
-use Rattle.dnsv_moments.specs.Moments.{basis_with}
 use Rattle.dnsv_moments.proofs.QuestionLemmas.{all_told, one_refused, said_told}
 use Rattle.dnsv_moments.proofs.VerifierLemmas.{refused_for_other}
 use Rattle.dnsv_moments.proofs.laws.what_is_refused_throughout.Goals as goal
 
 pub returns-clause-one : goal.returns-clause-one
-returns-clause-one c = λ meaning moments name t error other.
-    one_refused c.a_question_leads_one_way.ensures.refusal (basis_with meaning moments) moments.from moments.to name t error other
+returns-clause-one c = one_refused c.a_question_leads_one_way.ensures.refusal
 
 pub returns-clause-told : goal.returns-clause-told
-returns-clause-told c = λ meaning moments format name t error stretches turned question timeline. (
-  all_told c.a_question_leads_one_way.ensures.refusal c.a_question_leads_one_way.ensures.not_both meaning moments name t turned question
+returns-clause-told c = λ format basis from to name t error stretches turned question timeline. (
+  all_told c.a_question_leads_one_way.ensures.refusal c.a_question_leads_one_way.ensures.not_both basis from to name t turned question
       format stretches timeline error,
-  said_told c.a_question_leads_one_way.ensures.refusal c.a_question_leads_one_way.ensures.not_both meaning moments name t turned question
+  said_told c.a_question_leads_one_way.ensures.refusal c.a_question_leads_one_way.ensures.not_both basis from to name t turned question
       format stretches timeline error,
 )
 
