@@ -1,5 +1,5 @@
 -- What is said of a question is the same for verifiers that answer alike what is asked at the moment.
-use Rattle.std.proofs.Common.{◌≡◌, ◌∙◌, ℕ, List, [], ◌∷◌, ◌++◌, inl, inr, sym, ap}
+use Rattle.std.proofs.Common.{◌≡◌, ◌∙◌, ℕ, List, [], ◌∷◌, inl, inr, sym, ap}
 use Rattle.dnsv_names.specs.Name.{Labels}
 use Rattle.dnsv_canonical.specs.Rrsets.{ReceivedRrset}
 use Rattle.dnsv_verifier.specs.Admissible.{IsAsked}
@@ -10,7 +10,7 @@ use Rattle.dnsv_chain.specs.Trusted.{IsSecured}
 use Rattle.dnsv_chain.specs.declared.anchor.Anchor.{Anchor}
 use Rattle.dnsv_verdict.proofs.SettledLemmas.{settled_as_to, settled_to}
 use Rattle.dnsv_verdict.specs.Verdict.{AreUnknown, Basis, IsSettledAsBy, IsSettledBy, IsVerdictAt, MayBeSettledBy, with_meaning}
-use Rattle.dnsv_verdict.specs.Way.{IsRefusal, IsRefusedFor, IsVerdictOf, IsWay, LeadTo}
+use Rattle.dnsv_verdict.specs.Way.{IsRefusal, IsRefusedFor, IsWay, LeadTo}
 use Rattle.dnsv_verdict.specs.declared.error.VerdictError.{VerdictError}
 use Rattle.dnsv_verdict.specs.declared.link.Link.{Link}
 use Rattle.dnsv_verdict.specs.declared.verdict.Verdict.{Verdict}
@@ -18,7 +18,7 @@ use Rattle.dnsv_verdict.specs.declared.verdict.Verdict.TheVariants.{SecureAnswer
 use Rattle.dnsv_texts.specs.declared.format.Format.{Format}
 use Rattle.dnsv_timeline_laws.proofs.WithinLemmas.{table_alike}
 use Rattle.dnsv_timeline_laws.specs.Alike.{AreAnsweredAlike}
-use Rattle.dnsv_timeline_laws.specs.Said.{IsRefusalSaid, IsSaid, IsVerdictSaid, Said}
+use Rattle.dnsv_timeline_laws.specs.Said.{IsSaid, Said}
 use Rattle.dnsv_timeline_laws.specs.Said.IsSaid.{a_refusal, a_verdict}
 
 -- what is good depends on the verifier through what is asked alone
