@@ -41,9 +41,10 @@ pub struct Outcome {
 /// written before the next is judged. The octets of the messages lie in an arena of its own.
 ///
 /// The answer is a status where the output got the whole text, and else the first fault in the order of the
-/// work: the question's name and type, or the file of questions, the keys, the MACs of requests, reading the file of
-/// captured messages, its framing, the number of the MACs, each message in turn, the trust anchors, and then the
-/// statements, or the answers. A write that fails is not tried again; the output then has a beginning of the text.
+/// work: the question's name and type, or the file of questions, the range of moments, the keys, the MACs of requests,
+/// reading the file of captured messages, its framing, the number of the MACs, each message in turn, the trust anchors,
+/// and then the statements, or the answers. A write that fails is not tried again; the output then has a beginning of the
+/// text.
 pub fn run<R: Read, W: Write>(
     alloc: Global,
     request: &Request,
@@ -58,7 +59,7 @@ pub fn run<R: Read, W: Write>(
     // The fault is the first that the files have.
     ensures faults { TellsFaults (IsFirstFault request.now) R.remaining inputs.old inputs.new result }
 
-    // A question that is refused is always told, whatever memory and files there are.
+    // A question or a range that is refused is always told, whatever memory and files there are.
     ensures question { (fault : Fault) → AsksRefused request.now fault → result ≡ Err fault }
 
     // A failed read is told of a file that the request reads, and what comes before that file is in order.
