@@ -65,7 +65,7 @@ pub fn check_each<R: Read, W: Write>(
         → output.new ≡ output.old) }
 {
     let questions: Questions = text_in(alloc, InputFile::Questions, &mut inputs.questions)?;
-    let given = given_in(alloc, Span::At(moment), inputs, bump)?;
+    let given = given_in(alloc, &Span::At(moment), inputs, bump)?;
     answer_all(
         alloc,
         bump,

@@ -76,7 +76,7 @@ fn check_question<R: Read>(
     ensures unwritten { IfErr result (λ fault. fault ≡ Fault.WriteFailed → ⊥) }
     ensures unrefused { IfOk result (λ outcome. outcome.status ≡ Refused → ⊥) }
 {
-    let given = given_in(alloc, Span::At(asked.moment), inputs, bump)?;
+    let given = given_in(alloc, &Span::At(asked.moment), inputs, bump)?;
     judge_given(alloc, bump, telling, asked, &given)
 }
 

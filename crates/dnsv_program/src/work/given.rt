@@ -47,15 +47,15 @@ pub enum Said {
 /// trust anchors, and then the statements or the answers. Of a range no keys are read.
 pub fn given_in<'b, R: Read>(
     alloc: Global,
-    span: Span,
+    span: &Span,
     inputs: &mut Inputs<R>,
     bump: &'b Bump,
 ) -> Result<Given<'b>, Fault>
     ensures given { (files : Files) → AreToldBeside R.remaining inputs.old files → IfOk result (λ given.
-        AreReadFrom (moments_of span) files given.held.rrsets given.anchors given.said) }
-    ensures faults { TellsFaultsBeside (IsFirstFaultOfFiles (moments_of span)) R.remaining inputs.old inputs.new result }
+        AreReadFrom (moments_of span.now) files given.held.rrsets given.anchors given.said) }
+    ensures faults { TellsFaultsBeside (IsFirstFaultOfFiles (moments_of span.now)) R.remaining inputs.old inputs.new result }
     ensures reached { (files : Files) → AreToldBeside R.remaining inputs.old files
-        → IfErr result (OfFailedRead (IsReachedOfFiles (moments_of span) files)) }
+        → IfErr result (OfFailedRead (IsReachedOfFiles (moments_of span.now) files)) }
     ensures questions { inputs.new.questions ≡ inputs.old.questions }
     ensures unwritten { IfErr result (λ fault. fault ≡ Fault.WriteFailed → ⊥) }
 {
@@ -75,25 +75,25 @@ pub fn given_in<'b, R: Read>(
 /// nothing.
 fn opening_at<R: Read>(
     alloc: Global,
-    span: Span,
+    span: &Span,
     keys: &mut Option<Counted<R>>,
     macs: &mut Option<Counted<R>>,
 ) -> Result<Opening, Fault>
     ensures opening { (keys_octets macs_octets : Option (List ℕ)) → IsToldBy R.remaining keys.old keys_octets
         → IsToldBy R.remaining macs.old macs_octets
-        → IfOk result (IsOpeningAt keys_octets macs_octets (moments_of span)) }
+        → IfOk result (IsOpeningAt keys_octets macs_octets (moments_of span.now)) }
     ensures faults { (keys_octets macs_octets : Option (List ℕ)) → IsToldBy R.remaining keys.old keys_octets
         → IsToldBy R.remaining macs.old macs_octets
-        → IfErr result (OfOctets (IsFaultOfOpeningAt keys_octets macs_octets (moments_of span))) }
+        → IfErr result (OfOctets (IsFaultOfOpeningAt keys_octets macs_octets (moments_of span.now))) }
     ensures reached { (keys_octets macs_octets : Option (List ℕ)) → IsToldBy R.remaining keys.old keys_octets
         → IsToldBy R.remaining macs.old macs_octets
-        → IfErr result (OfFailedRead (IsOpeningReachedAt keys_octets macs_octets (moments_of span))) }
+        → IfErr result (OfFailedRead (IsOpeningReachedAt keys_octets macs_octets (moments_of span.now))) }
     ensures keys_reads { TellsFailedReads InputFile.Keys (given_failures keys.old) (given_failures keys.new) result }
     ensures macs_reads { TellsFailedReads InputFile.Macs (given_failures macs.old) (given_failures macs.new) result }
     ensures about { IfErr result (λ told. IsAbout InputFile.Keys told ⊎ IsAbout InputFile.Macs told) }
 {
     match span {
-        Span::At(moment) => opening_in(alloc, moment, keys, macs),
+        Span::At(moment) => opening_in(alloc, *moment, keys, macs),
         Span::Within(_) => Ok(Opening::Plain),
     }
 }
@@ -104,17 +104,17 @@ fn opening_at<R: Read>(
 /// The fault is the first of the file that is read.
 fn said_in<R: Read>(
     alloc: Global,
-    span: Span,
+    span: &Span,
     frames: &[&[u8]],
     statements: &mut Option<Counted<R>>,
     answers: &mut Option<Counted<R>>,
 ) -> Result<Said, Fault>
     ensures said { (capture : List ℕ) (stated answered : Option (List ℕ)) → IsCapture capture (octets_at_each frames.now)
         → IsToldBy R.remaining statements.old stated → IsToldBy R.remaining answers.old answered
-        → IfOk result (IsSaidBy capture (moments_of span) stated answered) }
+        → IfOk result (IsSaidBy capture (moments_of span.now) stated answered) }
     ensures faults { (capture : List ℕ) (stated answered : Option (List ℕ)) → IsCapture capture (octets_at_each frames.now)
         → IsToldBy R.remaining statements.old stated → IsToldBy R.remaining answers.old answered
-        → IfErr result (OfOctets (IsFaultBeforeKnown capture (moments_of span) stated answered)) }
+        → IfErr result (OfOctets (IsFaultBeforeKnown capture (moments_of span.now) stated answered)) }
     ensures reached { (stated answered : Option (List ℕ)) → IsToldBy R.remaining statements.old stated
         → IsToldBy R.remaining answers.old answered → IfErr result (OfFailedRead (IsKnownReached stated answered)) }
     ensures statements_reads { TellsFailedReads InputFile.Statements (given_failures statements.old)

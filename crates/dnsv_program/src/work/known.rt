@@ -116,7 +116,7 @@ pub fn open_case<'a>(
             Ok(judging)
         }
         Said::Answers(answers) => {
-            let table = table_of(alloc, bump, held, Span::At(moment), answers)?;
+            let table = table_of(alloc, bump, held, &Span::At(moment), answers)?;
             let judging = Judging::by_table(alloc, bump, why, moment, held, anchors, table)?;
             Ok(judging)
         }
@@ -129,12 +129,12 @@ pub fn table_of<'a>(
     alloc: Global,
     bump: &'a Bump,
     held: &'a Capture<'a>,
-    span: Span,
+    span: &Span,
     answers: &Answers,
 ) -> Result<Table<'a>, Fault>
-    ensures table { IfOk result (IsAnsweredTableWithin (begin_of (moments_of span)) (end_of (moments_of span))
+    ensures table { IfOk result (IsAnsweredTableWithin (begin_of (moments_of span.now)) (end_of (moments_of span.now))
         held.now.rrsets (answers_in answers.now)) }
-    ensures fault { IfErr result (IsFaultOf (AreTooManyOrFew (moments_of span) held.now.rrsets answers.now)) }
+    ensures fault { IfErr result (IsFaultOf (AreTooManyOrFew (moments_of span.now) held.now.rrsets answers.now)) }
 {
     match answered_table_within(alloc, bump, held, span.range(), answers) {
         Ok(table) => Ok(table),

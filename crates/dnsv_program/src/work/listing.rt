@@ -46,7 +46,7 @@ pub fn list<R: Read>(
 {
     match listing {
         Listing::All => list_all(alloc, format, moment, inputs, bump),
-        Listing::Todo(form) => list_todo(alloc, form, format, Span::At(moment), inputs, bump),
+        Listing::Todo(form) => list_todo(alloc, form, format, &Span::At(moment), inputs, bump),
     }
 }
 
@@ -71,7 +71,7 @@ pub fn list_range<R: Read>(
     ensures unwritten { IfErr result (λ fault. fault ≡ Fault.WriteFailed → ⊥) }
 {
     let range = range_between(from, to)?;
-    list_todo(alloc, form, format, Span::Within(range), inputs, bump)
+    list_todo(alloc, form, format, &Span::Within(range), inputs, bump)
 }
 
 /// What each signature signs.
@@ -99,12 +99,12 @@ fn list_todo<R: Read>(
     alloc: Global,
     form: Form,
     format: Format,
-    span: Span,
+    span: &Span,
     inputs: &mut Inputs<R>,
     bump: &Bump,
 ) -> Result<String, Fault>
     ensures text { (files : Files) → AreTold R.remaining inputs.old files
-        → IfOk result (λ text. IsTodo form format (moments_of span) files (string_bytes text)) }
+        → IfOk result (λ text. IsTodo form format (moments_of span.now) files (string_bytes text)) }
     ensures faults { TellsFaults IsFirstFaultOfTodo R.remaining inputs.old inputs.new result }
     ensures reached { (files : Files) → AreTold R.remaining inputs.old files
         → IfErr result (OfFailedRead (IsReachedByTodo files)) }
@@ -117,39 +117,40 @@ fn list_todo<R: Read>(
 }
 
 /// Each entry that the verifier knows nothing of, of those that it is asked about the evidence: in lines, or in JSON.
-fn still_to_check<V: Verifier>(
+fn still_to_check<'a, V: Verifier>(
     alloc: Global,
-    bump: &Bump,
+    bump: &'a Bump,
     form: Form,
     format: Format,
-    held: &Capture<'_>,
-    span: Span,
+    held: &'a Capture<'a>,
+    span: &Span,
     verifier: &V,
 ) -> Result<String, AllocError>
     ensures { IfOk result (λ text. (table : TableContents)
-        × IsTableWithin (V.meaning verifier.now) (begin_of (moments_of span)) (end_of (moments_of span))
+        × IsTableWithin (V.meaning verifier.now) (begin_of (moments_of span.now)) (end_of (moments_of span.now))
         held.now.rrsets table
-        × ListsEntries form format (moments_of span) held.now.rrsets (unknown_entries table) (string_bytes text)) }
+        × ListsEntries form format (moments_of span.now) held.now.rrsets (unknown_entries table) (string_bytes text)) }
 {
     let mut asked = Count::new();
-    let table = ask_within(alloc, bump, held, span.range(), verifier, &mut asked)?;
+    let range = span.range();
+    let table = ask_within(alloc, bump, held, range, verifier, &mut asked)?;
     let unknown = table.unknown(alloc)?;
     entries_text(alloc, bump, form, format, held.rrsets(), span, &unknown)
 }
 
 /// Entries that are asked of the RRsets: each whole, or each octet once.
-fn entries_text(
+fn entries_text<'a>(
     alloc: Global,
-    bump: &Bump,
+    bump: &'a Bump,
     form: Form,
     format: Format,
-    rrsets: &[Rrset<'_>],
-    span: Span,
+    rrsets: &'a [Rrset<'a>],
+    span: &Span,
     entries: &Entries<'_>,
 ) -> Result<String, AllocError>
     requires { (entry : Entry) → Contains entries.now entry
-        → IsAskedWithin (begin_of (moments_of span)) (end_of (moments_of span)) rrsets.now entry }
-    ensures { IfOk result (λ text. ListsEntries form format (moments_of span) rrsets.now entries.now
+        → IsAskedWithin (begin_of (moments_of span.now)) (end_of (moments_of span.now)) rrsets.now entry }
+    ensures { IfOk result (λ text. ListsEntries form format (moments_of span.now) rrsets.now entries.now
         (string_bytes text)) }
 {
     match form {

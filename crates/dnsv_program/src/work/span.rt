@@ -10,7 +10,7 @@ use dnsv_files::{Fault, Moment, Place, Refusal};
 use dnsv_timeline::Range;
 
 /// One moment, or those of a range.
-#[derive(Clone, Copy)]
+#[derive(Drop)]
 pub enum Span {
     /// One moment.
     At(Moment),
@@ -20,8 +20,8 @@ pub enum Span {
 
 impl Span {
     /// The moments as lists and answers have them.
-    pub fn moments(self) -> Moments
-        ensures { result ≡ specs.moments_of self }
+    pub fn moments(&self) -> Moments
+        ensures { result ≡ specs.moments_of self.now }
     {
         match self {
             Span::At(moment) => Moments::At(moment.seconds()),
@@ -30,13 +30,13 @@ impl Span {
     }
 
     /// The range of them; one moment is a range.
-    pub fn range(self) -> Range
-        ensures from { result.from ≡ begin_of (specs.moments_of self) }
-        ensures to { result.to ≡ end_of (specs.moments_of self) }
+    pub fn range(&self) -> Range
+        ensures from { result.from ≡ begin_of (specs.moments_of self.now) }
+        ensures to { result.to ≡ end_of (specs.moments_of self.now) }
     {
         match self {
-            Span::At(moment) => range_at(moment),
-            Span::Within(range) => range,
+            Span::At(moment) => range_at(*moment),
+            Span::Within(range) => *range,
         }
     }
 }

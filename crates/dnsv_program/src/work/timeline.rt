@@ -92,7 +92,7 @@ fn timeline_in<R: Read>(
         (IsReachedOfFiles (Between question.now.range.from question.now.range.to) files)) }
     ensures unwritten { IfErr result (λ fault. fault ≡ Fault.WriteFailed → ⊥) }
 {
-    let given = given_in(alloc, Span::Within(question.range), inputs, bump)?;
+    let given = given_in(alloc, &Span::Within(question.range), inputs, bump)?;
     timeline_by(alloc, bump, showing, question, &given)
 }
 
@@ -162,7 +162,7 @@ fn moments_by<'a>(
             Ok(moments)
         }
         Said::Answers(answers) => {
-            let table = table_of(alloc, bump, held, Span::Within(range), answers)?;
+            let table = table_of(alloc, bump, held, &Span::Within(range), answers)?;
             Ok(Moments::of(held, anchors, range, table))
         }
     }
