@@ -17,7 +17,7 @@ use Rattle.clap.specs.Words.{new_rule}
 use Rattle.dnsv_commands.proofs.CommandLineLemmas.Rows.{AreRowsIn, IsIn, IsRowIn, IsRowOf, StartsPassing}
 use Rattle.clap.specs.declared.builder.ArgAction.TheVariants.{SetTrue}
 use Rattle.dnsv_commands.specs.Commands.{anchors_rule, capture_rule, list_app, moment_rule, name_rule, needed, program_app, question_app, show_app, timeline_app, type_rule}
-use Rattle.dnsv_commands.specs.CommandLine.{HasCapture, HasCheckValues, HasListValues, HasNumber, HasTimelineValues, IsFlag, MayHaveNumber}
+use Rattle.dnsv_commands.specs.CommandLine.{HasCapture, HasCheckValues, HasListValues, HasNumber, HasTimelineValues, HasValue, IsFlag, MayHaveNumber}
 use Rattle.dnsv_files.specs.Moment.{last_moment}
 
 -- what building makes of the program and of its subcommands
@@ -134,6 +134,9 @@ required_value s a rows only at required negates all fault =
     (not (s.subcommand_negates_reqs && false) && list_any (λ a. a.required && not (is_given a.id rows)) s.rules) fault in
     value_given s a.id a rows only all (given_where_required s.rules rows a (rw negates at missing) at required)
 
+has_value : (a : Rule) (id : Text) (rows : List Row) → HasValueOf a id rows → HasValue id rows
+has_value a id rows value = ap is_some value.1
+
 -- the options, as built
 abbrev built_capture : Rule
 built_capture = filled capture_rule
@@ -201,12 +204,12 @@ flag_has s word rows only all = go (find (λ r. bytes_eq r.id word) rows) refl
 pub show_values : (rows : List Row) → AreRowsIn show_shape.rules rows → check_fault show_shape rows false ≡ [] → HasCapture rows
 show_values rows all fault =
     let file = required_value show_shape built_capture rows (λ e. refl, (λ e. cc, tt)) (inl refl) refl refl all fault in
-    ap is_some file.1
+    has_value built_capture (codes "capture") rows file
 
 pub list_values : (rows : List Row) → AreRowsIn list_shape.rules rows → check_fault list_shape rows false ≡ [] → HasListValues rows
 list_values rows all fault =
     let file = required_value list_shape built_capture rows (λ e. refl, (λ e. cc, (λ e. cc, (λ e. cc, (λ e. cc, (λ e. cc, (λ e. cc, (λ e. cc, (λ e. cc, tt))))))))) (inl refl) refl refl all fault in (
-      ap is_some file.1,
+      has_value built_capture (codes "capture") rows file,
       (
         moment_may list_shape (codes "moment") rows (λ e. cc, (λ e. refl, (λ e. cc, (λ e. cc, (λ e. cc, (λ e. cc, (λ e. cc, (λ e. cc, (λ e. cc, tt))))))))) all,
         moment_may list_shape (codes "from") rows (λ e. cc, (λ e. cc, (λ e. refl, (λ e. cc, (λ e. cc, (λ e. cc, (λ e. cc, (λ e. cc, (λ e. cc, tt))))))))) all,
@@ -230,8 +233,8 @@ module _ (why : Bool) (rows : List Row) (all : AreRowsIn (question_shape why).ru
 
   pub check_values : HasCheckValues rows
   check_values = (
-    ap is_some check_capture.1,
-    ap is_some check_anchors.1,
+    has_value built_capture (codes "capture") rows check_capture,
+    has_value built_anchors (codes "anchors") rows check_anchors,
     (check_moment.0, check_moment.1, check_moment.2, check_moment.3),
     type_may (question_shape why) rows (λ e. cc, (λ e. cc, (λ e. cc, (λ e. cc, (λ e. refl, (λ e. cc, (λ e. cc, (λ e. cc, (λ e. cc, (λ e. cc, (λ e. cc, (λ e. cc, tt)))))))))))) all,
     flag_has (question_shape why) (codes "json") rows (λ e. cc, (λ e. cc, (λ e. cc, (λ e. cc, (λ e. cc, (λ e. cc, (λ e. cc, (λ e. cc, (λ e. cc, (λ e. cc, (λ e. refl, (λ e. cc, tt)))))))))))) all,
@@ -258,11 +261,11 @@ module _ (rows : List Row) (all : AreRowsIn timeline_shape.rules rows) (fault : 
 
   pub timeline_values : HasTimelineValues rows
   timeline_values = (
-    ap is_some timeline_capture.1,
-    ap is_some timeline_anchors.1,
+    has_value built_capture (codes "capture") rows timeline_capture,
+    has_value built_anchors (codes "anchors") rows timeline_anchors,
     (timeline_from.0, timeline_from.1, timeline_from.2, timeline_from.3),
     (timeline_to.0, timeline_to.1, timeline_to.2, timeline_to.3),
-    ap is_some timeline_name.1,
+    has_value needed_name (codes "name") rows timeline_name,
     (timeline_type.0, timeline_type.1, timeline_type.2, timeline_type.3),
     flag_has timeline_shape (codes "kinds") rows (λ e. cc, (λ e. cc, (λ e. cc, (λ e. cc, (λ e. cc, (λ e. cc, (λ e. cc, (λ e. cc, (λ e. refl, (λ e. cc, (λ e. cc, tt))))))))))) all,
     flag_has timeline_shape (codes "json") rows (λ e. cc, (λ e. cc, (λ e. cc, (λ e. cc, (λ e. cc, (λ e. cc, (λ e. cc, (λ e. cc, (λ e. cc, (λ e. refl, (λ e. cc, tt))))))))))) all,

@@ -193,8 +193,8 @@ pub unclear_as : (r : Result Request CommandLineError) (words : List Text) (why 
     → IfErr r (IsRefused words)
 unclear_as (Ok request) words why rows none met told = tt
 unclear_as (Err error) words why rows none met (inl memory) = subst (IsRefused words) (sym memory) tt
-unclear_as (Err error) words why rows none met (inr (inl unclear)) = subst (IsRefused words) (sym unclear.0) (why, none, (rows, met, unclear.1))
-unclear_as (Err error) words why rows none met (inr (inr both)) = subst (IsRefused words) (sym both.0) (inr (why, none, (rows, met, both.1)))
+unclear_as (Err error) words why rows none met (inr (inl unclear)) = subst (IsRefused words) (sym unclear.0) (why, (none, (rows, met, unclear.1)))
+unclear_as (Err error) words why rows none met (inr (inr both)) = subst (IsRefused words) (sym both.0) (inr (why, (none, (rows, met, both.1))))
 
 pub no_list_as : (r : Result Request CommandLineError) (words : List Text) (rows : List Row) → fault_of program_app words ≡ []
     → subcommand_of program_app words ≡ Some (codes "list", rows)
