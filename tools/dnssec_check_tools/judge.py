@@ -105,7 +105,8 @@ def text_of(options: argparse.Namespace, has_captures: bool, common: Common) -> 
 def timeline_text(options: argparse.Namespace, has_captures: bool, now: int) -> Text:
     if options.jsonl or options.tsv:
         return rows_text(timelines.json_line if options.jsonl else timelines.tsv_line)
-    return (timelines.TimelineSums if options.every else timelines.TimelineLines)(has_captures, now, paths_of(options)).text
+    lines = timelines.TimelineSums if options.every else timelines.TimelineLines
+    return lines(has_captures, now, paths_of(options)).text
 
 
 def table_text(options: argparse.Namespace) -> Optional[Text]:
@@ -172,7 +173,8 @@ def common_of(options: argparse.Namespace, written: Iterable[int] = ()) -> Commo
     keys, macs = (read(path[0]) if path else None for path in (options.keys, options.macs))
     budget = Budget(options.budget, options.budget_octets, options.budget_questions)
     anchors = anchors_of(once(options.anchors), around(moments, options.skew))
-    return Common(anchors, keys, macs, moments, budget, bool(options.html), options.skew, wish_of(options), span_of(options))
+    wishes = wish_of(options), span_of(options)
+    return Common(anchors, keys, macs, moments, budget, bool(options.html), options.skew, *wishes)
 
 
 def judge_tasks(

@@ -26,7 +26,10 @@ from ..program import PENDING, SECURE, Json
 from .pieces import Edge
 from .sentences import edges, following
 
-COLUMNS = ("capture", "from", "to", "name", "type", "status", "verdict", "evidence", "edges", "next", "reason", "ede", "reasons")
+COLUMNS = (
+    *("capture", "from", "to", "name", "type", "status", "verdict", "evidence", "edges", "next"),
+    *("reason", "ede", "reasons"),
+)
 NOBODY = "Pending on signatures that could not be verified here"
 
 
