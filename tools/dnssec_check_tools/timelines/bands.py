@@ -76,8 +76,9 @@ def band_of(about: str, stays: Sequence[Stay], moments: Dict[str, int]) -> Band:
     for stay, width in zip(stays, widths_of(stays)):
         kind, letter = KINDS[kind_of(stay.word)]
         shown = letter if width >= LETTER_LEAST else ""
-        pieces.append(Piece(round(left, 2), round(width, 2), kind, shown, spoken(stay)))
+        front = round(left, 2)
         left += width
+        pieces.append(Piece(front, round(round(left, 2) - front, 2), kind, shown, spoken(stay)))
     places = [(place_of(moment, stays, pieces), name) for name, moment in moments.items()]
     marks = [mark_at(place, name) for place, name in places if place is not None]
     return Band(pieces, marks, f"{about}: " + "; ".join(piece.title for piece in pieces))

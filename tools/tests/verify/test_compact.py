@@ -64,11 +64,11 @@ class Examples(unittest.TestCase):
                 if example.folder.name not in MADE_UP:
                     self.assertEqual(told, (0, example.files["answers"].read_bytes(), ""))
                     count += 1
-        self.assertEqual(count, 14)
+        self.assertEqual(count, 15)
 
     def test_the_program_itself(self):
-        example, listed, moment = next(each for each in answered() if each[0].folder.name == "answers-bind-www-a")
-        words = "--compact", "--capture", listed.files["capture"], "--moment", moment, listed.output_file
+        example, listed = next(each for each in answered() if each[0].folder.name == "answers-bind-www-a")
+        words = "--compact", "--capture", listed.files["capture"], *moments_of(example), listed.output_file
         self.assertEqual(run_program(TOOLS / "verify", *words), (0, example.files["answers"].read_bytes(), ""))
 
 
