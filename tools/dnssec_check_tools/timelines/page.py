@@ -9,12 +9,12 @@ from ..explaining.page import TEMPLATES, environment_of, library, listed
 from ..explaining.page import template_text as others_text
 from ..explaining.said import Said
 from ..judging.page import Page
-from ..judging.text import asked_text, reasons_of
+from ..judging.text import asked_text
 from ..judging.work import Row
 from .bands import Band, Stay, band_of, kind_of
 from .pieces import Stretch
 from .sentences import edges, following
-from .text import TimelineLines, by_question
+from .text import TimelineLines, by_question, failing
 
 TEMPLATE, MANY = "timelines.html", 20  # questions, from which on a page has its contents in front
 HEAD = "Timelines of DNSSEC"
@@ -78,7 +78,7 @@ class TimelinePage(Page):
         return Told(path, question, said, band_of(question, stays, marks), stages)
 
     def stage(self, path: str, row: Row, stretch: Stretch) -> Stage:
-        behind = [*reasons_of(row), *([following(stretch.next, self.now)] if stretch.next else [])]
+        behind = [*failing(row), *([following(stretch.next, self.now)] if stretch.next else [])]
         said = self.lines.said(path, row)
         kind = kind_of(row.word).lower()
         before = edges(stretch.edges, self.now)

@@ -10,6 +10,7 @@ from .helper import Timelines, option, timelines
 
 SPAN = re.compile(r"^\S+ \S+ from (\S+) to (\S+?)(, now)?: (\S+)")
 FROM_BEST = (0, 3, 4, 5, 6, 7, 1)
+OTHERS = ("timeline-pending-some",)  # whose statements lack some that can be verified
 
 
 def spans(lines):
@@ -76,9 +77,9 @@ class Lines(Timelines):
                 rows = [json.loads(line) for line in lines]
                 self.assertEqual((rows[0]["from"], rows[-1]["to"]), (int(option(example, "--from")), int(option(example, "--to"))))
                 self.assertTrue(all(row["to"] + 1 == other["from"] for row, other in zip(rows, rows[1:])))
-                if example.folder.name != "timeline-pending-some":  # whose statements lack some
+                self.assertEqual(status, max((row["status"] for row in rows), key=FROM_BEST.index))
+                if example.folder.name not in OTHERS:
                     self.assertEqual([row["verdict"] for row in rows], of_kinds(example))
-                    self.assertEqual(status, max((row["status"] for row in rows), key=FROM_BEST.index))
                 count += 1
         self.assertGreater(count, 38)
 
