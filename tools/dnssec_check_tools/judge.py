@@ -23,6 +23,10 @@ loads nothing.
 With --warn lines ODD say what is odd of what is proved, with the RFC that says so: an opinion that changes no verdict.
 The manual page has its kinds, by the words of the column odd, which --fail-on takes.
 
+With --from and --to, or --timeline, a line is printed for each interval in which a verdict stands, from its first to
+its last moment; between them the signatures that end (ENDS) and begin (BEGINS) there, and below what is proved now what
+ends next (NEXT). --timeline takes all moments from the first time in the signatures of each capture to the last.
+
 What isn't verified of a capture within --budget and --budget-octets stays Unknown, so that a verdict is Pending that
 hangs on it. A line on the standard error says so, and how to give more. With --skew another says what a verdict is by a
 clock that is so many seconds late, or ahead, where it's another one.
