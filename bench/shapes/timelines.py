@@ -59,7 +59,10 @@ def bystanders(signatures: int) -> Shape:
     draw, www = random.Random(20261129), label(b"www") + ZONE
     times = [(DAY * number, DAY * number + WEEK) for number in range(USED)]
     parts = [times[:EACH], times[EACH:]]
-    capture = [keys_message(draw), *(response(1 + number, www, address(draw, part)) for number, part in enumerate(parts))]
+    capture = [
+        keys_message(draw),
+        *(response(1 + number, www, address(draw, part)) for number, part in enumerate(parts)),
+    ]
     last = DAY * USED + WEEK
     others = range(signatures - USED - 1)
     for number in range(0, len(others), EACH * 4):

@@ -126,7 +126,9 @@ def options_of(words: List[str]) -> argparse.Namespace:
     parser.add_argument("--compact", action="store_true", help="answer a compact list by number")
     parser.add_argument("--capture", metavar="CAPTURE", help="what the compact list is of")
     parser.add_argument("--moment", type=moment, metavar="MOMENT", help="that of the list, in seconds since 1970")
-    parser.add_argument("--from", dest="first", type=moment, metavar="MOMENT", help="the first of the range of the list")
+    parser.add_argument(
+        "--from", dest="first", type=moment, metavar="MOMENT", help="the first of the range of the list"
+    )
     parser.add_argument("--to", dest="last", type=moment, metavar="MOMENT", help="the last of it")
     add_budget(parser, "of all lines")
     options = parser.parse_args(words)
