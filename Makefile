@@ -133,11 +133,15 @@ library: $(made)/libdnssec_check.a $(shared)
 $(calls):
 	cd crates/dnssec_check_c && rt lib
 
-# One object, in which only the calls of the header are seen.
-$(made)/dnssec_check.o: library/calls.c library/dnssec_check.h library/symbols $(calls)
+# What is proved, as one object; a test has calls.c over it that was compiled otherwise.
+$(made)/proved.o: $(calls)
 	install -d $(made)
+	$(LD) -r -o $@ --whole-archive $(calls) --no-whole-archive $(kit)c/liblibc_c.a
+
+# One object, in which only the calls of the header are seen.
+$(made)/dnssec_check.o: library/calls.c library/dnssec_check.h library/symbols $(made)/proved.o
 	$(CC) -std=c99 -O2 -fPIC -Wall -Wextra -Werror -DDNSSEC_CHECK_VERSION='"$(version)"' -c library/calls.c -o $(made)/calls.o
-	$(LD) -r -o $@ $(made)/calls.o --whole-archive $(calls) --no-whole-archive $(kit)c/liblibc_c.a
+	$(LD) -r -o $@ $(made)/calls.o $(made)/proved.o
 	objcopy --keep-global-symbols=library/symbols $@
 
 $(made)/libdnssec_check.a: $(made)/dnssec_check.o

@@ -95,7 +95,7 @@ impl Options {
             → IsSpan self.now from to first last form → ⊥)
             (λ span. (self.now.verified ≤ 1) × IsSpan self.now from to span.from span.to span.format) }
     {
-        if self.verified > 1 {
+        if self.verified >= 2 {
             return None;
         }
         self.span(from, to)
