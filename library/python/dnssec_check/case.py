@@ -172,7 +172,7 @@ def timeline(
 ) -> Timeline:
     """What a capture proves of a question at each moment from the first to the last, as `Case.timeline` says it.
 
-    >>> timeline(b"", ". IN DS 1 8 2 " + "00" * 32, "www.example.com", "AAAA", first=10, last=19).at(12).verdict
+    >>> timeline(b"", "DS . 1 8 2 " + "00" * 32, "www.example.com", "AAAA", first=10, last=19).at(12).verdict
     'Bogus'
     """
     case = Case(capture, anchors, at=first, statements=statements, answers=answers, verifier=verifier)
