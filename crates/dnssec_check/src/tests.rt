@@ -31,6 +31,7 @@ mod showing;
 mod signed;
 mod streams;
 mod system;
+mod timelines;
 
 use system::{File, Page, System};
 
@@ -67,6 +68,11 @@ fn answers_many_questions_as_the_rows_say(rt: HostRuntime) -> Result<(), Fail> {
 #[test]
 fn takes_answers_by_number_as_the_rows_say(rt: HostRuntime) -> Result<(), Fail> {
     meets(&rt, answered::SHARED, answered::ROWS)
+}
+
+#[test]
+fn tells_timelines_as_the_rows_say(rt: HostRuntime) -> Result<(), Fail> {
+    meets(&rt, timelines::SHARED, timelines::ROWS)
 }
 
 #[test]

@@ -1,6 +1,6 @@
 -- The timeline of a question over files that were all taken.
 use Rattle.std.proofs.Common.{◌≡◌, ◌⊎◌, ℕ, Bool, List, Option, inl, inr, refl, subst, sym, ⊎_elim}
-use Rattle.std.specs.Prelude.{Err, IfErr, IfOk, IsErrOf, Ok, Result, string_bytes}
+use Rattle.std.specs.Prelude.{Err, IfErr, IfOk, IsErrOf, Ok, Result, String, string_bytes}
 use Rattle.dnsv_names.specs.Name.{Labels}
 use Rattle.dnsv_canonical.specs.Rrsets.{ReceivedRrset}
 use Rattle.dnsv_timeline.specs.declared.stretch.Stretch.{Stretch}
@@ -10,7 +10,7 @@ use Rattle.dnsv_verifier.specs.declared.entry.Entry.{Entry}
 use Rattle.dnsv_chain.specs.declared.anchor.Anchor.{Anchor}
 use Rattle.dnsv_verdict.specs.Verdict.{Basis, basis_of}
 use Rattle.dnsv_verdict.specs.declared.error.VerdictError.{VerdictError}
-use Rattle.dnsv_verdict.specs.declared.error.VerdictError.TheVariants as error
+use Rattle.dnsv_verdict.specs.declared.error.VerdictError.TheVariants.{OutOfMemory}
 use Rattle.dnsv_texts.specs.declared.format.Format.{Format}
 use Rattle.dnsv_moments.specs.Moments.{AreMomentsBy, MomentsContents, basis_with}
 use Rattle.dnsv_moments.specs.Question.{IsRefusedFor, IsRefusedThroughout, IsTimelineFor}
@@ -36,10 +36,11 @@ use Rattle.dnsv_program.proofs.WorkLemmas.Checking.{all_given}
 
 -- ---- the range
 
--- a range that is none is told before any file is read
-module _ {R T : Type 0} {remaining : R → Option (List ℕ)} {before : Inputs R} (Whole : Files → Fault → Type 0) (from to : ℕ) (told : Fault) (bad : IsFaultOfRange from to told) where
-  pub range_refused : ((files : Files) → Whole files told) → TellsFaults {T = T} Whole remaining before before (Err told)
-  range_refused first =
+module _ (from to : ℕ) (told : Fault) (bad : IsFaultOfRange from to told) where
+  -- a range that is none is told before any file is read
+  pub range_refused : {R T : Type 0} {remaining : R → Option (List ℕ)} {before : Inputs R} (Whole : Files → Fault → Type 0) → ((files : Files) → Whole files told)
+      → TellsFaults {T = T} Whole remaining before before (Err told)
+  range_refused {R} {T} {remaining} {before} Whole first =
       subst (λ (each : Fault). TellsFaults {T = T} Whole remaining before before (Err each)) (sym bad.1) (record {
         first = λ files are. subst (λ (each : Fault). Whole files each) bad.1 (first files);
         reads = reads_of_none {before = before} {after = before} (Err (fault.Refused refusal.BadRange nowhere)) refl refl refl refl refl refl tt;
@@ -48,9 +49,6 @@ module _ {R T : Type 0} {remaining : R → Option (List ℕ)} {before : Inputs R
 
   pub range_unread : (Of : InputFile → Type 0) → OfFailedRead Of told
   range_unread Of = subst (OfFailedRead Of) (sym bad.1) tt
-
-  pub range_unwritten : told ≡ fault.WriteFailed → ⊥
-  range_unwritten is = let same : fault.Refused refusal.BadRange nowhere ≡ fault.WriteFailed = subst (λ (each : Fault). each ≡ fault.WriteFailed) bad.1 is in cc
 
 -- ---- what is said at the moments
 
@@ -80,7 +78,7 @@ module _ (meaning : Entry → Answer) (rrsets : List ReceivedRrset) (anchors : L
   -- what keeps the question from having one
   pub refused_said : {G : Type 0} (knowing : G) (P : Refusal → Place → Type 0) (Refused : G → VerdictError → Type 0) (name : Labels) (rtype : ℕ) (error : VerdictError) (told : Fault)
       → ((error : VerdictError) → IsRefusedThroughout (basis_of rrsets anchors from meaning) from to name rtype error → Refused knowing error)
-      → (error ≡ error.OutOfMemory) ⊎ IsRefusedFor meaning moments name rtype error → told ≡ verdict_fault error
+      → (error ≡ OutOfMemory) ⊎ IsRefusedFor meaning moments name rtype error → told ≡ verdict_fault error
       → IsFaultOf P told ⊎ ((each : G) × (error : VerdictError) × Refused each error × (told ≡ verdict_fault error))
   refused_said knowing P Refused name rtype error told then (inl memory) is =
       inl (subst (IsFaultOf P) (sym (subst (λ (each : VerdictError). told ≡ verdict_fault each) memory is)) tt)
@@ -89,13 +87,9 @@ module _ (meaning : Entry → Answer) (rrsets : List ReceivedRrset) (anchors : L
 
 -- stretches are there only where the question isn't refused
 pub unrefused : {X : Type 0} {x : X} (Refused : VerdictError → Type 0)
-    → ((error : VerdictError) → Refused error → IsErrOf {T = X} {E = VerdictError} (Ok x) error ⊎ IsErrOf {T = X} {E = VerdictError} (Ok x) error.OutOfMemory)
-    → (error : VerdictError) → ¬ Refused error
-unrefused Refused told error refused = no (told error refused)
-  where
-    no : IsErrOf (Ok x) error ⊎ IsErrOf (Ok x) error.OutOfMemory → ⊥
-    no (inl bad) = cc
-    no (inr bad) = cc
+    → ((error : VerdictError) → Refused error → IsErrOf {T = X} (Ok x) error ⊎ IsErrOf {T = X} (Ok x) OutOfMemory) → (error : VerdictError) → ¬ Refused error
+unrefused {X} {x} Refused told error refused =
+    ⊎_elim (λ (bad : IsErrOf {T = X} (Ok x) error). let none : ⊥ = cc in none) (λ (bad : IsErrOf {T = X} (Ok x) OutOfMemory). let none : ⊥ = cc in none) (told error refused)
 
 -- ---- over the files
 

@@ -10,7 +10,7 @@ use Rattle.dnsv_program.proofs.work.listing.list_range.Goals as goal
 pub returns-in_err-range-clause-faults : goal.returns-in_err-range-clause-faults
 returns-in_err-range-clause-faults g c =
     let p = err_from_is_err_and c.from_residual.result c.from_residual.ensures.1 in
-    rw (p.1, p.2) (range_refused (λ files. IsFirstFaultOfRange c.args.from c.args.to (IsFirstFaultOfTodo files)) c.args.from c.args.to c.in_err-range.field-0.0 c.in_err-range.ensures.fault
+    rw (p.1, p.2) (range_refused c.args.from c.args.to c.in_err-range.field-0.0 c.in_err-range.ensures.fault (λ files. IsFirstFaultOfRange c.args.from c.args.to (IsFirstFaultOfTodo files))
     (λ files. inl c.in_err-range.ensures.fault))
 
 pub returns-clause-faults : goal.returns-clause-faults

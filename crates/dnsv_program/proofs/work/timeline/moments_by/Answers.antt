@@ -14,8 +14,8 @@ returns-in_ok-moments-in-Statements-clause-known c =
     known_stated (λ meaning. AreMomentsBy given.held.rrsets given.anchors c.args.range.from c.args.range.to meaning c.in_ok-moments-in-Statements.moments)
     (Between c.args.range.from c.args.range.to) given.held.rrsets given.said c.in-Statements.statements c.in-Statements.is c.in_ok-moments-in-Statements.ensures.of
 
-pub returns-in-Answers-clause-known : goal.returns-in-Answers-clause-known
-returns-in-Answers-clause-known c =
+pub returns-in_ok-table-in-Answers-clause-known : goal.returns-in_ok-table-in-Answers-clause-known
+returns-in_ok-table-in-Answers-clause-known c =
     let given = c.args.given.now in
     let table = c.in_ok-table-in-Answers.table in
     let within = answered_within c.args.range.from c.args.range.to given.held.rrsets (answers_in c.in-Answers.answers) table c.in_ok-table-in-Answers.ensures.table in

@@ -4,20 +4,19 @@ use Rattle.dnsv_answers.specs.declared.heading.Moments.TheVariants.{Between}
 use Rattle.dnsv_files.proofs.FileLemmas.Faults.{TellsFaults-weaker}
 use Rattle.dnsv_program.specs.Run.{IsFirstFaultOfTimeline, IsFirstFaultThroughout, IsReachedByTimeline, IsReachedOfFiles}
 use Rattle.dnsv_program.proofs.ReachedLemmas.{reached_in}
-use Rattle.dnsv_program.proofs.WorkLemmas.Timeline.{range_refused, range_unread, range_unwritten}
+use Rattle.dnsv_program.proofs.WorkLemmas.Timeline.{range_refused, range_unread}
 use Rattle.dnsv_program.proofs.work.timeline.timeline.Goals as goal
 
 pub returns-in_err-range-clause-faults : goal.returns-in_err-range-clause-faults
 returns-in_err-range-clause-faults g c =
     let p = err_from_is_err_and c.from_residual-in_err-range.result c.from_residual-in_err-range.ensures.1 in
-    rw (p.1, p.2) (range_refused (IsFirstFaultOfTimeline c.args.asked.now c.args.rtype.0 c.args.from c.args.to) c.args.from c.args.to c.in_err-range.field-0.0 c.in_err-range.ensures.fault
+    rw (p.1, p.2) (range_refused c.args.from c.args.to c.in_err-range.field-0.0 c.in_err-range.ensures.fault (IsFirstFaultOfTimeline c.args.asked.now c.args.rtype.0 c.args.from c.args.to)
     (λ files. inr (c.in_ok-name.name, c.in_ok-name.ensures.name, c.in_ok-name.ensures.question, inl c.in_err-range.ensures.fault)))
 
 pub returns-in_err-range-clause-reached : goal.returns-in_err-range-clause-reached
 returns-in_err-range-clause-reached g c = λ files are.
     let p = err_from_is_err_and c.from_residual-in_err-range.result c.from_residual-in_err-range.ensures.1 in
-    rw (p.1, p.2) (range_unread {T = ⊤} {remaining = g.R.Read.remaining} {before = c.args.inputs.now} (IsFirstFaultOfTimeline c.args.asked.now c.args.rtype.0 c.args.from c.args.to)
-    c.args.from c.args.to c.in_err-range.field-0.0 c.in_err-range.ensures.fault (IsReachedByTimeline c.args.asked.now c.args.rtype.0 c.args.from c.args.to files))
+    rw (p.1, p.2) (range_unread c.args.from c.args.to c.in_err-range.field-0.0 c.in_err-range.ensures.fault (IsReachedByTimeline c.args.asked.now c.args.rtype.0 c.args.from c.args.to files))
 
 pub returns-clause-faults : goal.returns-clause-faults
 returns-clause-faults g c =

@@ -14,8 +14,8 @@ returns-in_err-moments-clause-only c =
     let p = err_from_is_err_and c.from_residual.result c.from_residual.ensures.1 in
     rw (p.1, p.2) (inl c.in_err-moments.ensures.fault)
 
-pub returns-in_ok-text-in-Ok-clause-text : goal.returns-in_ok-text-in-Ok-clause-text
-returns-in_ok-text-in-Ok-clause-text c =
+pub returns-in-Ok-clause-text : goal.returns-in-Ok-clause-text
+returns-in-Ok-clause-text c =
     let given = c.args.given.now in
     let question = c.args.question.now in
     let known = c.in_ok-moments.ensures.known in
@@ -26,8 +26,8 @@ returns-in_ok-text-in-Ok-clause-text c =
           (unrefused (IsRefusedFor known.0 moments question.name.now question.rtype.0) (c.in-Ok.ensures.refused known.0 known.2.said)) c.in_ok-text-in-Ok.ensures,
     )
 
-pub returns-in-Err-clause-only : goal.returns-in-Err-clause-only
-returns-in-Err-clause-only c =
+pub returns-clause-only : goal.returns-clause-only
+returns-clause-only c =
     let given = c.args.given.now in
     let question = c.args.question.now in
     let from = question.range.from in
