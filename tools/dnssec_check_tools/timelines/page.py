@@ -5,7 +5,7 @@ from importlib import resources
 from typing import Any, Dict, List, NamedTuple, Optional
 
 from ..asking.moments import moment_text
-from ..explaining.page import TEMPLATES, environment_of, library, listed
+from ..explaining.page import TEMPLATES, library, listed, template_of
 from ..explaining.page import template_text as others_text
 from ..explaining.said import Said
 from ..judging.page import Page
@@ -86,8 +86,7 @@ class TimelinePage(Page):
 
     def octets(self) -> bytes:
         captures = [self.records[number] for number in sorted(self.records)]
-        page = environment_of(template_text).get_template(TEMPLATE)
-        text: str = page.render(
+        text: str = template_of(TEMPLATE, template_text).render(
             title=title_of(self.told),
             told=self.told,
             captures=listed(captures),
