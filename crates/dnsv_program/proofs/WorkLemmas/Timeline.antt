@@ -1,8 +1,8 @@
 -- The timeline of a question over files that were all taken.
 use Rattle.std.proofs.Common.{◌≡◌, ◌⊎◌, ℕ, Bool, List, Option, inl, inr, refl, subst, sym, ⊎_elim}
-use Rattle.std.specs.Prelude.{Err, IfErr, IfOk, IsErrOf, Ok, Result, String, string_bytes}
+use Rattle.std.specs.Prelude.{Err, IfErr, IfOk, IsErrOf, Ok, Result}
 use Rattle.dnsv_names.specs.Name.{Labels}
-use Rattle.dnsv_canonical.specs.Rrsets.{ReceivedRrset}
+use Rattle.dnsv_canonical.specs.Rrsets.{IsQuestion, ReceivedRrset}
 use Rattle.dnsv_timeline.specs.declared.stretch.Stretch.{Stretch}
 use Rattle.dnsv_answers.specs.declared.heading.Moments.TheVariants.{Between}
 use Rattle.dnsv_verifier.specs.declared.answer.Answer.{Answer}
@@ -27,12 +27,23 @@ use Rattle.dnsv_files.specs.declared.status.Refusal.TheVariants as refusal
 use Rattle.dnsv_files.specs.Files.Faults.{OfFailedRead, OfOctets, TellsFaults}
 use Rattle.dnsv_files.specs.Files.{Files, given_failures}
 use Rattle.dnsv_files.specs.Told.{IsFaultOf, nowhere}
-use Rattle.dnsv_files.proofs.FileLemmas.Faults.{reads_of_none, reads_untouched}
+use Rattle.dnsv_files.proofs.FileLemmas.Faults.{reads_of_none, reads_untouched, same_fault}
+use Rattle.dnsv_program.specs.Question.{Spells}
+use Rattle.dnsv_program.specs.Run.{IsFaultOfQuestion, IsTimelineRefused}
 use Rattle.dnsv_program.specs.Work.Checking.{AreReadFrom, basis_in, verdict_fault}
 use Rattle.dnsv_program.specs.Work.Known.{Ground}
 use Rattle.dnsv_program.specs.Work.Timeline.{IsFaultOfRange, IsStoppedThroughout, IsTimeline, IsTimelineBehind}
 use Rattle.dnsv_program.specs.declared.work.given.Said as given
 use Rattle.dnsv_program.proofs.WorkLemmas.Checking.{all_given}
+
+-- ---- the question
+
+-- a question that is refused is told before the range
+pub name_refused : {T : Type 0} (asked : List ℕ) (rtype from to : ℕ) (told : Fault)
+    → ((other : Fault) → IsFaultOfQuestion asked rtype other → Path (Result T Fault) (Err told) (Err other))
+    → ((name : Labels) → Spells asked name → ¬ IsQuestion name rtype) → (other : Fault) → IsTimelineRefused asked rtype from to other → told ≡ other
+name_refused asked rtype from to told every none other (inl bad) = same_fault (every other bad)
+name_refused asked rtype from to told every none other (inr bad) = absurd (none bad.0 bad.1 bad.2)
 
 -- ---- the range
 
@@ -96,16 +107,16 @@ unrefused {X} {x} Refused told error refused =
 module _ (name : Labels) (rtype from to : ℕ) (files : Files) {rrsets : List ReceivedRrset} {anchors : List Anchor} {said : given.Said}
     (read : AreReadFrom (Between from to) files rrsets anchors said) where
   -- what is told by what the files say is told over them
-  pub all_timed : (format : Format) (kinds : Bool) {E : Type 0} (result : Result String E)
+  pub all_timed : (format : Format) (kinds : Bool) {T E : Type 0} (bytes : T → List ℕ) (result : Result T E)
       → IfOk result (λ text. (knowing : Ground (Between from to) rrsets said)
-      × IsTimelineBehind format kinds (basis_of rrsets anchors from knowing.meaning) name rtype to (string_bytes text))
-      → IfOk result (λ text. IsTimeline format kinds name rtype from to files (string_bytes text))
-  all_timed format kinds (Err told) timed = tt
-  all_timed format kinds (Ok text) timed =
+      × IsTimelineBehind format kinds (basis_of rrsets anchors from knowing.meaning) name rtype to (bytes text))
+      → IfOk result (λ text. IsTimeline format kinds name rtype from to files (bytes text))
+  all_timed format kinds bytes (Err told) timed = tt
+  all_timed format kinds bytes (Ok text) timed =
       let knowing = timed.0 in
       let are = all_given (Between from to) files read knowing.meaning knowing.numbers knowing.knows in record {
         given = are.given;
-        timeline = subst (λ (basis : Basis). IsTimelineBehind format kinds basis name rtype to (string_bytes text)) are.is timed.1;
+        timeline = subst (λ (basis : Basis). IsTimelineBehind format kinds basis name rtype to (bytes text)) are.is timed.1;
       }
 
   -- and so is what is refused throughout

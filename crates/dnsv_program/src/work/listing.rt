@@ -117,12 +117,12 @@ fn list_todo<R: Read>(
 }
 
 /// Each entry that the verifier knows nothing of, of those that it is asked about the evidence: in lines, or in JSON.
-fn still_to_check<'a, V: Verifier>(
+fn still_to_check<V: Verifier>(
     alloc: Global,
-    bump: &'a Bump,
+    bump: &Bump,
     form: Form,
     format: Format,
-    held: &'a Capture<'a>,
+    held: &Capture<'_>,
     span: &Span,
     verifier: &V,
 ) -> Result<String, AllocError>
@@ -139,12 +139,12 @@ fn still_to_check<'a, V: Verifier>(
 }
 
 /// Entries that are asked of the RRsets: each whole, or each octet once.
-fn entries_text<'a>(
+fn entries_text(
     alloc: Global,
-    bump: &'a Bump,
+    bump: &Bump,
     form: Form,
     format: Format,
-    rrsets: &'a [Rrset<'a>],
+    rrsets: &[Rrset<'_>],
     span: &Span,
     entries: &Entries<'_>,
 ) -> Result<String, AllocError>

@@ -1,11 +1,18 @@
-use Rattle.std.proofs.Common.{inl, inr}
+use Rattle.std.proofs.Common.{Err, ap, inl, inr}
 use Rattle.std.proofs.lemmas.Result.{err_from_is_err_and}
 use Rattle.dnsv_answers.specs.declared.heading.Moments.TheVariants.{Between}
 use Rattle.dnsv_files.proofs.FileLemmas.Faults.{TellsFaults-weaker}
 use Rattle.dnsv_program.specs.Run.{IsFirstFaultOfTimeline, IsFirstFaultThroughout, IsReachedByTimeline, IsReachedOfFiles}
 use Rattle.dnsv_program.proofs.ReachedLemmas.{reached_in}
-use Rattle.dnsv_program.proofs.WorkLemmas.Timeline.{range_refused, range_unread}
+use Rattle.dnsv_program.proofs.WorkLemmas.Timeline.{name_refused, range_refused, range_unread}
+use Rattle.dnsv_files.specs.declared.status.Fault.{Fault}
 use Rattle.dnsv_program.proofs.work.timeline.timeline.Goals as goal
+
+pub returns-in_err-name-clause-question : goal.returns-in_err-name-clause-question
+returns-in_err-name-clause-question g c = λ told refused.
+    let p = err_from_is_err_and c.from_residual.result c.from_residual.ensures.1 in
+    rw (p.1, p.2) (ap (λ (each : Fault). Err each) (name_refused c.args.asked.now c.args.rtype.0 c.args.from c.args.to c.in_err-name.field-0.0 c.in_err-name.ensures.every_fault
+    c.in_err-name.ensures.every told refused))
 
 pub returns-in_err-range-clause-faults : goal.returns-in_err-range-clause-faults
 returns-in_err-range-clause-faults g c =

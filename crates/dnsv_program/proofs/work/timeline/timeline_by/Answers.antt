@@ -23,7 +23,7 @@ returns-in-Ok-clause-text c =
       record { meaning = known.0; numbers = numbers_said given.said; knows = known.1 },
       timeline_said known.0 given.held.rrsets given.anchors question.range.from question.range.to moments known.2 c.args.showing.format c.args.showing.kinds question.name.now question.rtype.0
           c.in-Ok.stretches.items (string_bytes c.in_ok-text-in-Ok.text) (c.in-Ok.ensures.timeline known.0 known.2.said)
-          (unrefused (IsRefusedFor known.0 moments question.name.now question.rtype.0) (c.in-Ok.ensures.refused known.0 known.2.said)) c.in_ok-text-in-Ok.ensures,
+          (unrefused (IsRefusedFor known.0 moments question.name.now question.rtype.0) (c.in-Ok.ensures.refused known.0 known.2.said)) (rw c.deref.ensures.value at c.in_ok-text-in-Ok.ensures),
     )
 
 pub returns-clause-only : goal.returns-clause-only

@@ -1,4 +1,4 @@
-use Rattle.std.proofs.Common.{inl, inr}
+use Rattle.std.proofs.Common.{inl, inr, string_bytes}
 use Rattle.std.proofs.lemmas.Result.{err_from_is_err_and}
 use Rattle.dnsv_answers.specs.declared.heading.Moments.TheVariants.{Between}
 use Rattle.dnsv_moments.specs.Question.{IsRefusedThroughout}
@@ -44,7 +44,7 @@ pub returns-clause-text : goal.returns-clause-text
 returns-clause-text g c = λ files are.
     let question = c.args.question.now in
     all_timed question.name.now question.rtype.0 question.range.from question.range.to files (c.in_ok-given.ensures.given files are.beside) c.args.showing.format c.args.showing.kinds
-    c.timeline_by.result c.timeline_by.ensures.text
+    (λ text. string_bytes text) c.timeline_by.result c.timeline_by.ensures.text
 
 pub returns-clause-reached : goal.returns-clause-reached
 returns-clause-reached g c = λ files are.
