@@ -1,12 +1,12 @@
 #!/usr/bin/env python3
 """Measures the built program on requests that are made to cost much for what they weigh.
 
-Each is made at a size and at four times as much, and what is printed are the rows of the table in
-docs/PERFORMANCE.md. Without a shape all are measured; with a beginning, as `timeline-`, all shapes whose names begin
-so; with sizes, the shape at these. Instructions are counted by
-valgrind's callgrind, a growth is their number by that of the row above, and peak memory and processor time are those
-that GNU time tells. It needs the built program (make), valgrind, GNU time and PYTHONPATH=tools. The largest rows take
-a GiB of memory, and all together some minutes of processor time.
+Each is made at a size and at four times as much, and what is printed are the rows of the tables in docs/STRANGERS.md
+and of the one on timelines in docs/PERFORMANCE.md. Without a shape all are measured; with a beginning, as
+`timeline-`, all shapes whose names begin so; with sizes, the shape at these. Instructions are counted by valgrind's
+callgrind, a growth is their number by that of the row above, and peak memory and processor time are those that GNU
+time tells. It needs the built program (make), valgrind, GNU time and PYTHONPATH=tools. The largest rows take a GiB of
+memory, and all together some minutes of processor time.
 
 exit status: 0, all is measured; 1, a run failed; 2, the command line is wrong; 130, it was interrupted.
 """
