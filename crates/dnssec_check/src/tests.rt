@@ -24,12 +24,14 @@ mod desk;
 mod explaining;
 mod key_files;
 mod listing;
+mod misuse;
 mod names;
 mod questions;
 mod showing;
 mod signed;
 mod streams;
 mod system;
+mod timelines;
 
 use system::{File, Page, System};
 
@@ -69,6 +71,11 @@ fn takes_answers_by_number_as_the_rows_say(rt: HostRuntime) -> Result<(), Fail> 
 }
 
 #[test]
+fn tells_timelines_as_the_rows_say(rt: HostRuntime) -> Result<(), Fail> {
+    meets(&rt, timelines::SHARED, timelines::ROWS)
+}
+
+#[test]
 fn a_verifier_is_asked_once_for_each_entry(rt: HostRuntime) -> Result<(), Fail> {
     assert!(rt; asking::is_asked_once_for_each(rt.alloc())?);
     Ok(())
@@ -93,6 +100,11 @@ fn reads_key_files_as_the_rows_say(rt: HostRuntime) -> Result<(), Fail> {
 #[test]
 fn reads_command_lines_as_the_rows_say(rt: HostRuntime) -> Result<(), Fail> {
     meets(&rt, command_line::SHARED, command_line::ROWS)
+}
+
+#[test]
+fn refuses_words_that_are_no_command(rt: HostRuntime) -> Result<(), Fail> {
+    meets(&rt, "", misuse::ROWS)
 }
 
 #[test]

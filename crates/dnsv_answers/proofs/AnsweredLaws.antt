@@ -3,24 +3,23 @@ use Rattle.std.proofs.Common.{◌≡◌, ℕ, List, [], ◌∷◌, Option, lengt
 use Rattle.std.proofs.lemmas.Map.Keys.{IsDistinct-from_sorted}
 use Rattle.std.proofs.lemmas.Map.Views.{lookup-from_Contains}
 use Rattle.std.proofs.lemmas.Slice.Zip.{firsts-zip}
-use Rattle.std.specs.List.{Contains, IsDistinct, zip}
-use Rattle.std.specs.List.Sorted.{IsStrictlySortedBy}
+use Rattle.std.specs.List.{IsDistinct, zip}
 use Rattle.std.specs.Map.{keys_of, lookup}
 use Rattle.std.specs.Option.{unwrap_or}
 use Rattle.std.specs.Ordering.{eq_by_cmp, is_eq}
-use Rattle.std.specs.Prelude.{◌↔◌}
 use Rattle.dnsv_canonical.specs.Rrsets.{ReceivedRrset}
 use Rattle.dnsv_canonical.proofs.CanonicalLemmas.{Contains-from_member, IsMember, IsMember-from_contains, rising_unique}
-use Rattle.dnsv_verifier.specs.Admissible.{IsAsked}
 use Rattle.dnsv_verifier.specs.Asked.{IsNumberAsked}
 use Rattle.dnsv_verifier.specs.Entry.{entry_cmp}
 use Rattle.dnsv_verifier.specs.EntryLaws.{entry_cmp_total, entry_Equal}
 use Rattle.dnsv_verifier.specs.Table.{IsTableOf, TableContents, table_answer}
+use Rattle.dnsv_verifier.specs.Within.{AreAskedWithin, IsTableWithin}
 use Rattle.dnsv_verifier.specs.declared.answer.Answer.{Answer}
 use Rattle.dnsv_verifier.specs.declared.answer.Answer.TheVariants.{Unknown}
 use Rattle.dnsv_verifier.specs.declared.entry.Entry.{Entry}
 use Rattle.dnsv_verifier.proofs.TableLemmas.{same_entry_equiv}
-use Rattle.dnsv_answers.specs.Answered.{IsAnsweredTable}
+use Rattle.dnsv_answers.specs.Answered.{IsAnsweredTable, IsAnsweredTableWithin, IsNumberAskedWithin}
+use Rattle.dnsv_answers.proofs.AnsweredLemmas.{are_asked_then, number_from}
 
 -- what is listed for the entry, Unknown where nothing is
 abbrev listed : List (Entry × Answer) → Entry → Answer
@@ -47,23 +46,20 @@ keys_zipped (entry ∷ entries) [] each = absurd (omega (arith, each))
 keys_zipped (entry ∷ entries) (answer ∷ said) each = ap (λ (rest : List Entry). entry ∷ rest) (keys_zipped entries said (omega (arith, each)))
 
 -- two rising lists of what is asked are one
-one_list_asked : (moment : ℕ) (rrsets : List ReceivedRrset) (a b : List Entry) → IsStrictlySortedBy entry_cmp a → IsStrictlySortedBy entry_cmp b
-    → ((entry : Entry) → Contains a entry ↔ IsAsked moment rrsets entry) → ((entry : Entry) → Contains b entry ↔ IsAsked moment rrsets entry) → a ≡ b
-one_list_asked moment rrsets a b rises rising are also =
-    rising_unique entry_cmp entry_cmp_total entry_Equal a b rises rising
-    (λ entry member. IsMember-from_contains b entry ((also entry).1 ((are entry).0 (Contains-from_member a entry member))))
-    (λ entry member. IsMember-from_contains a entry ((are entry).1 ((also entry).0 (Contains-from_member b entry member))))
+one_list_asked : (from to : ℕ) (rrsets : List ReceivedRrset) (a b : List Entry) → AreAskedWithin from to rrsets a → AreAskedWithin from to rrsets b → a ≡ b
+one_list_asked from to rrsets a b are also =
+    rising_unique entry_cmp entry_cmp_total entry_Equal a b are.rising also.rising
+    (λ entry member. IsMember-from_contains b entry ((also.members entry).1 ((are.members entry).0 (Contains-from_member a entry member))))
+    (λ entry member. IsMember-from_contains a entry ((are.members entry).1 ((also.members entry).0 (Contains-from_member b entry member))))
 
-module _ (moment : ℕ) (rrsets : List ReceivedRrset) (said : List Answer) (table : TableContents) (is : IsAnsweredTable moment rrsets said table) where
+module _ (from to : ℕ) (rrsets : List ReceivedRrset) (said : List Answer) (table : TableContents) (is : IsAnsweredTableWithin from to rrsets said table) where
   -- it is the table of what it says
-  pub answered_is_table : IsTableOf (table_answer table) moment rrsets table
-  answered_is_table =
+  pub answered_within : IsTableWithin (table_answer table) from to rrsets table
+  answered_within =
       let pairs = zip is.entries said in
       let distinct : IsDistinct (eq_by_cmp entry_cmp) (keys_of pairs) =
-      subst (IsDistinct (eq_by_cmp entry_cmp)) (sym (keys_zipped is.entries said is.each)) (IsDistinct-from_sorted entry_cmp is.entries is.rising) in record {
-        of_moment = is.of_moment;
+      subst (IsDistinct (eq_by_cmp entry_cmp)) (sym (keys_zipped is.entries said is.each)) (IsDistinct-from_sorted entry_cmp is.entries is.asked.rising) in record {
         entries = is.entries;
-        rising = is.rising;
         asked = is.asked;
         answers = is.answers
             ∙ each_looked_up pairs distinct is.entries said is.each (λ pair there. there)
@@ -71,20 +67,44 @@ module _ (moment : ℕ) (rrsets : List ReceivedRrset) (said : List Answer) (tabl
       }
 
   -- there are as many answers as entries
-  pub answered_count : (count : ℕ) → IsNumberAsked moment rrsets count → length said ≡ count
-  answered_count count asked =
+  pub answered_count_within : (count : ℕ) → IsNumberAskedWithin from to rrsets count → length said ≡ count
+  answered_count_within count asked =
       is.each
-      ∙ ap (λ (entries : List Entry). length entries) (one_list_asked moment rrsets is.entries asked.entries is.rising asked.rising is.asked asked.members)
+      ∙ ap (λ (entries : List Entry). length entries) (one_list_asked from to rrsets is.entries asked.entries is.asked asked.asked)
       ∙ sym asked.is
 
-  pub one_answered_table : (other : TableContents) → IsAnsweredTable moment rrsets said other → table ≡ other
-  one_answered_table other its =
-      let entries = one_list_asked moment rrsets is.entries its.entries is.rising its.rising is.asked its.asked in
+  pub one_answered_within : (other : TableContents) → IsAnsweredTableWithin from to rrsets said other → table ≡ other
+  one_answered_within other its =
+      let entries = one_list_asked from to rrsets is.entries its.entries is.asked its.asked in
       let answers : table.answers ≡ other.answers = is.answers ∙ ap (λ (each : List Entry). zip each said) entries ∙ sym its.answers in
       λ i. record { moment = (is.of_moment ∙ sym its.of_moment) i; answers = answers i }
 
+pub one_number_within : (from to : ℕ) (rrsets : List ReceivedRrset) (a b : ℕ) → IsNumberAskedWithin from to rrsets a → IsNumberAskedWithin from to rrsets b → a ≡ b
+one_number_within from to rrsets a b x y =
+    x.is
+    ∙ ap (λ (entries : List Entry). length entries) (one_list_asked from to rrsets x.entries y.entries x.asked y.asked)
+    ∙ sym y.is
+
+-- ---- one moment
+
+module _ (moment : ℕ) (rrsets : List ReceivedRrset) (said : List Answer) (table : TableContents) (is : IsAnsweredTable moment rrsets said table) where
+  pub answered_is_table : IsTableOf (table_answer table) moment rrsets table
+  answered_is_table =
+      let within = answered_within moment moment rrsets said table is in
+      record {
+        of_moment = is.of_moment;
+        entries = within.entries;
+        rising = within.asked.rising;
+        asked = are_asked_then moment rrsets within.entries within.asked;
+        answers = within.answers;
+      }
+
+  pub answered_count : (count : ℕ) → IsNumberAsked moment rrsets count → length said ≡ count
+  answered_count count asked = answered_count_within moment moment rrsets said table is count (number_from moment rrsets count asked)
+
+  pub one_answered_table : (other : TableContents) → IsAnsweredTable moment rrsets said other → table ≡ other
+  one_answered_table other its = one_answered_within moment moment rrsets said table is other its
+
 pub one_number_asked : (moment : ℕ) (rrsets : List ReceivedRrset) (a b : ℕ) → IsNumberAsked moment rrsets a → IsNumberAsked moment rrsets b → a ≡ b
 one_number_asked moment rrsets a b x y =
-    x.is
-    ∙ ap (λ (entries : List Entry). length entries) (one_list_asked moment rrsets x.entries y.entries x.rising y.rising x.members y.members)
-    ∙ sym y.is
+    one_number_within moment moment rrsets a b (number_from moment rrsets a x) (number_from moment rrsets b y)

@@ -1,27 +1,94 @@
 -- A table with answers by number.
-use Rattle.std.proofs.Common.{◌≡◌, ℕ, List, [], ◌∷◌, length, map, refl, ap, ◌∙◌}
+use Rattle.std.proofs.Common.{◌≡◌, ◌↔◌, ◌⊎◌, ◌≤◌, inl, inr, ℕ, List, [], ◌∷◌, Result, Ok, Err, IfErr, length, map, refl, ap, ◌∙◌, arith, subst}
 use Rattle.std.proofs.lemmas.List.{length-map}
-use Rattle.std.specs.List.{zip}
+use Rattle.std.specs.List.{Contains, zip}
 use Rattle.dnsv_canonical.specs.Rrsets.{ReceivedRrset}
-use Rattle.dnsv_verifier.specs.Table.{IsTableOf, TableContents, with_answers}
+use Rattle.dnsv_timeline.specs.Range.{Moments}
+use Rattle.dnsv_verifier.specs.Admissible.{IsAsked}
+use Rattle.dnsv_verifier.specs.Asked.{IsNumberAsked}
+use Rattle.dnsv_verifier.specs.Table.{TableContents, with_answers}
+use Rattle.dnsv_verifier.specs.Within.{AreAskedWithin, IsAskedWithin, IsTableWithin}
 use Rattle.dnsv_verifier.specs.declared.answer.Answer.{Answer}
 use Rattle.dnsv_verifier.specs.declared.answer.Answer.TheVariants.{Unknown}
 use Rattle.dnsv_verifier.specs.declared.entry.Entry.{Entry}
-use Rattle.dnsv_answers.specs.Answered.{IsAnsweredTable}
+use Rattle.dnsv_answers.specs.AnswerFile.{AnswersContents, AreMiscounted}
+use Rattle.dnsv_answers.specs.Answered.{IsAnsweredTableWithin, IsNumberAskedWithin}
+use Rattle.dnsv_answers.specs.declared.error.AnswersError.{AnswersError}
+use Rattle.dnsv_answers.specs.declared.error.AnswersError.TheVariants.{OutOfMemory}
 
 same_entries : (entries : List Entry) → map (λ (each : Entry × Answer). each.0) (map (λ entry. (entry, Unknown)) entries) ≡ entries
 same_entries [] = refl
 same_entries (entry ∷ entries) = ap (λ (rest : List Entry). entry ∷ rest) (same_entries entries)
 
 -- the entries of which nothing is known, with these answers
-pub answered_by : (moment : ℕ) (rrsets : List ReceivedRrset) (asked : TableContents) → IsTableOf (λ entry. Unknown) moment rrsets asked
-    → (said : List Answer) → length said ≡ length asked.answers → IsAnsweredTable moment rrsets said (with_answers asked said)
-answered_by moment rrsets asked is said each = record {
-  of_moment = is.of_moment;
+pub answered_by : (from to : ℕ) (rrsets : List ReceivedRrset) (asked : TableContents) → asked.moment ≡ from
+    → IsTableWithin (λ entry. Unknown) from to rrsets asked → (said : List Answer) → length said ≡ length asked.answers
+    → IsAnsweredTableWithin from to rrsets said (with_answers asked said)
+answered_by from to rrsets asked of_moment is said each = record {
+  of_moment = of_moment;
   entries = is.entries;
-  rising = is.rising;
   asked = is.asked;
   each = each ∙ ap (λ (answers : List (Entry × Answer)). length answers) is.answers ∙ length-map is.entries (λ (entry : Entry). (entry, Unknown));
   answers = ap (λ (entries : List Entry). zip entries said)
       (ap (λ (answers : List (Entry × Answer)). map (λ each. each.0) answers) is.answers ∙ same_entries is.entries);
 }
+
+-- there are as many entries as answers in a table
+pub number_within : (meaning : Entry → Answer) (from to : ℕ) (rrsets : List ReceivedRrset) (table : TableContents) → IsTableWithin meaning from to rrsets table
+    → IsNumberAskedWithin from to rrsets (length table.answers)
+number_within meaning from to rrsets table is = record {
+  entries = is.entries;
+  asked = is.asked;
+  is = ap (λ (answers : List (Entry × Answer)). length answers) is.answers ∙ length-map is.entries (λ (entry : Entry). (entry, meaning entry));
+}
+
+-- ---- a range of one moment
+
+-- what is asked at some moment of it is asked at this one
+pub asked_then : (moment : ℕ) (rrsets : List ReceivedRrset) (entry : Entry) → IsAskedWithin moment moment rrsets entry ↔ IsAsked moment rrsets entry
+asked_then moment rrsets entry =
+    let itself : moment ≤ moment = omega arith in (
+      λ within.
+          let begins = within.begins in
+          let ends = within.ends in
+          let same : within.moment ≡ moment = omega arith in
+          subst (λ m. IsAsked m rrsets entry) same within.asked,
+      λ asked. record { moment = moment; begins = itself; ends = itself; asked = asked },
+    )
+
+pub are_asked_then : (moment : ℕ) (rrsets : List ReceivedRrset) (entries : List Entry) → AreAskedWithin moment moment rrsets entries
+    → (entry : Entry) → Contains entries entry ↔ IsAsked moment rrsets entry
+are_asked_then moment rrsets entries are entry =
+    let then_ = asked_then moment rrsets entry in
+    (λ found. then_.0 ((are.members entry).0 found), λ asked. (are.members entry).1 (then_.1 asked))
+
+-- the number asked within it is that of the moment, and the other way round
+pub number_then : (moment : ℕ) (rrsets : List ReceivedRrset) (count : ℕ) → IsNumberAskedWithin moment moment rrsets count → IsNumberAsked moment rrsets count
+number_then moment rrsets count within = record {
+  entries = within.entries;
+  rising = within.asked.rising;
+  members = are_asked_then moment rrsets within.entries within.asked;
+  is = within.is;
+}
+
+pub number_from : (moment : ℕ) (rrsets : List ReceivedRrset) (count : ℕ) → IsNumberAsked moment rrsets count → IsNumberAskedWithin moment moment rrsets count
+number_from moment rrsets count asked = record {
+  entries = asked.entries;
+  asked = record {
+    rising = asked.rising;
+    members = λ entry.
+        let then_ = asked_then moment rrsets entry in
+        (λ found. then_.1 ((asked.members entry).0 found), λ within. (asked.members entry).1 (then_.0 within));
+  };
+  is = asked.is;
+}
+
+-- so a fault of it is one of the moment
+pub fault_then : {T : Type 0} (moment : ℕ) (rrsets : List ReceivedRrset) (contents : AnswersContents) (range : Moments) (result : Result T AnswersError)
+    → range ≡ record { from = moment; to = moment }
+    → IfErr result (λ error. (error ≡ OutOfMemory) ⊎ ((count : ℕ) × IsNumberAskedWithin range.from range.to rrsets count × AreMiscounted contents count error))
+    → IfErr result (λ error. (error ≡ OutOfMemory) ⊎ ((count : ℕ) × IsNumberAsked moment rrsets count × AreMiscounted contents count error))
+fault_then moment rrsets contents range (Ok table) one fault = tt
+fault_then moment rrsets contents range (Err error) one (inl memory) = inl memory
+fault_then moment rrsets contents range (Err error) one (inr (count, asked, miscounted)) =
+    inr (count, number_then moment rrsets count (subst (λ (r : Moments). IsNumberAskedWithin r.from r.to rrsets count) one asked), miscounted)

@@ -7,7 +7,7 @@ use Rattle.dnsv_answers.specs.Heading.{IsHeading}
 use Rattle.dnsv_answers.specs.declared.error.AnswersError.{AnswersError}
 use Rattle.dnsv_answers.specs.declared.error.AnswersError.TheVariants.{Count, OtherList, Syntax}
 use Rattle.dnsv_answers.specs.declared.heading.Heading.{Heading}
-use Rattle.dnsv_answers.specs.declared.heading.Moments.TheVariants.{At}
+use Rattle.dnsv_answers.specs.declared.heading.Moments.{Moments}
 use Rattle.dnsv_answers.specs.declared.said.SaidAnswer.{SaidAnswer}
 
 -- ---- what a text says
@@ -86,14 +86,14 @@ BeginsWithHeading text = (first : NumberedLine) × (others : List NumberedLine) 
 
 -- ---- whether they are the answers to a list
 
--- they are said of this capture, by the SHA-256 of its octets, and this moment
-pub record AreOf (heading : Heading) (digest : List ℕ) (moment : ℕ) : Type 0 where
+-- they are said of this capture, by the SHA-256 of its octets, and of this moment or just this range
+pub record AreOf (heading : Heading) (digest : List ℕ) (moments : Moments) : Type 0 where
   pub capture : heading.digest ≡ digest
-  pub at : heading.moments ≡ At moment
+  pub at : heading.moments ≡ moments
 
 -- they are said of another list
-pub record AreOfOther (contents : AnswersContents) (digest : List ℕ) (moment : ℕ) (fault : AnswersError) : Type 0 where
-  pub other : ¬ AreOf contents.heading digest moment
+pub record AreOfOther (contents : AnswersContents) (digest : List ℕ) (moments : Moments) (fault : AnswersError) : Type 0 where
+  pub other : ¬ AreOf contents.heading digest moments
   pub is : fault ≡ OtherList contents.line
 
 -- there are so many answers

@@ -3,9 +3,10 @@ ghost use Rattle.std.specs.Prelude.{◌≡◌, ◌⊎◌, ℕ, IfErr, IfOk, List
 ghost use Rattle.dnsv_verifier.specs.Asked.{IsNumberAsked};
 ghost use Rattle.dnsv_canonical.specs.Rrsets.{ReceivedRrset};
 ghost use Rattle.dnsv_verifier.specs.Table.{IsTableOf, TableContents, table_answer};
+ghost use Rattle.dnsv_verifier.specs.Within.{IsTableWithin};
 ghost use Rattle.dnsv_verifier.specs.declared.answer.Answer.{Answer};
 ghost use Rattle.dnsv_answers.specs.AnswerFile.{AreMiscounted, answers_in};
-ghost use Rattle.dnsv_answers.specs.Answered.{IsAnsweredTable};
+ghost use Rattle.dnsv_answers.specs.Answered.{IsAnsweredTable, IsAnsweredTableWithin, IsNumberAskedWithin};
 
 use crate::answers::Answers;
 use crate::error::AnswersError;
@@ -13,7 +14,8 @@ use crate::said::SaidAnswer;
 use bumpalo::Bump;
 use dnsv_canonical::Capture;
 use dnsv_names::Count;
-use dnsv_verifier::{Answer, Entry, Table, Verifier, ask_all};
+use dnsv_timeline::Range;
+use dnsv_verifier::{Answer, Entry, Table, Verifier, ask_within};
 use std::alloc::{AllocError, Global};
 
 /// The table of the capture's entries at the moment, each with the answer of its number. An error is that there are not
@@ -29,14 +31,36 @@ pub fn answered_table<'b>(
     ensures fault { IfErr result (λ error. (error ≡ AnswersError.OutOfMemory)
         ⊎ ((count : ℕ) × IsNumberAsked moment capture.now.rrsets count × AreMiscounted answers.now count error)) }
 {
-    let asked = ask_nobody(alloc, bump, capture, moment)?;
+    // One moment is a range.
+    let Some(range) = Range::new(moment, moment) else {
+        unreachable!();
+    };
+    answered_table_within(alloc, bump, capture, range, answers)
+}
+
+/// The table of the capture's entries at the moments of the range, each with the answer of its number. Of each moment of
+/// the range it says what the answers do: `Table::at` gives the table of the moment. The table's own moment is the first
+/// of the range. Errors are those of `answered_table`.
+pub fn answered_table_within<'b>(
+    alloc: Global,
+    bump: &'b Bump,
+    capture: &'b Capture<'b>,
+    range: Range,
+    answers: &Answers,
+) -> Result<Table<'b>, AnswersError>
+    ensures table { IfOk result (IsAnsweredTableWithin range.from range.to capture.now.rrsets (answers_in answers.now)) }
+    ensures fault { IfErr result (λ error. (error ≡ AnswersError.OutOfMemory)
+        ⊎ ((count : ℕ) × IsNumberAskedWithin range.from range.to capture.now.rrsets count
+        × AreMiscounted answers.now count error)) }
+{
+    let asked = ask_nobody(alloc, bump, capture, range)?;
     answers.test_count(asked.len())?;
     let said = said_answers(alloc, answers.as_slice())?;
     Ok(asked.with_answers(said))
 }
 
 /// A law of answers: a table of them is that of a verifier, which says what the table does; there is one table for the
-/// answers, and it has as many as entries are asked.
+/// answers, and it has as many as entries are asked. This is so of one moment, and of a range.
 pub fn answers_are_a_verifier()
     ensures verifier { (moment : ℕ) (rrsets : List ReceivedRrset) (said : List Answer) (table : TableContents)
         → IsAnsweredTable moment rrsets said table → IsTableOf (table_answer table) moment rrsets table }
@@ -44,19 +68,27 @@ pub fn answers_are_a_verifier()
         → IsAnsweredTable moment rrsets said a → IsAnsweredTable moment rrsets said b → a ≡ b }
     ensures count { (moment : ℕ) (rrsets : List ReceivedRrset) (said : List Answer) (table : TableContents) (count : ℕ)
         → IsAnsweredTable moment rrsets said table → IsNumberAsked moment rrsets count → length said ≡ count }
+    ensures verifier_within { (from to : ℕ) (rrsets : List ReceivedRrset) (said : List Answer) (table : TableContents)
+        → IsAnsweredTableWithin from to rrsets said table → IsTableWithin (table_answer table) from to rrsets table }
+    ensures one_within { (from to : ℕ) (rrsets : List ReceivedRrset) (said : List Answer) (a b : TableContents)
+        → IsAnsweredTableWithin from to rrsets said a → IsAnsweredTableWithin from to rrsets said b → a ≡ b }
+    ensures count_within { (from to : ℕ) (rrsets : List ReceivedRrset) (said : List Answer) (table : TableContents)
+        (count : ℕ) → IsAnsweredTableWithin from to rrsets said table → IsNumberAskedWithin from to rrsets count
+        → length said ≡ count }
 {}
 
-/// The table of the capture's entries at the moment, of which nothing is known.
+/// The table of the capture's entries at the moments of the range, of which nothing is known.
 fn ask_nobody<'b>(
     alloc: Global,
     bump: &'b Bump,
     capture: &'b Capture<'b>,
-    moment: u64,
+    range: Range,
 ) -> Result<Table<'b>, AllocError>
-    ensures { IfOk result (IsTableOf (λ entry. Answer.Unknown) moment capture.now.rrsets) }
+    ensures moment { IfOk result (λ table. table.moment ≡ range.from) }
+    ensures table { IfOk result (IsTableWithin (λ entry. Answer.Unknown) range.from range.to capture.now.rrsets) }
 {
     let mut count = Count::new();
-    ask_all(alloc, bump, capture, moment, &Nobody {}, &mut count)
+    ask_within(alloc, bump, capture, range, &Nobody {}, &mut count)
 }
 
 /// The answers without the numbers of their lines.

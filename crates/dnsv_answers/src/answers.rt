@@ -78,12 +78,13 @@ impl Answers {
         &self.said
     }
 
-    /// Tests that they are said of the capture whose octets have this SHA-256, and of the moment.
-    pub fn test_list(&self, digest: &[u8; 32], moment: u64) -> Result<(), AnswersError>
-        ensures are { OnOk result (AreOf self.now.heading digest.now moment) }
-        ensures other { IfErr result (AreOfOther self.now digest.now moment) }
+    /// Tests that they are said of the capture whose octets have this SHA-256, and of the moment or just the range.
+    /// Answers of a range aren't those of one moment, even where the range has no other.
+    pub fn test_list(&self, digest: &[u8; 32], moments: &Moments) -> Result<(), AnswersError>
+        ensures are { OnOk result (AreOf self.now.heading digest.now moments.now) }
+        ensures other { IfErr result (AreOfOther self.now digest.now moments.now) }
     {
-        if self.heading.digest != *digest || self.heading.moments != Moments::At(moment) {
+        if self.heading.digest != *digest || self.heading.moments != *moments {
             return Err(AnswersError::OtherList(self.line));
         }
         Ok(())

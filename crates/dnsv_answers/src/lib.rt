@@ -1,7 +1,7 @@
 //! Files of answers: what a verifier says of each entry of a capture's list, by the entry's number.
 #![tactic(auto)]
 
-pub use answered::{answered_table, answers_are_a_verifier};
+pub use answered::{answered_table, answered_table_within, answers_are_a_verifier};
 pub use answers::{Answers, a_text_is_one_list_of_answers};
 pub use digest::capture_digest;
 pub use error::AnswersError;

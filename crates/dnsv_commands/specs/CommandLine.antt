@@ -15,6 +15,8 @@ use Rattle.std.specs.declared.io.ErrorKind.TheVariants as io
 use Rattle.dnsv_texts.specs.Checking.{question_word}
 use Rattle.dnsv_commands.specs.Commands.{program_app}
 use Rattle.dnsv_files.specs.Moment.{last_moment}
+use Rattle.dnsv_commands.specs.declared.command_line.list.When.{When}
+use Rattle.dnsv_commands.specs.declared.command_line.list.When.TheVariants as when
 use Rattle.dnsv_commands.specs.declared.request.Asking.{Asking}
 use Rattle.dnsv_commands.specs.declared.request.Asking.TheVariants as asking
 use Rattle.dnsv_commands.specs.declared.request.Form.{Form}
@@ -77,6 +79,11 @@ AsksWithin rows from to = (first_of (codes "moment") rows ≡ None) × AsksBetwe
 -- they ask for neither, or for more than one of the two
 abbrev pub IsUndated : List Row → Type 0
 IsUndated rows = ((moment : ℕ) → AsksAt rows moment → ⊥) × ((from to : ℕ) → AsksWithin rows from to → ⊥)
+
+-- they ask for these moments
+abbrev pub AsksWhen : List Row → When → Type 0
+AsksWhen rows (when.At moment) = AsksAt rows moment
+AsksWhen rows (when.Within from to) = AsksWithin rows from to
 
 -- they ask for all of a range
 abbrev pub AsksForAllOfRange : List Row → Type 0

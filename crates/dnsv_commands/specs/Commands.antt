@@ -14,14 +14,17 @@ capture_rule = record (new_rule (codes "capture")) {
   required = true;
 }
 
--- `--moment N`, which has to be there, with a decimal number up to the last moment
-abbrev pub moment_rule : Rule
-moment_rule = record (new_rule (codes "moment")) {
-  long = Some (codes "moment");
+-- `--WORD N`, with a decimal number up to the last moment
+abbrev pub moment_rule : List ℕ → Rule
+moment_rule word = record (new_rule word) {
+  long = Some word;
   value_names = 1;
   parser = Some (parser.Unsigned 0 last_moment);
-  required = true;
 }
+
+-- an option that has to be there
+abbrev pub needed : Rule → Rule
+needed rule = record rule { required = true }
 
 -- `--anchors FILE`, which has to be there
 abbrev pub anchors_rule : Rule
@@ -95,6 +98,13 @@ compact_rule = record (new_rule (codes "compact")) {
   action = Some SetTrue;
 }
 
+-- `--kinds`, which takes no value
+abbrev pub kinds_rule : Rule
+kinds_rule = record (new_rule (codes "kinds")) {
+  long = Some (codes "kinds");
+  action = Some SetTrue;
+}
+
 -- `--json`, which takes no value
 abbrev pub json_rule : Rule
 json_rule = record (new_rule (codes "json")) {
@@ -106,20 +116,29 @@ json_rule = record (new_rule (codes "json")) {
 abbrev pub show_app : App
 show_app = with_rule (new_app (codes "show")) capture_rule
 
--- `list --capture FILE --moment N [--statements FILE] [--all] [--compact] [--json]`
+-- `list --capture FILE [--moment N] [--from N] [--to N] [--statements FILE] [--all] [--compact] [--json]`
 abbrev pub list_app : App
-list_app = with_rule (with_rule (with_rule (with_rule (with_rule (with_rule (new_app (codes "list")) capture_rule)
-    moment_rule) statements_rule) all_rule) compact_rule) json_rule
+list_app = with_rule (with_rule (with_rule (with_rule (with_rule (with_rule (with_rule (with_rule (new_app (codes "list"))
+    capture_rule) (moment_rule (codes "moment"))) (moment_rule (codes "from"))) (moment_rule (codes "to")))
+    statements_rule) all_rule) compact_rule) json_rule
 
 -- this word, and `--capture FILE --anchors FILE --moment N [--name NAME] [--type N] [--questions FILE]
 -- [--statements FILE] [--answers FILE] [--keys FILE] [--macs FILE] [--json]`
 abbrev pub asking_app : List ℕ → App
 asking_app word = with_rule (with_rule (with_rule (with_rule (with_rule (with_rule (with_rule (with_rule (with_rule
-    (with_rule (with_rule (new_app word) capture_rule) anchors_rule) moment_rule) name_rule) type_rule) questions_rule)
-    statements_rule) answers_rule) keys_rule) macs_rule) json_rule
+    (with_rule (with_rule (new_app word) capture_rule) anchors_rule) (needed (moment_rule (codes "moment")))) name_rule)
+    type_rule) questions_rule) statements_rule) answers_rule) keys_rule) macs_rule) json_rule
 
 abbrev pub question_app : Bool → App
 question_app why = asking_app (question_word why)
+
+-- `timeline --capture FILE --anchors FILE --from N --to N --name NAME --type N [--statements FILE] [--answers FILE]
+-- [--kinds] [--json]`
+abbrev pub timeline_app : App
+timeline_app = with_rule (with_rule (with_rule (with_rule (with_rule (with_rule (with_rule (with_rule (with_rule (with_rule
+    (new_app (codes "timeline")) capture_rule) anchors_rule) (needed (moment_rule (codes "from"))))
+    (needed (moment_rule (codes "to")))) (needed name_rule)) (needed type_rule)) statements_rule) answers_rule) kinds_rule)
+    json_rule
 
 -- the program, which has a version and wants one of its subcommands
 abbrev pub bare_app : App
@@ -132,5 +151,5 @@ bare_app = record (new_app (codes "dnssec_check")) {
 }
 
 abbrev pub program_app : App
-program_app = with_subcommand (with_subcommand (with_subcommand (with_subcommand bare_app show_app.top) list_app.top)
-    (question_app false).top) (question_app true).top
+program_app = with_subcommand (with_subcommand (with_subcommand (with_subcommand (with_subcommand bare_app show_app.top)
+    list_app.top) (question_app false).top) (question_app true).top) timeline_app.top

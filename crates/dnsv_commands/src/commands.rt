@@ -1,13 +1,17 @@
 //! The commands of the program.
 ghost use Rattle.std.specs.Prelude.{◌≡◌, false, true, IfOk};
-ghost use Rattle.clap.specs.Words.{app_of, rule_of};
+ghost use Rattle.clap.specs.Words.{app_of};
 ghost use Rattle.clap.specs.declared.Command.TheViews.{out-Command as fields_of};
-ghost use Rattle.dnsv_commands.specs.Commands.{all_rule, answers_rule, capture_rule, compact_rule, json_rule, keys_rule, macs_rule, moment_rule, statements_rule};
-ghost use Rattle.dnsv_commands.specs.Commands.{anchors_rule, name_rule, questions_rule, type_rule};
-ghost use Rattle.dnsv_commands.specs.Commands.{asking_app, list_app, program_app, question_app, show_app};
+ghost use Rattle.dnsv_commands.specs.Commands.{asking_app, list_app, program_app, question_app, show_app, timeline_app};
 
-use clap::{Arg, ArgAction, Command, value_parser};
-use dnsv_files::Moment;
+pub mod options;
+
+use crate::commands::options::{
+    all_flag, anchors_option, answers_option, capture_option, compact_flag, json_flag, keys_option,
+    kinds_flag, macs_option, moment_option, name_option, needed, questions_option,
+    statements_option, type_option,
+};
+use clap::Command;
 use std::alloc::{AllocError, Global};
 
 /// The version of the program, which is that of the tools, the package and the change log.
@@ -62,6 +66,28 @@ Example:
   dnssec_check explain --capture www.cap --anchors root.anchors --statements statements \
 --moment 1795348800 --name www.example. --type 1";
 
+/// What has to be done before `timeline`, how it ends, and a command line of it.
+const AFTER_TIMELINE: &str = "\
+Before, to have the signatures of the range checked:
+  dnssec_check list --capture www.cap --from 1795348800 --to 1795953600 > todo
+  dnssec_check-verify todo > statements
+
+Exit status: 0 where the timeline is whole, 7 where the question, the range or a file is refused,
+2 for words that are no command, 1 where memory, a file or the output failed
+
+Example:
+  dnssec_check timeline --capture www.cap --anchors root.anchors --statements statements \
+--from 1795348800 --to 1795953600 --name www.example. --type 1";
+
+/// What `--moment` is.
+const MOMENT: &str = "The moment in seconds since 1970, from 0 to 281474976710655";
+
+/// What `--from` is.
+const FROM: &str = "The first moment of a range, in seconds since 1970";
+
+/// What `--to` is.
+const TO: &str = "The last moment of the range, less than 2^32 seconds behind the first";
+
 /// The program with its subcommands.
 pub fn program<'a>(alloc: Global) -> Result<Command<'a>, AllocError>
     ensures { IfOk result (λ command. app_of command ≡ program_app) }
@@ -75,7 +101,8 @@ pub fn program<'a>(alloc: Global) -> Result<Command<'a>, AllocError>
         .subcommand(show(alloc)?)?
         .subcommand(list(alloc)?)?
         .subcommand(check(alloc)?)?
-        .subcommand(explain(alloc)?)
+        .subcommand(explain(alloc)?)?
+        .subcommand(timeline(alloc)?)
 }
 
 /// The subcommand `show`.
@@ -98,7 +125,9 @@ fn list<'a>(alloc: Global) -> Result<Command<'a>, AllocError>
         .about("Lists the signatures that a verifier still has to check")
         .after_help(AFTER_LIST)
         .arg(capture_option(alloc))?
-        .arg(moment_option(alloc))?
+        .arg(moment_option(alloc, "moment", MOMENT))?
+        .arg(moment_option(alloc, "from", FROM))?
+        .arg(moment_option(alloc, "to", TO))?
         .arg(statements_option(alloc))?
         .arg(all_flag(alloc))?
         .arg(compact_flag(alloc))?
@@ -146,7 +175,7 @@ fn question<'a>(
         .after_help(after)
         .arg(capture_option(alloc))?
         .arg(anchors_option(alloc))?
-        .arg(moment_option(alloc))?
+        .arg(needed(moment_option(alloc, "moment", MOMENT)))?
         .arg(name_option(alloc))?
         .arg(type_option(alloc))?
         .arg(questions_option(alloc))?
@@ -157,152 +186,22 @@ fn question<'a>(
         .arg(json_flag(alloc))
 }
 
-/// `--capture FILE`
-fn capture_option<'a>(alloc: Global) -> Arg<'a>
-    ensures rule { rule_of result ≡ capture_rule }
-    ensures local { result.global ≡ false }
+/// The subcommand `timeline`.
+fn timeline<'a>(alloc: Global) -> Result<Command<'a>, AllocError>
+    ensures { IfOk result (λ command. (app_of command ≡ timeline_app)
+        × ((fields_of command).has_globals ≡ false)) }
 {
-    Arg::new(alloc, "capture")
-        .long("capture")
-        .value_name("FILE")
-        .help("The captured messages, each behind its length in two octets")
-        .required(true)
-}
-
-/// `--anchors FILE`
-fn anchors_option<'a>(alloc: Global) -> Arg<'a>
-    ensures rule { rule_of result ≡ anchors_rule }
-    ensures local { result.global ≡ false }
-{
-    Arg::new(alloc, "anchors")
-        .long("anchors")
-        .value_name("FILE")
-        .help(
-            "The trust anchors: lines `DS NAME TAG ALG TYPE HEX` or `KEY NAME FLAGS 3 ALG BASE64`",
-        )
-        .required(true)
-}
-
-/// `--name NAME`
-fn name_option<'a>(alloc: Global) -> Arg<'a>
-    ensures rule { rule_of result ≡ name_rule }
-    ensures local { result.global ≡ false }
-{
-    Arg::new(alloc, "name")
-        .long("name")
-        .value_name("NAME")
-        .help("The name that is asked for, which ends with a dot")
-}
-
-/// `--type N`
-fn type_option<'a>(alloc: Global) -> Arg<'a>
-    ensures rule { rule_of result ≡ type_rule }
-    ensures local { result.global ≡ false }
-{
-    Arg::new(alloc, "type")
-        .long("type")
-        .value_name("N")
-        .help("The number of the type that is asked for, from 0 to 65535")
-        .value_parser(value_parser!(u64).range(0..=65_535))
-}
-
-/// `--questions FILE`
-fn questions_option<'a>(alloc: Global) -> Arg<'a>
-    ensures rule { rule_of result ≡ questions_rule }
-    ensures local { result.global ≡ false }
-{
-    Arg::new(alloc, "questions")
-        .long("questions")
-        .value_name("FILE")
-        .help("In place of --name and --type, many questions: lines `NAME N`")
-}
-
-/// `--moment N`
-fn moment_option<'a>(alloc: Global) -> Arg<'a>
-    ensures rule { rule_of result ≡ moment_rule }
-    ensures local { result.global ≡ false }
-{
-    Arg::new(alloc, "moment")
-        .long("moment")
-        .value_name("N")
-        .help("The moment in seconds since 1970, from 0 to 281474976710655")
-        .value_parser(value_parser!(u64).range(0..=Moment::LAST as i64))
-        .required(true)
-}
-
-/// `--statements FILE`
-fn statements_option<'a>(alloc: Global) -> Arg<'a>
-    ensures rule { rule_of result ≡ statements_rule }
-    ensures local { result.global ≡ false }
-{
-    Arg::new(alloc, "statements")
-        .long("statements")
-        .value_name("FILE")
-        .help("What was checked: lines `good ALG KEY DATA SIG` or `bad ALG KEY DATA SIG`, in hex")
-}
-
-/// `--answers FILE`
-fn answers_option<'a>(alloc: Global) -> Arg<'a>
-    ensures rule { rule_of result ≡ answers_rule }
-    ensures local { result.global ≡ false }
-{
-    Arg::new(alloc, "answers")
-        .long("answers")
-        .value_name("FILE")
-        .help(
-            "In place of --statements, an answer to each entry of list --compact: lines `good`, `bad` or `-`",
-        )
-}
-
-/// `--keys FILE`
-fn keys_option<'a>(alloc: Global) -> Arg<'a>
-    ensures rule { rule_of result ≡ keys_rule }
-    ensures local { result.global ≡ false }
-{
-    Arg::new(alloc, "keys").long("keys").value_name("FILE").help(
-        "The keys by which every message was signed (TSIG): lines `NAME BASE64`",
-    )
-}
-
-/// `--macs FILE`
-fn macs_option<'a>(alloc: Global) -> Arg<'a>
-    ensures rule { rule_of result ≡ macs_rule }
-    ensures local { result.global ≡ false }
-{
-    Arg::new(alloc, "macs").long("macs").value_name("FILE").help(
-        "With keys, the MAC of each message's request: lines of 64 hex digits, or `-` for none",
-    )
-}
-
-/// `--all`
-fn all_flag<'a>(alloc: Global) -> Arg<'a>
-    ensures rule { rule_of result ≡ all_rule }
-    ensures local { result.global ≡ false }
-{
-    Arg::new(alloc, "all")
-        .long("all")
-        .help("Lists the signed octets of every signature, whatever was checked")
-        .action(ArgAction::SetTrue)
-}
-
-/// `--compact`
-fn compact_flag<'a>(alloc: Global) -> Arg<'a>
-    ensures rule { rule_of result ≡ compact_rule }
-    ensures local { result.global ≡ false }
-{
-    Arg::new(alloc, "compact")
-        .long("compact")
-        .help("Lists each octet of keys, records and signatures once")
-        .action(ArgAction::SetTrue)
-}
-
-/// `--json`
-fn json_flag<'a>(alloc: Global) -> Arg<'a>
-    ensures rule { rule_of result ≡ json_rule }
-    ensures local { result.global ≡ false }
-{
-    Arg::new(alloc, "json")
-        .long("json")
-        .help("Writes one JSON object in place of lines")
-        .action(ArgAction::SetTrue)
+    Command::new(alloc, "timeline")
+        .about("Says what check says at each moment of a range")
+        .after_help(AFTER_TIMELINE)
+        .arg(capture_option(alloc))?
+        .arg(anchors_option(alloc))?
+        .arg(needed(moment_option(alloc, "from", FROM)))?
+        .arg(needed(moment_option(alloc, "to", TO)))?
+        .arg(needed(name_option(alloc)))?
+        .arg(needed(type_option(alloc)))?
+        .arg(statements_option(alloc))?
+        .arg(answers_option(alloc))?
+        .arg(kinds_flag(alloc))?
+        .arg(json_flag(alloc))
 }

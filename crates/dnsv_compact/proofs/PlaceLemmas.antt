@@ -11,8 +11,8 @@ use Rattle.std.specs.declared.cmp.Ordering.TheVariants.{Equal, Greater}
 use Rattle.dnsv_names.specs.Octets.{octets_cmp}
 use Rattle.dnsv_canonical.specs.Rrsets.{IsNumbered, ReceivedRrset}
 use Rattle.dnsv_canonical.specs.SignedData.{IsSignedData}
-use Rattle.dnsv_verifier.specs.Admissible.{IsAsked}
 use Rattle.dnsv_verifier.specs.EntryLaws.{octets_Equal, then_Equal}
+use Rattle.dnsv_verifier.specs.Within.{IsAskedWithin}
 use Rattle.dnsv_verifier.specs.declared.entry.Entry.{Entry}
 use Rattle.dnsv_verifier.proofs.NumberLemmas.{contains_map, signature_cmp_total}
 use Rattle.dnsv_compact.specs.CompactList.{AreInPlaces, AreKeysOf, ComesFirst, Gives, IsLowest, IsPlaceOf, key_of_entry}
@@ -31,14 +31,15 @@ asks : (entry : Entry) (rrset signature : ℕ) → part_cmp (asked_by entry rrse
 asks entry rrset signature = tied_itself signature_cmp_total (asked_part entry)
 
 -- what is asked is given
-pub given_of_asked : (moment : ℕ) (rrsets : List ReceivedRrset) (signed : List Signed) (entry : Entry) → AreSignedIn moment rrsets signed
-    → IsAsked moment rrsets entry → IsGiven signed entry
-given_of_asked moment rrsets signed entry are asked =
+pub given_of_asked : (from to : ℕ) (rrsets : List ReceivedRrset) (signed : List Signed) (entry : Entry) → AreSignedIn from to rrsets signed
+    → IsAskedWithin from to rrsets entry → IsGiven signed entry
+given_of_asked from to rrsets signed entry are within =
+    let asked = within.asked in
     let (number, numbered) = numbered_from_contains rrsets asked.rrset asked.among in
     let (rdata, there, reads) = asked.its in
     let (signature, its) = numbered_from_contains asked.rrset.signatures rdata there in
     let may = asked.admissible in
-    let is : IsSignedIn moment rrsets (asked_by entry number signature) = record {
+    let is : IsSignedIn from to rrsets (asked_by entry number signature) = record {
       number = number;
       received = asked.rrset;
       numbered = numbered;
@@ -49,7 +50,12 @@ given_of_asked moment rrsets signed entry are asked =
         rrsig = asked.rrsig;
         reads = reads;
         is = record {
-          verifiable = record { over = may.over; timely = may.timely; signer = may.signer; unexpanded = may.unexpanded };
+          verifiable = record {
+            moment = within.moment;
+            begins = within.begins;
+            ends = within.ends;
+            verifiable = record { over = may.over; timely = may.timely; signer = may.signer; unexpanded = may.unexpanded };
+          };
           signs = asked.is.signed_data;
           made = asked.is.signature;
           of_rrset = refl;
@@ -78,9 +84,9 @@ comes_first a b c d fails =
     let clash : true ≡ false = subst (λ (o : Ordering). is_gt (ordering_then o (nat_cmp b d)) ≡ false) over fails in absurd (cc)))
     (cases_order a c)
 
-module _ (moment : ℕ) (rrsets : List ReceivedRrset) (signed : List Signed) (are : AreSignedIn moment rrsets signed) (entry : Entry) (found : Signed) where
+module _ (from to : ℕ) (rrsets : List ReceivedRrset) (signed : List Signed) (are : AreSignedIn from to rrsets signed) (entry : Entry) (found : Signed) where
   -- it gives the entry
-  gives : Contains signed found → part_cmp found entry ≡ Equal → Gives moment rrsets entry found.rrset found.signature
+  gives : Contains signed found → part_cmp found entry ≡ Equal → Gives from to rrsets entry found.rrset found.signature
   gives among asked =
       let both = then_Equal (octets_cmp found.octets entry.signed_data) (octets_cmp found.made entry.signature) asked in
       let octets : found.octets ≡ entry.signed_data = octets_Equal found.octets entry.signed_data both.0 in
@@ -95,13 +101,16 @@ module _ (moment : ℕ) (rrsets : List ReceivedRrset) (signed : List Signed) (ar
         its = subst (λ (n : ℕ). IsNumbered is.received.signatures n it.rdata) (sym by.of_signature) it.its;
         rrsig = it.rrsig;
         reads = it.reads;
-        verifiable = by.verifiable;
+        moment = by.verifiable.moment;
+        begins = by.verifiable.begins;
+        ends = by.verifiable.ends;
+        verifiable = by.verifiable.verifiable;
         signs = subst (λ (o : List ℕ). IsSignedData is.received.owner is.received.rtype is.received.rdata it.rrsig (Some o)) octets by.signs;
         is = sym made ∙ by.made;
       }
 
   -- what gives the entry is among them
-  among_signed : (other another : ℕ) → Gives moment rrsets entry other another → Contains signed (asked_by entry other another)
+  among_signed : (other another : ℕ) → Gives from to rrsets entry other another → Contains signed (asked_by entry other another)
   among_signed other another g = (are.members (asked_by entry other another)).1 (record {
     number = other;
     received = g.received;
@@ -112,7 +121,13 @@ module _ (moment : ℕ) (rrsets : List ReceivedRrset) (signed : List Signed) (ar
       its = g.its;
       rrsig = g.rrsig;
       reads = g.reads;
-      is = record { verifiable = g.verifiable; signs = g.signs; made = g.is; of_rrset = refl; of_signature = refl };
+      is = record {
+        verifiable = record { moment = g.moment; begins = g.begins; ends = g.ends; verifiable = g.verifiable };
+        signs = g.signs;
+        made = g.is;
+        of_rrset = refl;
+        of_signature = refl;
+      };
     };
   })
 
@@ -125,7 +140,7 @@ module _ (moment : ℕ) (rrsets : List ReceivedRrset) (signed : List Signed) (ar
       (subst (λ (o : Ordering). is_gt (ordering_then o (ordering_then (octets_cmp found.made entry.signature) rest)) ≡ false) both.0 first.order))
 
   pub lowest_of : IsGiven signed entry → ((each : Signed) → Contains signed each → part_cmp each entry ≡ Equal → IsFirstSigned signed entry found each)
-      → IsLowest moment rrsets entry found.rrset found.signature
+      → IsLowest from to rrsets entry found.rrset found.signature
   lowest_of (each, there, asked) first =
       let it = first each there asked in
       record {
@@ -136,25 +151,25 @@ module _ (moment : ℕ) (rrsets : List ReceivedRrset) (signed : List Signed) (ar
 
 -- ---- entry by entry
 
-module _ (moment : ℕ) (rrsets : List ReceivedRrset) (keys : List ListedKey) where
-  one_behind : (entries : List Entry) (places : List Place) (entry : Entry) (place : Place) → AreInPlaces moment rrsets keys entries places
-      → IsPlaceOf moment rrsets keys entry place → AreInPlaces moment rrsets keys (entries ++ entry ∷ []) (places ++ place ∷ [])
+module _ (from to : ℕ) (rrsets : List ReceivedRrset) (keys : List ListedKey) where
+  one_behind : (entries : List Entry) (places : List Place) (entry : Entry) (place : Place) → AreInPlaces from to rrsets keys entries places
+      → IsPlaceOf from to rrsets keys entry place → AreInPlaces from to rrsets keys (entries ++ entry ∷ []) (places ++ place ∷ [])
   one_behind [] [] entry place are is = (is, tt)
   one_behind [] (p ∷ places) entry place are is = absurd are
   one_behind (e ∷ entries) [] entry place are is = absurd are
   one_behind (e ∷ entries) (p ∷ places) entry place are is = (are.0, one_behind entries places entry place are.1 is)
 
   pub places_more : (entries : List Entry) (n : ℕ) (entry : Entry) (old new : List Place) (place : Place) → n < length entries
-      → ((other : Entry) → slice_index_or entries n other ≡ entry) → new ≡ old ++ place ∷ [] → IsPlaceOf moment rrsets keys entry place
-      → AreInPlaces moment rrsets keys (take n entries) old → AreInPlaces moment rrsets keys (take (n + 1) entries) new
+      → ((other : Entry) → slice_index_or entries n other ≡ entry) → new ≡ old ++ place ∷ [] → IsPlaceOf from to rrsets keys entry place
+      → AreInPlaces from to rrsets keys (take n entries) old → AreInPlaces from to rrsets keys (take (n + 1) entries) new
   places_more entries n entry old new place within at grown is so_far =
       let longer : take (n + 1) entries ≡ take n entries ++ entry ∷ [] = take_more entries n entry within ∙ ap (λ (e : Entry). take n entries ++ e ∷ []) (at entry) in
-      subst (λ (es : List Entry). AreInPlaces moment rrsets keys es new) (sym longer)
-      (subst (λ (ps : List Place). AreInPlaces moment rrsets keys (take n entries ++ entry ∷ []) ps) (sym grown) (one_behind (take n entries) old entry place so_far is))
+      subst (λ (es : List Entry). AreInPlaces from to rrsets keys es new) (sym longer)
+      (subst (λ (ps : List Place). AreInPlaces from to rrsets keys (take n entries ++ entry ∷ []) ps) (sym grown) (one_behind (take n entries) old entry place so_far is))
 
-  pub places_all : (entries : List Entry) (n : ℕ) (places : List Place) → length entries ≤ n → AreInPlaces moment rrsets keys (take n entries) places
-      → AreInPlaces moment rrsets keys entries places
-  places_all entries n places past are = subst (λ (es : List Entry). AreInPlaces moment rrsets keys es places) (take_all n entries past) are
+  pub places_all : (entries : List Entry) (n : ℕ) (places : List Place) → length entries ≤ n → AreInPlaces from to rrsets keys (take n entries) places
+      → AreInPlaces from to rrsets keys entries places
+  places_all entries n places past are = subst (λ (es : List Entry). AreInPlaces from to rrsets keys es places) (take_all n entries past) are
 
 pub contains_at : (entries : List Entry) (n : ℕ) (entry : Entry) → n < length entries → ((other : Entry) → slice_index_or entries n other ≡ entry) → Contains entries entry
 contains_at entries n entry within at = (n, within, at entry)

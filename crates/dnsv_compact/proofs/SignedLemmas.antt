@@ -28,9 +28,9 @@ use Rattle.dnsv_compact.proofs.NumberedLemmas.{first_numbered, get_or_same, numb
 -- ---- one signature
 
 -- what is kept of a signature is one thing
-pub only_signed : (moment number : ℕ) (received : ReceivedRrset) (signature : ℕ) (rrsig : Rrsig) (a b : Signed)
-    → IsSignedBy moment number received signature rrsig a → IsSignedBy moment number received signature rrsig b → a ≡ b
-only_signed moment number received signature rrsig a b p q =
+pub only_signed : (from to number : ℕ) (received : ReceivedRrset) (signature : ℕ) (rrsig : Rrsig) (a b : Signed)
+    → IsSignedBy from to number received signature rrsig a → IsSignedBy from to number received signature rrsig b → a ≡ b
+only_signed from to number received signature rrsig a b p q =
     let somehow : Some a.octets ≡ Some b.octets =
     signed_data_unique received.owner received.rtype received.rdata rrsig (Some a.octets) (Some b.octets) p.signs q.signs in
     let same : a.octets ≡ b.octets = cc in
@@ -69,24 +69,24 @@ module _ (received : ReceivedRrset) (signatures : List Rrsig) (are : AllZip IsRr
   rrsig_numbered number rdata rrsig its is = (its.0, rrsig_at (number - 1) rdata rrsig its.1 is)
 
   -- all of them are those of the RRset
-  pub all_among : (moment number n : ℕ) (a b : List Signed) → length signatures ≤ n
-      → AddsJust (ComesOfFirst (λ signature rrsig signed. IsSignedBy moment number received signature rrsig signed) signatures n) a b
-      → AddsJust (IsSignedAmong moment number received) a b
-  all_among moment number n a b past adds =
-      adds_same (ComesOfFirst (λ signature rrsig signed. IsSignedBy moment number received signature rrsig signed) signatures n)
-      (IsSignedAmong moment number received) a b adds
+  pub all_among : (from to number n : ℕ) (a b : List Signed) → length signatures ≤ n
+      → AddsJust (ComesOfFirst (λ signature rrsig signed. IsSignedBy from to number received signature rrsig signed) signatures n) a b
+      → AddsJust (IsSignedAmong from to number received) a b
+  all_among from to number n a b past adds =
+      adds_same (ComesOfFirst (λ signature rrsig signed. IsSignedBy from to number received signature rrsig signed) signatures n)
+      (IsSignedAmong from to number received) a b adds
       (λ x of. let (rdata, its, reads) = rdata_at of.place of.source of.at in
       record { signature = of.place + 1; rdata = rdata; its = numbered_at received.signatures of.place rdata its; rrsig = of.source; reads = reads; is = of.is })
-      (λ x among. first_numbered (λ signature rrsig signed. IsSignedBy moment number received signature rrsig signed) signatures n among.signature among.rrsig x past
+      (λ x among. first_numbered (λ signature rrsig signed. IsSignedBy from to number received signature rrsig signed) signatures n among.signature among.rrsig x past
       (rrsig_numbered among.signature among.rdata among.rrsig among.its among.reads) among.is)
 
 -- those of all RRsets
-pub all_in : (moment : ℕ) (rrsets : List ReceivedRrset) (n : ℕ) (b : List Signed) → length rrsets ≤ n
-    → AddsJust (ComesOfFirst (IsSignedAmong moment) rrsets n) [] b → (each : Signed) → Contains b each ↔ IsSignedIn moment rrsets each
-all_in moment rrsets n b past adds each = (
+pub all_in : (from to : ℕ) (rrsets : List ReceivedRrset) (n : ℕ) (b : List Signed) → length rrsets ≤ n
+    → AddsJust (ComesOfFirst (IsSignedAmong from to) rrsets n) [] b → (each : Signed) → Contains b each ↔ IsSignedIn from to rrsets each
+all_in from to rrsets n b past adds each = (
   λ found. ⊎_elim (λ none. absurd (omega (arith, none.1)))
       (λ of. record { number = of.place + 1; received = of.source; numbered = numbered_at rrsets of.place of.source of.at; is = of.is }) (adds.only each found),
-  λ is. adds.added each (first_numbered (IsSignedAmong moment) rrsets n is.number is.received each past is.numbered is.is),
+  λ is. adds.added each (first_numbered (IsSignedAmong from to) rrsets n is.number is.received each past is.numbered is.is),
 )
 
 -- ---- the order

@@ -56,15 +56,18 @@ pub record AreKeysOf (entries : List Entry) (keys : List ListedKey) : Type 0 whe
 
 -- ---- which signature
 
--- The signature of the RRset gives the entry: it can be verified at the moment, signs the entry's octets, and is the
--- entry's signature.
-pub record Gives (moment : ℕ) (rrsets : List ReceivedRrset) (entry : Entry) (rrset signature : ℕ) : Type 0 where
+-- The signature of the RRset gives the entry: it can be verified at some moment of the range, signs the entry's octets,
+-- and is the entry's signature.
+pub record Gives (from to : ℕ) (rrsets : List ReceivedRrset) (entry : Entry) (rrset signature : ℕ) : Type 0 where
   pub received : ReceivedRrset
   pub numbered : IsNumbered rrsets rrset received
   pub rdata : List ℕ
   pub its : IsNumbered received.signatures signature rdata
   pub rrsig : Rrsig
   pub reads : IsRrsig rdata rrsig
+  pub moment : ℕ
+  pub begins : from ≤ moment
+  pub ends : moment ≤ to
   pub verifiable : IsVerifiable moment received rrsig
   pub signs : IsSignedData received.owner received.rtype received.rdata rrsig (Some entry.signed_data)
   pub is : entry.signature ≡ rrsig.signature
@@ -74,14 +77,14 @@ abbrev pub ComesFirst : ℕ → ℕ → ℕ → ℕ → Type 0
 ComesFirst rrset signature other another = (rrset < other) ⊎ ((rrset ≡ other) × (signature ≤ another))
 
 -- the lowest signature that gives the entry, RRsets first
-pub record IsLowest (moment : ℕ) (rrsets : List ReceivedRrset) (entry : Entry) (rrset signature : ℕ) : Type 0 where
-  pub gives : Gives moment rrsets entry rrset signature
-  pub lowest : (other another : ℕ) → Gives moment rrsets entry other another → ComesFirst rrset signature other another
+pub record IsLowest (from to : ℕ) (rrsets : List ReceivedRrset) (entry : Entry) (rrset signature : ℕ) : Type 0 where
+  pub gives : Gives from to rrsets entry rrset signature
+  pub lowest : (other another : ℕ) → Gives from to rrsets entry other another → ComesFirst rrset signature other another
 
 -- the parts of an entry: its key by its number, and the lowest signature that gives it
-pub record IsPlaceOf (moment : ℕ) (rrsets : List ReceivedRrset) (keys : List ListedKey) (entry : Entry) (place : Place) : Type 0 where
+pub record IsPlaceOf (from to : ℕ) (rrsets : List ReceivedRrset) (keys : List ListedKey) (entry : Entry) (place : Place) : Type 0 where
   pub key : IsNumbered keys place.key (key_of_entry entry)
-  pub signature : IsLowest moment rrsets entry place.rrset place.signature
+  pub signature : IsLowest from to rrsets entry place.rrset place.signature
 
 -- ---- which RRsets
 
@@ -140,19 +143,20 @@ pub record EntryPlaces : Type 0 where
   pub todo : List Place
 
 -- each entry has its place, in their order
-abbrev pub AreInPlaces : ℕ → List ReceivedRrset → List ListedKey → List Entry → List Place → Type 0
-AreInPlaces moment rrsets keys [] [] = Unit {0}
-AreInPlaces moment rrsets keys [] (place ∷ places) = ⊥
-AreInPlaces moment rrsets keys (entry ∷ entries) [] = ⊥
-AreInPlaces moment rrsets keys (entry ∷ entries) (place ∷ places) =
-    IsPlaceOf moment rrsets keys entry place × AreInPlaces moment rrsets keys entries places
+abbrev pub AreInPlaces : ℕ → ℕ → List ReceivedRrset → List ListedKey → List Entry → List Place → Type 0
+AreInPlaces from to rrsets keys [] [] = Unit {0}
+AreInPlaces from to rrsets keys [] (place ∷ places) = ⊥
+AreInPlaces from to rrsets keys (entry ∷ entries) [] = ⊥
+AreInPlaces from to rrsets keys (entry ∷ entries) (place ∷ places) =
+    IsPlaceOf from to rrsets keys entry place × AreInPlaces from to rrsets keys entries places
 
 -- the keys are those of the entries, and each entry has its place
-pub record ArePlacesOf (moment : ℕ) (rrsets : List ReceivedRrset) (entries : List Entry) (places : EntryPlaces) : Type 0 where
+pub record ArePlacesOf (from to : ℕ) (rrsets : List ReceivedRrset) (entries : List Entry) (places : EntryPlaces) : Type 0 where
   pub keys : AreKeysOf entries places.keys
-  pub each : AreInPlaces moment rrsets places.keys entries places.todo
+  pub each : AreInPlaces from to rrsets places.keys entries places.todo
 
--- the contents are those of the compact list of these entries, which are asked of the RRsets at the moment
-pub record IsCompactList (moment : ℕ) (rrsets : List ReceivedRrset) (entries : List Entry) (contents : ListContents) : Type 0 where
-  pub places : ArePlacesOf moment rrsets entries (record { keys = contents.keys; todo = contents.todo })
+-- the contents are those of the compact list of these entries, each of which is asked of the RRsets at some moment of the
+-- range
+pub record IsCompactList (from to : ℕ) (rrsets : List ReceivedRrset) (entries : List Entry) (contents : ListContents) : Type 0 where
+  pub places : ArePlacesOf from to rrsets entries (record { keys = contents.keys; todo = contents.todo })
   pub listed : ListsRrsets contents.todo 1 rrsets contents.rrsets

@@ -9,7 +9,7 @@ use Rattle.dnsv_records.specs.Rrsig.{IsRrsig}
 use Rattle.dnsv_records.specs.declared.rrsig.Rrsig.{Rrsig}
 use Rattle.dnsv_canonical.specs.Rrsets.{IsNumbered, ReceivedRrset}
 use Rattle.dnsv_canonical.specs.SignedData.{IsSignedData}
-use Rattle.dnsv_verifier.specs.Admissible.{IsVerifiable}
+use Rattle.dnsv_verifier.specs.Asking.{IsVerifiableWithin}
 use Rattle.dnsv_verifier.specs.declared.entry.Entry.{Entry}
 use Rattle.dnsv_compact.specs.declared.signed.Signed.{Signed}
 
@@ -23,29 +23,29 @@ signed_cmp a b =
     ordering_then (octets_cmp a.octets b.octets)
     (ordering_then (octets_cmp a.made b.made) (ordering_then (nat_cmp a.rrset b.rrset) (nat_cmp a.signature b.signature)))
 
--- what is kept of a signature that can be verified
-pub record IsSignedBy (moment number : ℕ) (received : ReceivedRrset) (signature : ℕ) (rrsig : Rrsig) (signed : Signed) : Type 0 where
-  pub verifiable : IsVerifiable moment received rrsig
+-- what is kept of a signature that can be verified at some moment of the range
+pub record IsSignedBy (from to number : ℕ) (received : ReceivedRrset) (signature : ℕ) (rrsig : Rrsig) (signed : Signed) : Type 0 where
+  pub verifiable : IsVerifiableWithin from to received rrsig
   pub signs : IsSignedData received.owner received.rtype received.rdata rrsig (Some signed.octets)
   pub made : signed.made ≡ rrsig.signature
   pub of_rrset : signed.rrset ≡ number
   pub of_signature : signed.signature ≡ signature
 
 -- it is that of one of the signatures of the RRset with the number
-pub record IsSignedAmong (moment number : ℕ) (received : ReceivedRrset) (signed : Signed) : Type 0 where
+pub record IsSignedAmong (from to number : ℕ) (received : ReceivedRrset) (signed : Signed) : Type 0 where
   pub signature : ℕ
   pub rdata : List ℕ
   pub its : IsNumbered received.signatures signature rdata
   pub rrsig : Rrsig
   pub reads : IsRrsig rdata rrsig
-  pub is : IsSignedBy moment number received signature rrsig signed
+  pub is : IsSignedBy from to number received signature rrsig signed
 
 -- it is that of a signature of one of the RRsets
-pub record IsSignedIn (moment : ℕ) (rrsets : List ReceivedRrset) (signed : Signed) : Type 0 where
+pub record IsSignedIn (from to : ℕ) (rrsets : List ReceivedRrset) (signed : Signed) : Type 0 where
   pub number : ℕ
   pub received : ReceivedRrset
   pub numbered : IsNumbered rrsets number received
-  pub is : IsSignedAmong moment number received signed
+  pub is : IsSignedAmong from to number received signed
 
 -- the entry asks about one of them
 abbrev pub IsGiven : List Signed → Entry → Type 0
@@ -68,6 +68,6 @@ pub record ComesOfFirst {Y X : Type 0} (P : ℕ → Y → X → Type 0) (ys : Li
   pub is : P (place + 1) source x
 
 -- these are all, by what is signed, the signature and the numbers
-pub record AreSignedIn (moment : ℕ) (rrsets : List ReceivedRrset) (signed : List Signed) : Type 0 where
-  pub members : (each : Signed) → Contains signed each ↔ IsSignedIn moment rrsets each
+pub record AreSignedIn (from to : ℕ) (rrsets : List ReceivedRrset) (signed : List Signed) : Type 0 where
+  pub members : (each : Signed) → Contains signed each ↔ IsSignedIn from to rrsets each
   pub sorted : IsSorted signed_cmp signed

@@ -15,3 +15,4 @@ mod list;
 mod named;
 mod place;
 mod signed;
+mod verifiable;

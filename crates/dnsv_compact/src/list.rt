@@ -4,7 +4,7 @@ ghost use Rattle.std.specs.List.Sorted.{IsSorted, IsStrictlySortedBy};
 ghost use Rattle.dnsv_canonical.specs.Rrsets.{ReceivedRrset};
 ghost use Rattle.dnsv_compact.specs.CompactList.{AreInPlaces, AreKeysOf, ArePlacesOf, IsPlaceOf, key_cmp, key_of_entry, names_rrset, names_signature};
 ghost use Rattle.dnsv_compact.specs.Signed.{AreSignedIn, IsGiven, signed_cmp};
-ghost use Rattle.dnsv_verifier.specs.Admissible.{IsAsked};
+ghost use Rattle.dnsv_verifier.specs.Within.{IsAskedWithin};
 ghost use Rattle.dnsv_verifier.specs.declared.entry.Entry.{Entry};
 
 use crate::key::{ListedKey, keys_of, number_of};
@@ -13,6 +13,7 @@ use crate::place::Place;
 use crate::signed::{Signed, all_signed, first_of};
 use bumpalo::Bump;
 use dnsv_canonical::Rrset;
+use dnsv_timeline::Range;
 use dnsv_verifier::{Entries, Entry};
 use std::alloc::{AllocError, Global};
 use std::marker::Model;
@@ -45,19 +46,19 @@ impl<'e> Model for CompactList<'e> {
 }
 
 impl<'e> CompactList<'e> {
-    /// The list of entries that are asked of the RRsets at the moment.
+    /// The list of entries, each of which is asked of the RRsets at some moment of the range.
     pub fn of<'b>(
         alloc: Global,
         bump: &'b Bump,
-        moment: u64,
+        range: Range,
         rrsets: &'b [Rrset<'b>],
         entries: &'e Entries<'_>,
     ) -> Result<CompactList<'e>, AllocError>
-        requires { (entry : Entry) → Contains entries.now entry → IsAsked moment rrsets.now entry }
-        ensures { IfOk result (ArePlacesOf moment rrsets.now entries.now) }
+        requires { (entry : Entry) → Contains entries.now entry → IsAskedWithin range.from range.to rrsets.now entry }
+        ensures { IfOk result (ArePlacesOf range.from range.to rrsets.now entries.now) }
     {
         let keys = keys_of(alloc, entries)?;
-        let signed = all_signed(alloc, bump, moment, rrsets)?;
+        let signed = all_signed(alloc, bump, range, rrsets)?;
         let places = places_of(alloc, &keys, &signed, entries)?;
         let named = named_by(alloc, &places)?;
         let rrsets_named = rrsets_of(alloc, &places)?;
@@ -108,8 +109,8 @@ fn places_of(
     requires keys { AreKeysOf entries.now keys.now }
     requires sorted { IsSorted signed_cmp signed.now }
     requires given { (entry : Entry) → Contains entries.now entry → IsGiven signed.now entry }
-    ensures { (moment : ℕ) (rrsets : List ReceivedRrset) → AreSignedIn moment rrsets signed.now
-        → IfOk result (λ places. AreInPlaces moment rrsets keys.now entries.now places.items) }
+    ensures { (from to : ℕ) (rrsets : List ReceivedRrset) → AreSignedIn from to rrsets signed.now
+        → IfOk result (λ places. AreInPlaces from to rrsets keys.now entries.now places.items) }
 {
     let mut places = Vec::with_capacity(alloc, entries.len())?;
     for place in 0..entries.len() {
@@ -124,8 +125,8 @@ fn place_of(keys: &[ListedKey<'_>], signed: &[Signed<'_>], entry: &Entry<'_>) ->
     requires among { Contains keys.now (key_of_entry entry.now) }
     requires sorted { IsSorted signed_cmp signed.now }
     requires given { IsGiven signed.now entry.now }
-    ensures { (moment : ℕ) (rrsets : List ReceivedRrset) → AreSignedIn moment rrsets signed.now
-        → IsPlaceOf moment rrsets keys.now entry.now result }
+    ensures { (from to : ℕ) (rrsets : List ReceivedRrset) → AreSignedIn from to rrsets signed.now
+        → IsPlaceOf from to rrsets keys.now entry.now result }
 {
     let Some(found) = first_of(signed, entry) else {
         unreachable!();

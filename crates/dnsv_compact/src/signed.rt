@@ -7,11 +7,13 @@ ghost use Rattle.dnsv_verifier.specs.Asking.{AddsJust};
 ghost use Rattle.dnsv_compact.specs.Signed.{AreSignedIn, IsSignedAmong, IsSignedBy, IsSignedIn, IsFirstSigned, part_cmp, signed_cmp};
 ghost use Rattle.dnsv_compact.specs.declared.signed.Signed.{Signed};
 
+use crate::verifiable::is_verifiable_within;
 use bumpalo::Bump;
 use dnsv_canonical::{Rrset, SigningRoom, make_signed_data};
 use dnsv_names::compare_octets;
 use dnsv_records::{Octets, Rrsig};
-use dnsv_verifier::{Entry, is_verifiable};
+use dnsv_timeline::Range;
+use dnsv_verifier::Entry;
 use std::alloc::{AllocError, Global};
 use std::cmp::Ordering;
 
@@ -36,16 +38,16 @@ impl Signed<'_> {
     }
 }
 
-/// The signatures of the RRsets that can be verified at the moment, in their order. What they sign lies in the arena.
+/// The signatures of the RRsets that can be verified at some moment of the range, in their order. What they sign lies in the arena.
 pub(crate) fn all_signed<'b>(
     alloc: Global,
     bump: &'b Bump,
-    moment: u64,
+    range: Range,
     rrsets: &'b [Rrset<'b>],
 ) -> Result<Vec<Signed<'b>>, AllocError>
-    ensures { IfOk result (λ signed. AreSignedIn moment rrsets.now signed.items) }
+    ensures { IfOk result (λ signed. AreSignedIn range.from range.to rrsets.now signed.items) }
 {
-    let mut signed = gathered(alloc, bump, moment, rrsets)?;
+    let mut signed = gathered(alloc, bump, range, rrsets)?;
     signed.sort_unstable();
     Ok(signed)
 }
@@ -54,10 +56,10 @@ pub(crate) fn all_signed<'b>(
 fn gathered<'b>(
     alloc: Global,
     bump: &'b Bump,
-    moment: u64,
+    range: Range,
     rrsets: &'b [Rrset<'b>],
 ) -> Result<Vec<Signed<'b>>, AllocError>
-    ensures { IfOk result (λ signed. (each : Signed) → Contains signed.items each ↔ IsSignedIn moment rrsets.now each) }
+    ensures { IfOk result (λ signed. (each : Signed) → Contains signed.items each ↔ IsSignedIn range.from range.to rrsets.now each) }
 {
     let mut signed = Vec::new(alloc);
     let mut room = SigningRoom::new(alloc);
@@ -66,7 +68,7 @@ fn gathered<'b>(
             alloc,
             bump,
             &mut room,
-            moment,
+            range,
             place + 1,
             &rrsets[place],
             &mut signed,
@@ -80,12 +82,12 @@ fn add_rrset<'b>(
     alloc: Global,
     bump: &'b Bump,
     room: &mut SigningRoom,
-    moment: u64,
+    range: Range,
     number: usize,
     rrset: &'b Rrset<'b>,
     signed: &mut Vec<Signed<'b>>,
 ) -> Result<(), AllocError>
-    ensures { OnOk result (AddsJust (IsSignedAmong moment number rrset.now) signed.old.items signed.new.items) }
+    ensures { OnOk result (AddsJust (IsSignedAmong range.from range.to number rrset.now) signed.old.items signed.new.items) }
 {
     let signatures = rrset.signatures();
     for place in 0..signatures.len() {
@@ -93,7 +95,7 @@ fn add_rrset<'b>(
             alloc,
             bump,
             room,
-            moment,
+            range,
             number,
             place + 1,
             rrset,
@@ -109,17 +111,17 @@ fn add_signature<'b>(
     alloc: Global,
     bump: &'b Bump,
     room: &mut SigningRoom,
-    moment: u64,
+    range: Range,
     number: usize,
     signature: usize,
     rrset: &Rrset<'_>,
     rrsig: &'b Rrsig<'b>,
     signed: &mut Vec<Signed<'b>>,
 ) -> Result<(), AllocError>
-    ensures { OnOk result (AddsJust (IsSignedBy moment number rrset.now signature rrsig.now) signed.old.items
+    ensures { OnOk result (AddsJust (IsSignedBy range.from range.to number rrset.now signature rrsig.now) signed.old.items
         signed.new.items) }
 {
-    if !is_verifiable(moment, rrset, rrsig) {
+    if !is_verifiable_within(range, rrset, rrsig) {
         return Ok(());
     }
     let Some(octets) = octets_of(alloc, bump, room, rrset, rrsig)? else {

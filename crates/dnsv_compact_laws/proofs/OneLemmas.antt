@@ -125,7 +125,7 @@ one_list rrsets contents (place ∷ places) (a ∷ x) (b ∷ y) lists says_x say
     ap₂ (λ (each : Entry) (rest : List Entry). each ∷ rest) (one_entry rrsets contents place a b lists says_x.0 says_y.0)
     (one_list rrsets contents places x y lists says_x.1 says_y.1)
 
-pub one_reading : (first second : ℕ) (a b : List ReceivedRrset) (x y : List Entry) (contents : ListContents)
-    → IsCompactList first a x contents → IsCompactList second b y contents → x ≡ y
-one_reading first second a b x y contents is_x is_y =
-    one_list a contents contents.todo x y is_x.listed (reads_back first a x contents is_x) (reads_back second b y contents is_y)
+pub one_reading : (from to other another : ℕ) (a b : List ReceivedRrset) (x y : List Entry) (contents : ListContents)
+    → IsCompactList from to a x contents → IsCompactList other another b y contents → x ≡ y
+one_reading from to other another a b x y contents is_x is_y =
+    one_list a contents contents.todo x y is_x.listed (reads_back from to a x contents is_x) (reads_back other another b y contents is_y)

@@ -113,11 +113,11 @@ place_signature todo place there =
     any_true (λ each. (each.rrset == place.rrset) && (each.signature == place.signature)) todo place there
     (let test : ((place.rrset == place.rrset) && (place.signature == place.signature)) ≡ true = grind (arith, nat_tests) in test)
 
-place_says : (moment : ℕ) (rrsets : List ReceivedRrset) (contents : ListContents) (entry : Entry) (place : Place)
-    → ListsRrsets contents.todo 1 rrsets contents.rrsets → IsPlaceOf moment rrsets contents.keys entry place → Contains contents.todo place
+place_says : (from to : ℕ) (rrsets : List ReceivedRrset) (contents : ListContents) (entry : Entry) (place : Place)
+    → ListsRrsets contents.todo 1 rrsets contents.rrsets → IsPlaceOf from to rrsets contents.keys entry place → Contains contents.todo place
     → Says contents place entry
-place_says moment rrsets contents entry place lists is there =
-    let gives : Gives moment rrsets entry place.rrset place.signature = is.signature.gives in
+place_says from to rrsets contents entry place lists is there =
+    let gives : Gives from to rrsets entry place.rrset place.signature = is.signature.gives in
     let number : 1 + (place.rrset - 1) ≡ place.rrset = omega (arith, gives.numbered.0) in
     let own : 1 + (place.signature - 1) ≡ place.signature = omega (arith, gives.its.0) in
     let found : IsThere contents.todo (1 + (place.rrset - 1)) gives.received contents.rrsets =
@@ -144,18 +144,18 @@ place_says moment rrsets contents entry place lists is there =
       by = gives.is;
     }
 
-say_each : (moment : ℕ) (rrsets : List ReceivedRrset) (contents : ListContents) (entries : List Entry) (places : List Place)
-    → ListsRrsets contents.todo 1 rrsets contents.rrsets → AreInPlaces moment rrsets contents.keys entries places
+say_each : (from to : ℕ) (rrsets : List ReceivedRrset) (contents : ListContents) (entries : List Entry) (places : List Place)
+    → ListsRrsets contents.todo 1 rrsets contents.rrsets → AreInPlaces from to rrsets contents.keys entries places
     → ((place : Place) → Contains places place → Contains contents.todo place) → SayEach contents places entries
-say_each moment rrsets contents [] [] lists are within = tt
-say_each moment rrsets contents [] (place ∷ places) lists are within = absurd are
-say_each moment rrsets contents (entry ∷ entries) [] lists are within = absurd are
-say_each moment rrsets contents (entry ∷ entries) (place ∷ places) lists are within = (
-  place_says moment rrsets contents entry place lists are.0 (within place (contains_here place places)),
-  say_each moment rrsets contents entries places lists are.1 (λ other there. within other (contains_later place places other there)),
+say_each from to rrsets contents [] [] lists are within = tt
+say_each from to rrsets contents [] (place ∷ places) lists are within = absurd are
+say_each from to rrsets contents (entry ∷ entries) [] lists are within = absurd are
+say_each from to rrsets contents (entry ∷ entries) (place ∷ places) lists are within = (
+  place_says from to rrsets contents entry place lists are.0 (within place (contains_here place places)),
+  say_each from to rrsets contents entries places lists are.1 (λ other there. within other (contains_later place places other there)),
 )
 
-pub reads_back : (moment : ℕ) (rrsets : List ReceivedRrset) (entries : List Entry) (contents : ListContents)
-    → IsCompactList moment rrsets entries contents → SayEach contents contents.todo entries
-reads_back moment rrsets entries contents is =
-    say_each moment rrsets contents entries contents.todo is.listed is.places.each (λ place there. there)
+pub reads_back : (from to : ℕ) (rrsets : List ReceivedRrset) (entries : List Entry) (contents : ListContents)
+    → IsCompactList from to rrsets entries contents → SayEach contents contents.todo entries
+reads_back from to rrsets entries contents is =
+    say_each from to rrsets contents entries contents.todo is.listed is.places.each (λ place there. there)

@@ -53,6 +53,7 @@ refusal_number (refusal.AnchorLine error) = anchors_error_code error
 refusal_number (refusal.StatementLine error) = statements_error_code error
 refusal_number (refusal.AnswerLine error) = answers_error_code error
 refusal_number (refusal.QuestionLine error) = questions_error_code error
+refusal_number refusal.BadRange = 821
 
 abbrev pub fault_number : Fault → ℕ
 fault_number fault.OutOfMemory = 90

@@ -127,6 +127,8 @@ pub enum Refusal {
     AnswerLine(AnswersError),
     /// A line of the file of questions is at fault.
     QuestionLine(QuestionsError),
+    /// The last moment of a range is before the first, or 2^32 seconds behind it or more.
+    BadRange,
 }
 
 impl Refusal {
@@ -149,6 +151,7 @@ impl Refusal {
             Refusal::StatementLine(error) => error.code(),
             Refusal::AnswerLine(error) => error.code(),
             Refusal::QuestionLine(error) => error.code(),
+            Refusal::BadRange => 821,
         }
     }
 }

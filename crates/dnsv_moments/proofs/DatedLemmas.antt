@@ -1,14 +1,17 @@
 -- Signatures of the evidence with their times, one after another.
-use Rattle.std.proofs.Common.{◌≡◌, ℕ, ◌+◌, List, [], ◌∷◌, ◌++◌, drop, refl, sym, ap, ◌∙◌, subst, append_assoc}
+use Rattle.std.proofs.Common.{◌≡◌, ℕ, ◌+◌, List, [], ◌∷◌, ◌++◌, drop, inl, inr, refl, sym, ap, ◌∙◌, subst, append_assoc}
 use Rattle.std.proofs.lemmas.List.{append-nil}
 use Rattle.std.specs.List.{AllZip}
 use Rattle.dnsv_records.specs.Rrsig.{IsRrsig}
 use Rattle.dnsv_records.specs.declared.rrsig.Rrsig.{Rrsig}
 use Rattle.dnsv_canonical.specs.Rrsets.{IsNumbered, ReceivedRrset}
 use Rattle.dnsv_canonical.specs.declared.number.SignatureNumber.{SignatureNumber}
+use Rattle.dnsv_timeline.specs.Dates.{times_of}
 use Rattle.dnsv_timeline.specs.declared.borders.DatedSignature.{DatedSignature}
 use Rattle.dnsv_derivations.proofs.lemmas.intervals.ShownLemmas.{no_times, some_times}
-use Rattle.dnsv_moments.specs.Dated.{AddsDated, AreDated, IsDated}
+use Rattle.dnsv_derivations.proofs.lemmas.one.TrustedLemmas.{one_signature_at}
+use Rattle.dnsv_explain.proofs.lemmas.keys.OneListLemmas.{IsOneList, one_of_each}
+use Rattle.dnsv_moments.specs.Dated.{AddsDated, AreDated, AreDatedAs, IsDated}
 
 module _ (rrsets : List ReceivedRrset) (numbers : List SignatureNumber) where
   -- what is behind the place completes the list
@@ -68,3 +71,25 @@ some_dated rrsets number rrset rrsigs rrsig is_rrset zip numbered =
       read = has.read;
       times = λ i. record { inception = has.inception i; expiration = has.expiration i };
     }
+
+-- ---- one list
+
+one_date : (rrsets : List ReceivedRrset) (number : SignatureNumber) (a b : DatedSignature) → IsDated rrsets number a
+    → IsDated rrsets number b → a ≡ b
+one_date rrsets number a b x y =
+    let same = one_signature_at rrsets number number x.rrset y.rrset x.rdata y.rdata x.rrsig y.rrsig refl
+    (x.is_rrset, x.is_signature, x.read) (y.is_rrset, y.is_signature, y.read) in
+    let numbers : a.number ≡ b.number = x.same ∙ sym y.same in
+    let times : a.times ≡ b.times = x.times ∙ ap (λ (g : Rrsig). times_of g) same.1 ∙ sym y.times in
+    λ i. record { number = numbers i; times = times i }
+
+one_dated_as : (rrsets : List ReceivedRrset) (number : SignatureNumber) → IsOneList (AreDatedAs rrsets number)
+one_dated_as rrsets number a b (inl x) (inl y) =
+    x.2 ∙ ap (λ (each : DatedSignature). each ∷ []) (one_date rrsets number x.0 y.0 x.1 y.1) ∙ sym y.2
+one_dated_as rrsets number a b (inl x) (inr y) = absurd (y.0 x.0 x.1)
+one_dated_as rrsets number a b (inr x) (inl y) = absurd (x.0 y.0 y.1)
+one_dated_as rrsets number a b (inr x) (inr y) = x.1 ∙ sym y.1
+
+-- numbers are of one list of signatures
+pub one_dated : (rrsets : List ReceivedRrset) (numbers : List SignatureNumber) → IsOneList (AreDated rrsets numbers)
+one_dated rrsets numbers = one_of_each (AreDatedAs rrsets) (one_dated_as rrsets) numbers

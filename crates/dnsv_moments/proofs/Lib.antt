@@ -5,3 +5,4 @@ pub mod SayingLemmas
 pub mod ShownLemmas
 pub mod TellingLemmas
 pub mod TimelineLemmas
+pub mod VerifierLemmas

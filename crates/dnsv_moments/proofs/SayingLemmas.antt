@@ -17,13 +17,12 @@ use Rattle.dnsv_timeline.specs.Dates.{AreTimesOf}
 use Rattle.dnsv_timeline.specs.Timeline.{DependsOnWithin, IsTimelineBy}
 use Rattle.dnsv_timeline.specs.declared.stretch.Stretch.{Stretch}
 use Rattle.dnsv_timeline.specs.declared.times.Times.{Times}
-use Rattle.dnsv_timeline_laws.proofs.SaidLemmas.{all_have, kind_depends, said_depends}
-use Rattle.dnsv_timeline_laws.specs.Said.{AreShownIn, IsKindAt, IsSaid, IsSaidAt, Said, Told, told_verdict}
+use Rattle.dnsv_timeline_laws.proofs.SaidLemmas.{all_have, said_depends}
+use Rattle.dnsv_timeline_laws.specs.Said.{AreShownIn, IsSaid, IsSaidAt, Said, Told, told_verdict}
 use Rattle.dnsv_timeline_laws.specs.Said.IsSaid.{a_refusal, a_verdict}
-use Rattle.dnsv_timeline_laws.specs.declared.kind.Kind.{Kind}
 use Rattle.dnsv_moments.specs.Moments.{IsSaidBy, MomentsContents, basis_with}
-use Rattle.dnsv_moments.specs.Question.{AreKindsFor, IsTimelineFor}
-use Rattle.dnsv_moments.specs.Saying.{IsKindWithin, IsSaidWithin, told_of}
+use Rattle.dnsv_moments.specs.Question.{IsTimelineFor}
+use Rattle.dnsv_moments.specs.Saying.{IsSaidWithin, told_of}
 use Rattle.dnsv_moments.proofs.TimelineLemmas.{timeline_follows}
 
 module _ (moments : MomentsContents) (format : Format) (name : Labels) (t : ℕ) where
@@ -39,20 +38,6 @@ module _ (moments : MomentsContents) (format : Format) (name : Labels) (t : ℕ)
   said_timeline meaning by =
       timeline_follows (IsSaidWithin moments format name t) (IsSaidAt format (basis_with meaning moments) name t) moments.from moments.to
       (λ moment said begun within is. is meaning by begun within)
-
-module _ (moments : MomentsContents) (name : Labels) (t : ℕ) where
-  pub kinds_within_depend : (signatures : List Times) → AreTimesOf moments.rrsets signatures
-      → DependsOnWithin moments.from moments.to (IsKindWithin moments name t) signatures
-  kinds_within_depend signatures are moment other kind begun within begins ends same is meaning by from to =
-      kind_depends (basis_with meaning moments) name t signatures (all_have moments.rrsets signatures are) moment other kind same
-      (is meaning by begun within)
-
-  pub kinds_timeline : (meaning : Entry → Answer) → IsSaidBy meaning moments → (stretches : List (Stretch Kind))
-      → IsTimelineBy (IsKindWithin moments name t) moments.from moments.to stretches
-      → AreKindsFor meaning moments name t stretches
-  kinds_timeline meaning by =
-      timeline_follows (IsKindWithin moments name t) (IsKindAt (basis_with meaning moments) name t) moments.from moments.to
-      (λ moment kind begun within is. is meaning by begun within)
 
 -- where a call gives the range, the evidence and the times
 module _ (moments : MomentsContents) (format : Format) (name : Labels) (t from to : ℕ) where
@@ -72,24 +57,6 @@ module _ (moments : MomentsContents) (format : Format) (name : Labels) (t from t
       subst (λ (m : ℕ). IsTimelineBy (IsSaidWithin moments format name t) m to stretches) first timeline in
       said_timeline moments format name t meaning by stretches
       (subst (λ (m : ℕ). IsTimelineBy (IsSaidWithin moments format name t) moments.from m stretches) last begun)
-
-module _ (moments : MomentsContents) (name : Labels) (t from to : ℕ) where
-  pub kinds_depends_within : (rrsets : List ReceivedRrset) (times signatures : List Times) → from ≡ moments.from → to ≡ moments.to
-      → rrsets ≡ moments.rrsets → signatures ≡ times → AreTimesOf rrsets times
-      → DependsOnWithin from to (IsKindWithin moments name t) signatures
-  kinds_depends_within rrsets times signatures first last evidence same are moment other kind begun within begins ends valid =
-      let there : AreTimesOf moments.rrsets times = subst (λ (rs : List ReceivedRrset). AreTimesOf rs times) evidence are in
-      kinds_within_depend moments name t signatures (subst (AreTimesOf moments.rrsets) (sym same) there) moment other kind
-      (omega (arith, first, begun)) (omega (arith, last, within)) (omega (arith, first, begins)) (omega (arith, last, ends)) valid
-
-  pub kinds_stretches : (stretches : List (Stretch Kind)) → from ≡ moments.from → to ≡ moments.to
-      → IsTimelineBy (IsKindWithin moments name t) from to stretches
-      → (meaning : Entry → Answer) → IsSaidBy meaning moments → AreKindsFor meaning moments name t stretches
-  kinds_stretches stretches first last timeline meaning by =
-      let begun : IsTimelineBy (IsKindWithin moments name t) moments.from to stretches =
-      subst (λ (m : ℕ). IsTimelineBy (IsKindWithin moments name t) m to stretches) first timeline in
-      kinds_timeline moments name t meaning by stretches
-      (subst (λ (m : ℕ). IsTimelineBy (IsKindWithin moments name t) moments.from m stretches) last begun)
 
 -- ---- at one moment
 

@@ -4,7 +4,7 @@ use Rattle.dnsv_names.specs.Name.{Labels}
 use Rattle.dnsv_timeline.specs.Timeline.{IsTimelineBy}
 use Rattle.dnsv_timeline.specs.declared.stretch.Stretch.{Stretch}
 use Rattle.dnsv_texts.specs.declared.format.Format.{Format}
-use Rattle.dnsv_timeline_laws.specs.Said.{IsKindAt, IsSaidAt, Said}
+use Rattle.dnsv_timeline_laws.specs.Said.{IsSaidAt, Said}
 use Rattle.dnsv_timeline_laws.specs.SameValid.{at_moment}
 use Rattle.dnsv_timeline_laws.specs.declared.kind.Kind.{Kind}
 use Rattle.dnsv_verdict.specs.Verdict.{Basis}
@@ -24,22 +24,11 @@ abbrev pub IsTimelineFor : (Entry → Answer) → MomentsContents → Format →
 IsTimelineFor meaning moments format name t stretches =
     IsTimelineBy (IsSaidAt format (basis_with meaning moments) name t) moments.from moments.to stretches
 
--- and that of its kinds alone
-abbrev pub AreKindsFor : (Entry → Answer) → MomentsContents → Labels → ℕ → List (Stretch Kind) → Type 0
-AreKindsFor meaning moments name t stretches =
-    IsTimelineBy (IsKindAt (basis_with meaning moments) name t) moments.from moments.to stretches
-
 -- it is refused so at each moment, by a verifier of this meaning
 abbrev pub IsRefusedFor : (Entry → Answer) → MomentsContents → Labels → ℕ → VerdictError → Type 0
 IsRefusedFor meaning moments name t error =
     IsRefusedThroughout (basis_with meaning moments) moments.from moments.to name t error
 
--- each stretch tells this kind: no public clause cites this
-abbrev pub AllTell : {S : Type 0} → (S → Kind) → Kind → List (Stretch S) → Type 0
-AllTell {S} kind_in kind stretches = (stretch : Stretch S) → Contains stretches stretch → kind_in stretch.said ≡ kind
-
+-- each stretch tells this kind
 abbrev pub TellKind : Kind → List (Stretch Said) → Type 0
-TellKind kind stretches = AllTell (λ said. said.told.kind) kind stretches
-
-abbrev pub HaveKind : Kind → List (Stretch Kind) → Type 0
-HaveKind kind stretches = AllTell (λ each. each) kind stretches
+TellKind kind stretches = (stretch : Stretch Said) → Contains stretches stretch → stretch.said.told.kind ≡ kind

@@ -7,8 +7,7 @@ use Rattle.dnsv_verifier.specs.declared.entry.Entry.{Entry}
 use Rattle.dnsv_explain.specs.declared.explanation.derivation.Outcome.{Outcome}
 use Rattle.dnsv_explain.specs.declared.explanation.derivation.Outcome.TheVariants as outcome
 use Rattle.dnsv_texts.specs.declared.format.Format.{Format}
-use Rattle.dnsv_timeline_laws.specs.Said.{IsKindAt, IsSaidAt, Said, Told, told_refusal, told_verdict}
-use Rattle.dnsv_timeline_laws.specs.declared.kind.Kind.{Kind}
+use Rattle.dnsv_timeline_laws.specs.Said.{IsSaidAt, Said, Told, told_refusal, told_verdict}
 use Rattle.dnsv_moments.specs.Moments.{IsSaidBy, MomentsContents, basis_with}
 
 -- what is told of what a question comes to
@@ -20,8 +19,3 @@ told_of format rrsets (outcome.Refused error) = told_refusal error
 abbrev pub IsSaidWithin : MomentsContents → Format → Labels → ℕ → ℕ → Said → Type 0
 IsSaidWithin moments format name t moment said = (meaning : Entry → Answer) → IsSaidBy meaning moments
     → moments.from ≤ moment → moment ≤ moments.to → IsSaidAt format (basis_with meaning moments) name t moment said
-
--- and so is the kind
-abbrev pub IsKindWithin : MomentsContents → Labels → ℕ → ℕ → Kind → Type 0
-IsKindWithin moments name t moment kind = (meaning : Entry → Answer) → IsSaidBy meaning moments
-    → moments.from ≤ moment → moment ≤ moments.to → IsKindAt (basis_with meaning moments) name t moment kind

@@ -8,13 +8,15 @@
 pub use dated::dated_signatures;
 pub use dnsv_timeline_laws::Kind;
 pub use kind::kind_word;
+pub use laws::{a_question_has_one_timeline, what_is_refused_throughout};
 pub use moments::Moments;
-pub use question::{kinds_of_question, timeline_of_question};
+pub use question::timeline_of_question;
 pub use said::Said;
 
 mod dated;
 mod judging;
 mod kind;
+mod laws;
 mod moments;
 mod question;
 mod said;

@@ -2,20 +2,19 @@
 ghost use Rattle.std.specs.Prelude.{◌≡◌, ◌⊎◌, IfErr, IfOk, IsErrOf};
 ghost use Rattle.dnsv_canonical.specs.Rrsets.{IsQuestion};
 ghost use Rattle.dnsv_moments.specs.Moments.{IsSaidBy};
-ghost use Rattle.dnsv_moments.specs.Question.{AreKindsFor, IsRefusedFor, IsTimelineFor};
+ghost use Rattle.dnsv_moments.specs.Question.{IsRefusedFor, IsTimelineFor};
 ghost use Rattle.dnsv_verdict.specs.declared.error.VerdictError.{VerdictError};
 ghost use Rattle.dnsv_verifier.specs.declared.answer.Answer.{Answer};
 ghost use Rattle.dnsv_verifier.specs.declared.entry.Entry.{Entry};
 
 use crate::moments::Moments;
 use crate::said::Said;
-use crate::sayer::{KindSayer, Sayer};
-use crate::throughout::{kinds_refused_throughout, refused_throughout};
+use crate::sayer::Sayer;
+use crate::throughout::refused_throughout;
 use dnsv_canonical::is_question;
 use dnsv_names::{Name, RecordType};
 use dnsv_texts::Format;
 use dnsv_timeline::{Stretch, timeline_of, times_of_all};
-use dnsv_timeline_laws::Kind;
 use dnsv_verdict::{VerdictError, a_question_leads_one_way};
 use std::alloc::{AllocError, Global};
 
@@ -75,56 +74,6 @@ fn all_said(
         name,
         rtype,
         format,
-    };
-    let stretches = timeline_of(alloc, moments.range(), &times, &sayer)?;
-    Ok(stretches)
-}
-
-/// The same of kinds alone, with neighbours of one kind joined, whatever carries it.
-pub fn kinds_of_question(
-    alloc: Global,
-    moments: &Moments<'_>,
-    name: &Name,
-    rtype: RecordType,
-) -> Result<Vec<Stretch<Kind>>, VerdictError>
-    ensures timeline { (meaning : Entry → Answer) → IsSaidBy meaning moments.now
-        → IfOk result (λ stretches. AreKindsFor meaning moments.now name.now rtype.0 stretches.items) }
-    ensures question { ¬ IsQuestion name.now rtype.0 → IsErrOf result VerdictError.BadQuestion }
-    ensures told { (meaning : Entry → Answer) → IsSaidBy meaning moments.now
-        → IfErr result (λ error. (error ≡ VerdictError.OutOfMemory)
-        ⊎ IsRefusedFor meaning moments.now name.now rtype.0 error) }
-    ensures refused { (meaning : Entry → Answer) → IsSaidBy meaning moments.now
-        → (error : VerdictError) → IsRefusedFor meaning moments.now name.now rtype.0 error
-        → IsErrOf result error ⊎ IsErrOf result VerdictError.OutOfMemory }
-{
-    // What is true of every range.
-    let _range = moments.range();
-    if !is_question(name, rtype) {
-        return Err(VerdictError::BadQuestion);
-    }
-    let stretches = all_kinds(alloc, moments, name, rtype)?;
-    a_question_leads_one_way();
-    match kinds_refused_throughout(&stretches) {
-        Some(error) => Err(error),
-        None => Ok(stretches),
-    }
-}
-
-/// The stretches of kinds, whether or not it is refused throughout.
-fn all_kinds(
-    alloc: Global,
-    moments: &Moments<'_>,
-    name: &Name,
-    rtype: RecordType,
-) -> Result<Vec<Stretch<Kind>>, AllocError>
-    ensures { (meaning : Entry → Answer) → IsSaidBy meaning moments.now
-        → IfOk result (λ stretches. AreKindsFor meaning moments.now name.now rtype.0 stretches.items) }
-{
-    let times = times_of_all(alloc, moments.capture())?;
-    let sayer = KindSayer {
-        moments,
-        name,
-        rtype,
     };
     let stretches = timeline_of(alloc, moments.range(), &times, &sayer)?;
     Ok(stretches)

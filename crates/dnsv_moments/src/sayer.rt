@@ -2,11 +2,10 @@
 
 use crate::judging::said_at;
 use crate::moments::Moments;
-use crate::said::{Said, is_same_kind};
+use crate::said::Said;
 use dnsv_names::{Name, RecordType};
 use dnsv_texts::Format;
 use dnsv_timeline::Judge;
-use dnsv_timeline_laws::Kind;
 use std::alloc::{AllocError, Global};
 
 /// Says what is said of a question, with texts of the format.
@@ -37,35 +36,5 @@ impl Judge<Said> for Sayer<'_, '_> {
 
     fn is_same(&self, one: &Said, other: &Said) -> bool {
         one.is_same(other)
-    }
-}
-
-/// Says of what kind a question is.
-#[derive(Drop)]
-pub(crate) struct KindSayer<'q, 'a> {
-    pub(crate) moments: &'q Moments<'a>,
-    pub(crate) name: &'q Name,
-    pub(crate) rtype: RecordType,
-}
-
-impl Judge<Kind> for KindSayer<'_, '_> {
-    ghost use Rattle.dnsv_moments.specs.Saying.{IsKindWithin};
-
-    ghost says = { λ sayer moment kind. IsKindWithin sayer.moments.now sayer.name.now sayer.rtype.0 moment kind };
-
-    fn said_at(&self, alloc: Global, moment: u64) -> Result<Kind, AllocError> {
-        let said = said_at(
-            alloc,
-            self.moments,
-            self.name,
-            self.rtype,
-            Format::Lines,
-            moment,
-        )?;
-        Ok(said.kind())
-    }
-
-    fn is_same(&self, one: &Kind, other: &Kind) -> bool {
-        is_same_kind(*one, *other)
     }
 }

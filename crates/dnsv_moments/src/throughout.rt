@@ -1,6 +1,6 @@
 //! What a question is refused for throughout.
 ghost use Rattle.std.specs.Prelude.{◌≡◌, ◌≢◌, ◌↔◌, [], IsTrue, MatchOption};
-ghost use Rattle.dnsv_moments.specs.Question.{HaveKind, TellKind};
+ghost use Rattle.dnsv_moments.specs.Question.{TellKind};
 ghost use Rattle.dnsv_timeline_laws.specs.declared.kind.Kind.TheVariants.{Refused};
 ghost use Rattle.dnsv_verdict.specs.declared.error.VerdictError.{VerdictError};
 
@@ -45,44 +45,6 @@ fn tells(stretch: &Stretch<Said>, kind: Kind) -> bool
     ensures { IsTrue result ↔ stretch.now.said.told.kind ≡ kind }
 {
     is_same_kind(stretch.said.kind(), kind)
-}
-
-/// Why each of the kinds is a refusal. `None` where not all are, by one number.
-pub(crate) fn kinds_refused_throughout(stretches: &[Stretch<Kind>]) -> Option<VerdictError>
-    ensures { MatchOption result
-        ((error : VerdictError) → stretches.now ≢ [] → ¬ HaveKind (Refused error) stretches.now)
-        (λ error. HaveKind (Refused error) stretches.now) }
-{
-    let Some(first) = stretches.first() else {
-        return None;
-    };
-    let kind = first.said;
-    let Some(error) = refusal(kind) else {
-        return None;
-    };
-    if !all_have(stretches, kind) {
-        return None;
-    }
-    Some(error)
-}
-
-/// Whether each stretch has the kind.
-fn all_have(stretches: &[Stretch<Kind>], kind: Kind) -> bool
-    ensures { IsTrue result ↔ HaveKind kind stretches.now }
-{
-    for stretch in stretches {
-        if !has(stretch, kind) {
-            return false;
-        }
-    }
-    true
-}
-
-/// Whether the stretch has the kind.
-fn has(stretch: &Stretch<Kind>, kind: Kind) -> bool
-    ensures { IsTrue result ↔ stretch.now.said ≡ kind }
-{
-    is_same_kind(stretch.said, kind)
 }
 
 /// Why a question is refused. `None` where it has a verdict.

@@ -1,6 +1,7 @@
 -- What is told where all files were taken: the want of memory, or that the question is refused on its way.
 use Rattle.std.proofs.Common.{◌≡◌, ◌⊎◌, ◌∙◌, ℕ, Bool, true, false, List, Option, ap, inl, inr, refl, sym, subst}
 use Rattle.std.specs.Prelude.{Err, IfErr, IfOk, IsErrOf, IsTrue, Ok, Result, string_bytes}
+use Rattle.dnsv_answers.specs.declared.heading.Moments.TheVariants.{At}
 use Rattle.dnsv_names.specs.Name.{Labels}
 use Rattle.dnsv_canonical.specs.Question.{Asked}
 use Rattle.dnsv_canonical.specs.Rrsets.{IsQuestion, ReceivedRrset, forms_rrsets}
@@ -29,7 +30,6 @@ use Rattle.dnsv_files.specs.declared.status.InputFile.TheVariants.{Questions}
 use Rattle.dnsv_program.specs.Work.Checking.{AreGivenBy, IsJudged, IsStopped, IsWhy, verdict_fault, verdict_status}
 use Rattle.dnsv_files.specs.Files.Faults.{OfFailedRead, OfOctets, TellsFaults, TellsFaultsBeside}
 use Rattle.dnsv_files.specs.Files.{AreTold, AreToldBeside, Files, given_failures}
-use Rattle.dnsv_program.specs.Run.{IsFirstFaultOfFiles, IsFirstFaultOfName}
 use Rattle.dnsv_files.proofs.FileLemmas.Faults.{IsOther, reads_after, reads_untouched, refused_behind, with_questions}
 use Rattle.dnsv_program.proofs.ReachedLemmas.{refused_reached, refused_unwritten}
 use Rattle.dnsv_files.specs.Told.{IsFaultOf}
@@ -102,26 +102,27 @@ unjudged_opened Refused (Ok x) only = tt
 unjudged_opened Refused (Err told) (inl memory) = λ file is. let bad : fault.OutOfMemory ≡ fault.OpenFailed file = sym memory ∙ is in cc
 unjudged_opened Refused (Err told) (inr refused) = λ file is. verdict_fault_opens refused.0 file (sym refused.2 ∙ is)
 
-unjudged_first : {U : Type 0} (name : Labels) (rtype moment : ℕ) (files : Files) (Refused : VerdictError → Type 0) (result : Result U Fault)
-    → ((error : VerdictError) → Refused error → IsStopped name rtype moment files (verdict_fault error))
-    → IfErr result (IsUnjudged Refused) → IfErr result (OfOctets (IsFirstFaultOfName name rtype moment files))
-unjudged_first name rtype moment files Refused (Ok x) stopped only = tt
-unjudged_first name rtype moment files Refused (Err told) stopped (inl memory) = subst (OfOctets (IsFirstFaultOfName name rtype moment files)) (sym memory) tt
-unjudged_first name rtype moment files Refused (Err told) stopped (inr refused) =
-    subst (OfOctets (IsFirstFaultOfName name rtype moment files)) (sym refused.2)
-    (verdict_fault_octets (IsFirstFaultOfName name rtype moment files) refused.0 (inr (stopped refused.0 refused.1)))
+-- what is refused so is the first fault of all, behind that of the files
+module _ (Front Whole : Files → Fault → Type 0) (behind : (files : Files) (fault : Fault) → Front files fault → Whole files fault) where
+  unjudged_first : {U : Type 0} (files : Files) (Refused : VerdictError → Type 0) (result : Result U Fault)
+      → ((error : VerdictError) → Refused error → Whole files (verdict_fault error))
+      → IfErr result (IsUnjudged Refused) → IfErr result (OfOctets (Whole files))
+  unjudged_first files Refused (Ok x) stopped only = tt
+  unjudged_first files Refused (Err told) stopped (inl memory) = subst (OfOctets (Whole files)) (sym memory) tt
+  unjudged_first files Refused (Err told) stopped (inr refused) =
+      subst (OfOctets (Whole files)) (sym refused.2) (verdict_fault_octets (Whole files) refused.0 (stopped refused.0 refused.1))
 
--- all files are taken, and the question is judged or refused
-pub all_judged : {R S U : Type 0} {remaining : R → Option (List ℕ)} {before after : Inputs R} (name : Labels) (rtype moment : ℕ) (Refused : VerdictError → Type 0) (x : S)
-    (result : Result U Fault) → TellsFaultsBeside {T = S} (IsFirstFaultOfFiles moment) remaining before after (Ok x) → after.questions ≡ before.questions
-    → ((files : Files) (error : VerdictError) → AreTold remaining before files → Refused error → IsStopped name rtype moment files (verdict_fault error))
-    → IfErr result (IsUnjudged Refused) → TellsFaults {T = U} (IsFirstFaultOfName name rtype moment) remaining before after result
-all_judged {before = before} {after = after} name rtype moment Refused x result tells same stopped only = record {
-  first = λ files are. unjudged_first name rtype moment files Refused result (λ error. stopped files error are) only;
-  reads = reads_after x result tells.reads (λ file. unjudged_other Refused file result only) (unjudged_opened Refused result only);
-  questions = reads_untouched (given_failures before.questions) (given_failures after.questions) result (ap given_failures same)
-      (unjudged_other Refused Questions result only);
-}
+  -- all files are taken, and the question is judged or refused
+  pub all_judged : {R S U : Type 0} {remaining : R → Option (List ℕ)} {before after : Inputs R} (Refused : VerdictError → Type 0) (x : S)
+      (result : Result U Fault) → TellsFaultsBeside {T = S} Front remaining before after (Ok x) → after.questions ≡ before.questions
+      → ((files : Files) (error : VerdictError) → AreTold remaining before files → Refused error → Whole files (verdict_fault error))
+      → IfErr result (IsUnjudged Refused) → TellsFaults {T = U} Whole remaining before after result
+  all_judged {before = before} {after = after} Refused x result tells same stopped only = record {
+    first = λ files are. unjudged_first files Refused result (λ error. stopped files error are) only;
+    reads = reads_after x result tells.reads (λ file. unjudged_other Refused file result only) (unjudged_opened Refused result only);
+    questions = reads_untouched (given_failures before.questions) (given_failures after.questions) result (ap given_failures same)
+        (unjudged_other Refused Questions result only);
+  }
 
 -- they are taken, and what they say is refused, or the question is judged or refused
 module _ {G : Type 0} (P : Refusal → Place → Type 0) (Refused : G → VerdictError → Type 0) where
@@ -138,22 +139,22 @@ module _ {G : Type 0} (P : Refusal → Place → Type 0) (Refused : G → Verdic
   ungiven_writes (Err told) (inl bad) = refused_unwritten P told bad
   ungiven_writes (Err told) (inr refused) = λ is. verdict_fault_writes refused.1 (sym refused.3 ∙ is)
 
-  pub given_or_refused : {R S U : Type 0} {remaining : R → Option (List ℕ)} {before after : Inputs R} (name : Labels) (rtype moment : ℕ) (x : S)
-      (result : Result U Fault) → TellsFaultsBeside {T = S} (IsFirstFaultOfFiles moment) remaining before after (Ok x) → after.questions ≡ before.questions
-      → ((files : Files) → AreToldBeside remaining before files → (why : Refusal) (place : Place) → P why place → IsFirstFaultOfFiles moment files (fault.Refused why place))
-      → ((knowing : G) (files : Files) (error : VerdictError) → AreTold remaining before files → Refused knowing error → IsStopped name rtype moment files (verdict_fault error))
-      → IfErr result IsUngiven → TellsFaults {T = U} (IsFirstFaultOfName name rtype moment) remaining before after result
-  given_or_refused name rtype moment x (Ok y) tells same first stopped only =
-      all_judged name rtype moment (λ error. ⊥) x (Ok y) tells same (λ files error are bad. absurd bad) tt
-  given_or_refused name rtype moment x (Err told) tells same first stopped (inl bad) =
-      with_questions (IsFirstFaultOfFiles moment) (IsFirstFaultOfName name rtype moment) (Err told) (λ files fault holds. inl holds) same
-      (refused_behind (IsFirstFaultOfFiles moment) x told P tells first bad)
-  given_or_refused name rtype moment x (Err told) tells same first stopped (inr refused) =
-      all_judged name rtype moment (Refused refused.0) x (Err told) tells same (stopped refused.0) (inr (refused.1, refused.2, refused.3))
+  pub given_or_refused : {R S U : Type 0} {remaining : R → Option (List ℕ)} {before after : Inputs R} (Front Whole : Files → Fault → Type 0)
+      → ((files : Files) (fault : Fault) → Front files fault → Whole files fault) → (x : S)
+      (result : Result U Fault) → TellsFaultsBeside {T = S} Front remaining before after (Ok x) → after.questions ≡ before.questions
+      → ((files : Files) → AreToldBeside remaining before files → (why : Refusal) (place : Place) → P why place → Front files (fault.Refused why place))
+      → ((knowing : G) (files : Files) (error : VerdictError) → AreTold remaining before files → Refused knowing error → Whole files (verdict_fault error))
+      → IfErr result IsUngiven → TellsFaults {T = U} Whole remaining before after result
+  given_or_refused Front Whole behind x (Ok y) tells same first stopped only =
+      all_judged Front Whole behind (λ error. ⊥) x (Ok y) tells same (λ files error are bad. absurd bad) tt
+  given_or_refused Front Whole behind x (Err told) tells same first stopped (inl bad) =
+      with_questions Front Whole (Err told) behind same (refused_behind Front x told P tells first bad)
+  given_or_refused Front Whole behind x (Err told) tells same first stopped (inr refused) =
+      all_judged Front Whole behind (Refused refused.0) x (Err told) tells same (stopped refused.0) (inr (refused.1, refused.2, refused.3))
 
 -- a question over files that were all taken is refused on its way
 pub stopped_there : (name : Labels) (rtype moment : ℕ) (files : Files) {rrsets : List ReceivedRrset} {anchors : List Anchor} {meaning : Entry → Answer}
-    {numbers : Option (List ℕ)} → AreGivenBy moment files rrsets anchors meaning numbers → (error : VerdictError) → IsRefusedFor (basis_of rrsets anchors moment meaning) name rtype error
+    {numbers : Option (List ℕ)} → AreGivenBy (At moment) files rrsets anchors meaning numbers → (error : VerdictError) → IsRefusedFor (basis_of rrsets anchors moment meaning) name rtype error
     → IsStopped name rtype moment files (verdict_fault error)
 stopped_there name rtype moment files are error refused = record {
   given = are.given;
@@ -189,7 +190,7 @@ verdict_unrefused verdicts.Indeterminate same = cc
 
 pub judged_unrefused : {E : Type 0} (format : Format) (why : Bool) (name : Labels) (rtype moment : ℕ) (rrsets : List ReceivedRrset) (anchors : List Anchor) (said : Said)
     (result : Result Outcome E)
-    → IfOk result (λ outcome. (knowing : Ground moment rrsets said)
+    → IfOk result (λ outcome. (knowing : Ground (At moment) rrsets said)
     × IsJudged format why knowing.numbers (basis_of rrsets anchors moment knowing.meaning) name rtype outcome.status (string_bytes outcome.text))
     → IfOk result (λ outcome. outcome.status ≡ status.Refused → ⊥)
 judged_unrefused format why name rtype moment rrsets anchors said (Ok outcome) judged = λ same. verdict_unrefused judged.1.report.verdict (sym judged.1.ends ∙ same)
@@ -229,17 +230,17 @@ refused_so format why numbers basis asked name rtype (Ok outcome) names types to
     (subst (λ (n : Labels). IsAnswer format why numbers basis (record { name = n; rtype = rtype }) outcome.status (string_bytes outcome.text)) names (inr told))
 
 -- what is judged by a case is judged by what is known
-module _ (name : Labels) (rtype moment : ℕ) (rrsets : List ReceivedRrset) (anchors : List Anchor) (said : Said) (knowing : Ground moment rrsets said) where
+module _ (name : Labels) (rtype moment : ℕ) (rrsets : List ReceivedRrset) (anchors : List Anchor) (said : Said) (knowing : Ground (At moment) rrsets said) where
   pub told_by : (format : Format) (why : Bool) {E : Type 0} (result : Result Outcome E)
       → IfOk result (λ outcome. IsJudged format why knowing.numbers (basis_of rrsets anchors moment knowing.meaning) name rtype outcome.status (string_bytes outcome.text))
-      → IfOk result (λ outcome. (each : Ground moment rrsets said)
+      → IfOk result (λ outcome. (each : Ground (At moment) rrsets said)
       × IsJudged format why each.numbers (basis_of rrsets anchors moment each.meaning) name rtype outcome.status (string_bytes outcome.text))
   told_by format why (Ok outcome) judged = (knowing, judged)
   told_by format why (Err told) judged = tt
 
   pub refused_by : (P : Refusal → Place → Type 0) {U : Type 0} (result : Result U Fault)
       → IfErr result (IsUnjudged (IsRefusedFor (basis_of rrsets anchors moment knowing.meaning) name rtype))
-      → IfErr result (λ told. IsFaultOf P told ⊎ ((each : Ground moment rrsets said) × (error : VerdictError)
+      → IfErr result (λ told. IsFaultOf P told ⊎ ((each : Ground (At moment) rrsets said) × (error : VerdictError)
       × IsRefusedFor (basis_of rrsets anchors moment each.meaning) name rtype error × (told ≡ verdict_fault error)))
   refused_by P (Ok x) only = tt
   refused_by P (Err told) (inl memory) = inl (subst (IsFaultOf P) (sym memory) tt)

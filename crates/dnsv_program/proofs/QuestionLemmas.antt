@@ -53,6 +53,17 @@ module _ (asked : List ℕ) (rtype : ℕ) (parsed : Result Labels NameError)
       let same : name ≡ bad.0 = cc in
       bad.2.0 (subst (λ (each : Labels). IsQuestion each rtype) same may)
 
+  -- where no name is found, none is spelled
+  pub unspelled : (error : NameError) → parsed ≡ Err error → (name : Labels) → Spells asked name → ¬ IsQuestion name rtype
+  unspelled error is name spells may = let found : parsed ≡ Ok name = every name spells.is_name spells.spelling in cc
+
+  -- and where one is found whose type can't be asked for, no other is
+  pub unaskable : (found : Labels) → parsed ≡ Ok found → (¬ IsQuestion found rtype) → (name : Labels) → Spells asked name → ¬ IsQuestion name rtype
+  unaskable found is none name spells may =
+      let also : parsed ≡ Ok name = every name spells.is_name spells.spelling in
+      let same : found ≡ name = cc in
+      none (subst (λ (each : Labels). IsQuestion each rtype) (sym same) may)
+
   -- a name that isn't one is told, whatever the fault is
   pub bad_name : (error : NameError) → parsed ≡ Err error → (told : Fault) → IsFaultOfQuestion asked rtype told → fault.Refused (refusal.Name error) nowhere ≡ told
   bad_name error is = by_refusals asked rtype (λ told. fault.Refused (refusal.Name error) nowhere ≡ told) (refused_name error is)

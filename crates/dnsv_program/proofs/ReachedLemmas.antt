@@ -1,5 +1,5 @@
 -- What comes before a failed read.
-use Rattle.std.proofs.Common.{◌≡◌, ℕ, Bool, true, false, inl, refl, subst, sym}
+use Rattle.std.proofs.Common.{◌≡◌, ℕ, refl, subst, sym}
 use Rattle.std.specs.Prelude.{List, Option, Some, None, Result, Ok, Err, IfErr}
 use Rattle.dnsv_files.specs.declared.status.Fault.{Fault}
 use Rattle.dnsv_files.specs.declared.status.Fault.TheVariants as fault
@@ -8,7 +8,9 @@ use Rattle.dnsv_files.specs.declared.status.InputFile.TheVariants.{Anchors, Answ
 use Rattle.dnsv_files.specs.declared.status.Place.{Place}
 use Rattle.dnsv_files.specs.declared.status.Refusal.{Refusal}
 use Rattle.dnsv_files.specs.declared.opening.Opening.{Opening}
-use Rattle.dnsv_files.specs.Opening.Given.{IsOpeningOf, IsOpeningReached}
+use Rattle.dnsv_program.specs.Work.Opening.{IsOpeningAt, IsOpeningReachedAt}
+use Rattle.dnsv_answers.specs.declared.heading.Moments.{Moments}
+use Rattle.dnsv_answers.specs.declared.heading.Moments.TheVariants.{At, Between}
 use Rattle.dnsv_chain.specs.declared.anchor.Anchor.{Anchor}
 use Rattle.dnsv_files.specs.Files.Anchors.{HasAnchors}
 use Rattle.dnsv_files.specs.Told.{IsFaultOf}
@@ -19,10 +21,7 @@ use Rattle.dnsv_message.specs.declared.streams.counted.Counted.{Counted}
 use Rattle.dnsv_canonical.specs.Question.{Asked}
 use Rattle.dnsv_files.specs.Files.{Files, IsGiven, IsToldBy, octets_or_none}
 use Rattle.dnsv_files.specs.Files.Questions.{HasQuestions}
-use Rattle.dnsv_files.specs.Files.Capture.{NewEvidence, IsFaultOfCapture}
-use Rattle.dnsv_files.specs.declared.opening.Opening.TheVariants.{Plain}
-use Rattle.dnsv_program.specs.Run.{HasEvidence, IsFirstFaultOfList, IsReachedByEach, IsReachedByList, IsReachedOfFiles}
-use Rattle.std.proofs.lemmas.Bool.{false≢true}
+use Rattle.dnsv_program.specs.Run.{HasEvidence, IsReachedByEach, IsReachedOfFiles}
 
 -- where a fault is about one file, what holds of that file is enough
 pub reached_by : (Holds : InputFile → Type 0) (file : InputFile) (told : Fault) → IsAbout file told → Holds file → OfFailedRead Holds told
@@ -64,18 +63,23 @@ pub reached_in : {T : Type 0} (P Q : InputFile → Type 0) (result : Result T Fa
 reached_in P Q (Ok x) weaker holds = tt
 reached_in P Q (Err told) weaker holds = weaker_told P Q told weaker holds
 
-in_files : (moment : ℕ) (files : Files) (file : InputFile) → IsOpeningReached files.keys files.macs file → IsReachedOfFiles moment files file
-in_files moment files Keys holds = holds
-in_files moment files Macs holds = holds
-in_files moment files Capture holds = absurd holds
-in_files moment files Anchors holds = absurd holds
-in_files moment files Statements holds = absurd holds
-in_files moment files Answers holds = absurd holds
-in_files moment files Questions holds = absurd holds
+in_files : (moments : Moments) (files : Files) (file : InputFile) → IsOpeningReachedAt files.keys files.macs moments file → IsReachedOfFiles moments files file
+in_files moments files Keys holds = holds
+in_files moments files Macs holds = holds
+in_files (At moment) files Capture holds = absurd holds
+in_files (At moment) files Anchors holds = absurd holds
+in_files (At moment) files Statements holds = absurd holds
+in_files (At moment) files Answers holds = absurd holds
+in_files (At moment) files Questions holds = absurd holds
+in_files (Between from to) files Capture holds = absurd holds
+in_files (Between from to) files Anchors holds = absurd holds
+in_files (Between from to) files Statements holds = absurd holds
+in_files (Between from to) files Answers holds = absurd holds
+in_files (Between from to) files Questions holds = absurd holds
 
 -- the files that questions are judged by are read behind the questions
 behind_questions : (moment : ℕ) (files : Files) → (asked : List Asked) × HasQuestions (octets_or_none files.questions) asked
-    → (file : InputFile) → IsReachedOfFiles moment files file → IsReachedByEach moment files file
+    → (file : InputFile) → IsReachedOfFiles (At moment) files file → IsReachedByEach moment files file
 behind_questions moment files has Keys holds = (has, holds)
 behind_questions moment files has Macs holds = (has, holds)
 behind_questions moment files has Capture holds = (has, holds)
@@ -85,29 +89,29 @@ behind_questions moment files has Answers holds = (has, holds)
 behind_questions moment files has Questions holds = absurd holds
 
 pub reached_behind : (moment : ℕ) (files : Files) → (asked : List Asked) × HasQuestions (octets_or_none files.questions) asked
-    → (told : Fault) → OfFailedRead (IsReachedOfFiles moment files) told → OfFailedRead (IsReachedByEach moment files) told
-reached_behind moment files has told = weaker_told (IsReachedOfFiles moment files) (IsReachedByEach moment files) told (behind_questions moment files has)
+    → (told : Fault) → OfFailedRead (IsReachedOfFiles (At moment) files) told → OfFailedRead (IsReachedByEach moment files) told
+reached_behind moment files has told = weaker_told (IsReachedOfFiles (At moment) files) (IsReachedByEach moment files) told (behind_questions moment files has)
 
 -- the keys and the MACs are read first
-pub reached_sealed : (moment : ℕ) (files : Files) (told : Fault) → OfFailedRead (IsOpeningReached files.keys files.macs) told → OfFailedRead (IsReachedOfFiles moment files) told
-reached_sealed moment files told = weaker_told (IsOpeningReached files.keys files.macs) (IsReachedOfFiles moment files) told (in_files moment files)
+pub reached_sealed : (moments : Moments) (files : Files) (told : Fault) → OfFailedRead (IsOpeningReachedAt files.keys files.macs moments) told → OfFailedRead (IsReachedOfFiles moments files) told
+reached_sealed moments files told = weaker_told (IsOpeningReachedAt files.keys files.macs moments) (IsReachedOfFiles moments files) told (in_files moments files)
 
 -- what is known of signatures is read behind evidence and the anchors
-known_in : (moment : ℕ) (files : Files) → (opening : Opening) × IsOpeningOf files.keys files.macs moment opening × HasEvidence opening files.capture
+known_in : (moments : Moments) (files : Files) → (opening : Opening) × IsOpeningAt files.keys files.macs moments opening × HasEvidence opening files.capture
     × ((anchors : List Anchor) × HasAnchors (octets_or_none files.anchors) anchors)
-    → (file : InputFile) → IsKnownReached files.statements files.answers file → IsReachedOfFiles moment files file
-known_in moment files before Statements holds = (before.0, before.1, before.2, before.3, holds)
-known_in moment files before Answers holds = (before.0, before.1, before.2, before.3, holds)
-known_in moment files before Capture holds = absurd holds
-known_in moment files before Anchors holds = absurd holds
-known_in moment files before Keys holds = absurd holds
-known_in moment files before Macs holds = absurd holds
-known_in moment files before Questions holds = absurd holds
+    → (file : InputFile) → IsKnownReached files.statements files.answers file → IsReachedOfFiles moments files file
+known_in moments files before Statements holds = (before.0, before.1, before.2, before.3, holds)
+known_in moments files before Answers holds = (before.0, before.1, before.2, before.3, holds)
+known_in moments files before Capture holds = absurd holds
+known_in moments files before Anchors holds = absurd holds
+known_in moments files before Keys holds = absurd holds
+known_in moments files before Macs holds = absurd holds
+known_in moments files before Questions holds = absurd holds
 
-pub reached_known : (moment : ℕ) (files : Files) → (opening : Opening) × IsOpeningOf files.keys files.macs moment opening × HasEvidence opening files.capture
+pub reached_known : (moments : Moments) (files : Files) → (opening : Opening) × IsOpeningAt files.keys files.macs moments opening × HasEvidence opening files.capture
     × ((anchors : List Anchor) × HasAnchors (octets_or_none files.anchors) anchors)
-    → (told : Fault) → OfFailedRead (IsKnownReached files.statements files.answers) told → OfFailedRead (IsReachedOfFiles moment files) told
-reached_known moment files before told = weaker_told (IsKnownReached files.statements files.answers) (IsReachedOfFiles moment files) told (known_in moment files before)
+    → (told : Fault) → OfFailedRead (IsKnownReached files.statements files.answers) told → OfFailedRead (IsReachedOfFiles moments files) told
+reached_known moments files before told = weaker_told (IsKnownReached files.statements files.answers) (IsReachedOfFiles moments files) told (known_in moments files before)
 
 -- where what was read is refused no failed read is told
 pub refused_reached : (P : Refusal → Place → Type 0) (Holds : InputFile → Type 0) (told : Fault) → IsFaultOf P told → OfFailedRead Holds told
@@ -117,20 +121,6 @@ refused_reached P Holds (fault.ReadFailed file) is = absurd is
 refused_reached P Holds (fault.TooLong file) is = tt
 refused_reached P Holds (fault.OpenFailed file) is = tt
 refused_reached P Holds fault.WriteFailed is = tt
-
--- a list reads the file of captured messages first
-pub list_captured : (all : Bool) (files : Files) (told : Fault) → IsFaultOfCapture NewEvidence Plain files.capture told → IsFirstFaultOfList all files told
-list_captured true files told holds = holds
-list_captured false files told holds = inl holds
-
-pub list_reached : (all : Bool) (files : Files) → IsReachedByList all files Capture
-list_reached true files = tt
-list_reached false files = tt
-
--- and the statements behind evidence, where they are read and given
-pub list_stated : (all : Bool) (files : Files) → all ≡ false → HasEvidence Plain files.capture → IsGiven files.statements → IsReachedByList all files Statements
-list_stated true files none has given = absurd (false≢true (sym none))
-list_stated false files none has given = (has, given)
 
 -- and no failed write
 pub refused_unwritten : (P : Refusal → Place → Type 0) (told : Fault) → IsFaultOf P told → told ≡ fault.WriteFailed → ⊥

@@ -1,12 +1,13 @@
 -- The files that a question is judged by, taken one after another in the order of the work.
 use Rattle.std.proofs.Common.{◌≡◌, ◌⊎◌, ℕ, List, Option, Some, None, ap, subst, sym, ◌∙◌, inl, inr}
 use Rattle.std.specs.Prelude.{Result, Ok, Err, IfErr, IfSome}
+use Rattle.dnsv_answers.specs.declared.heading.Moments.{Moments}
 use Rattle.dnsv_message.specs.Message.{Contents}
 use Rattle.dnsv_canonical.specs.Evidence.{Evidence, evidence_of}
 use Rattle.dnsv_message.specs.Streams.Counted.{inner_of, failures_of}
 use Rattle.dnsv_files.specs.Files.Capture.{Holds, IsFaultOfCapture, NewEvidence}
 use Rattle.dnsv_files.specs.declared.opening.Opening.{Opening}
-use Rattle.dnsv_files.specs.Opening.Given.{IsOpeningOf, IsFaultOfOpening}
+use Rattle.dnsv_program.specs.Work.Opening.{IsFaultOfOpeningAt, IsOpeningAt}
 use Rattle.dnsv_files.specs.declared.inputs.Inputs.{Inputs}
 use Rattle.dnsv_files.specs.declared.status.InputFile.TheVariants.{Anchors, Answers, Capture, Keys, Macs, Questions, Statements}
 use Rattle.dnsv_files.specs.Files.{Files, AreToldBeside, IsToldBy, given_failures, octets_or_none}
@@ -22,15 +23,15 @@ use Rattle.dnsv_files.specs.Files.Faults.{IsAbout, OfOctets, TellsFailedReads, T
 use Rattle.dnsv_files.proofs.FileLemmas.Faults.{IsOther, reads_passed, reads_then, reads_untouched, about_another, OfOctets-weaker, about_opened, of_told}
 
 -- what is at fault in what is said of signatures, before entries are counted, is at fault in what is known of them
-before_known : (capture : List ℕ) (moment : ℕ) (rrsets : List ReceivedRrset) (stated answered : Option (List ℕ)) (told : Fault)
-    → IsFaultBeforeKnown capture moment stated answered told → IsFaultOfKnown capture moment rrsets stated answered told
-before_known capture moment rrsets stated None told holds = holds
-before_known capture moment rrsets stated (Some text) (fault.Refused why place) holds = (holds.0, inl holds.1)
-before_known capture moment rrsets stated (Some text) (fault.TooLong file) holds = holds
-before_known capture moment rrsets stated (Some text) fault.OutOfMemory holds = absurd holds
-before_known capture moment rrsets stated (Some text) (fault.ReadFailed file) holds = absurd holds
-before_known capture moment rrsets stated (Some text) (fault.OpenFailed file) holds = absurd holds
-before_known capture moment rrsets stated (Some text) fault.WriteFailed holds = absurd holds
+before_known : (capture : List ℕ) (moments : Moments) (rrsets : List ReceivedRrset) (stated answered : Option (List ℕ)) (told : Fault)
+    → IsFaultBeforeKnown capture moments stated answered told → IsFaultOfKnown capture moments rrsets stated answered told
+before_known capture moments rrsets stated None told holds = holds
+before_known capture moments rrsets stated (Some text) (fault.Refused why place) holds = (holds.0, inl holds.1)
+before_known capture moments rrsets stated (Some text) (fault.TooLong file) holds = holds
+before_known capture moments rrsets stated (Some text) fault.OutOfMemory holds = absurd holds
+before_known capture moments rrsets stated (Some text) (fault.ReadFailed file) holds = absurd holds
+before_known capture moments rrsets stated (Some text) (fault.OpenFailed file) holds = absurd holds
+before_known capture moments rrsets stated (Some text) fault.WriteFailed holds = absurd holds
 
 -- want of memory is no fault of a file
 not_read : {U : Type 0} (result : Result U Fault) (file : InputFile) → IfErr result (λ told. told ≡ fault.OutOfMemory) → IfErr result (IsOther file)
@@ -71,16 +72,16 @@ NoneOfSeals U before after told =
 
 module _ {R U : Type 0} {remaining : R → Option (List ℕ)} {before after : Inputs R} where
   -- the keys or the MACs are at fault
-  pub unsealed : {T : Type 0} (moment : ℕ) (told : Fault) → after.capture ≡ before.capture → after.anchors ≡ before.anchors → after.statements ≡ before.statements → after.answers ≡ before.answers
+  pub unsealed : {T : Type 0} (moments : Moments) (told : Fault) → after.capture ≡ before.capture → after.anchors ≡ before.anchors → after.statements ≡ before.statements → after.answers ≡ before.answers
       → ((keys_octets macs_octets : Option (List ℕ)) → IsToldBy remaining before.keys keys_octets → IsToldBy remaining before.macs macs_octets
-      → OfOctets (IsFaultOfOpening keys_octets macs_octets) told)
+      → OfOctets (IsFaultOfOpeningAt keys_octets macs_octets moments) told)
       → TellsFailedReads {T = T} Keys (given_failures before.keys) (given_failures after.keys) (Err told)
       → TellsFailedReads {T = T} Macs (given_failures before.macs) (given_failures after.macs) (Err told)
       → IsAbout Keys told ⊎ IsAbout Macs told
-      → TellsFaultsBeside {T = U} (IsFirstFaultOfFiles moment) remaining before after (Err told)
-  unsealed moment told capture_stays anchors_stay statements_stay answers_stay faults keys_reads macs_reads about = record {
+      → TellsFaultsBeside {T = U} (IsFirstFaultOfFiles moments) remaining before after (Err told)
+  unsealed moments told capture_stays anchors_stay statements_stay answers_stay faults keys_reads macs_reads about = record {
     first = λ files are.
-        OfOctets-weaker (IsFaultOfOpening files.keys files.macs) (IsFirstFaultOfFiles moment files) told (λ fault holds. inl holds)
+        OfOctets-weaker (IsFaultOfOpeningAt files.keys files.macs moments) (IsFirstFaultOfFiles moments files) told (λ fault holds. inl holds)
         (faults files.keys files.macs are.keys are.macs);
     reads = record {
       capture = reads_untouched (failures_of before.capture) (failures_of after.capture) (Err told) (ap failures_of capture_stays)
@@ -123,8 +124,8 @@ module _ {R U : Type 0} {remaining : R → Option (List ℕ)} {before after : In
       unread = about_another Questions told tells.about (λ is. cc);
     }
 
-    module _ (moment : ℕ)
-        (opens : (files : Files) → AreToldBeside remaining before files → IsOpeningOf files.keys files.macs moment opening) where
+    module _ (moments : Moments)
+        (opens : (files : Files) → AreToldBeside remaining before files → IsOpeningAt files.keys files.macs moments opening) where
       -- the file of captured messages is taken, and the trust anchors are at fault
       pub anchored : {T V : Type 0} (x : V) (told : Fault) → after.statements ≡ before.statements → after.answers ≡ before.answers → NoneOfSeals U before after told
           → CapturedBy {T = V} opening remaining before after (Ok x)
@@ -132,10 +133,10 @@ module _ {R U : Type 0} {remaining : R → Option (List ℕ)} {before after : In
           → ((octets : Option (List ℕ)) → IsToldBy remaining before.anchors octets → OfOctets (IsFaultOfAnchors (octets_or_none octets)) told)
           → TellsFailedReads {T = T} Anchors (given_failures before.anchors) (given_failures after.anchors) (Err told)
           → IsAbout Anchors told
-          → TellsFaultsBeside {T = U} (IsFirstFaultOfFiles moment) remaining before after (Err told)
+          → TellsFaultsBeside {T = U} (IsFirstFaultOfFiles moments) remaining before after (Err told)
       anchored x told statements_stay answers_stay seals tells held faults reads about = record {
         first = λ files are.
-            OfOctets-weaker (IsFaultOfAnchors (octets_or_none files.anchors)) (IsFirstFaultOfFiles moment files) told
+            OfOctets-weaker (IsFaultOfAnchors (octets_or_none files.anchors)) (IsFirstFaultOfFiles moments files) told
             (λ fault holds. let evidence = held files.capture are.capture in inr (opening, opens files are, inr (evidence.0, evidence.1, inl holds)))
             (faults files.anchors are.anchors);
         reads = record {
@@ -158,14 +159,14 @@ module _ {R U : Type 0} {remaining : R → Option (List ℕ)} {before after : In
           → ((file : List ℕ) → remaining (inner_of before.capture) ≡ Some file → HasEvidence opening file)
           → ((octets : Option (List ℕ)) → IsToldBy remaining before.anchors octets → (anchors : List Anchor) × HasAnchors (octets_or_none octets) anchors)
           → TellsFailedReads {T = W} Anchors (given_failures before.anchors) (given_failures after.anchors) (Ok y)
-          → ((files : Files) → AreToldBeside remaining before files → OfOctets (IsFaultBeforeKnown files.capture moment files.statements files.answers) told)
+          → ((files : Files) → AreToldBeside remaining before files → OfOctets (IsFaultBeforeKnown files.capture moments files.statements files.answers) told)
           → TellsFailedReads {T = T} Statements (given_failures before.statements) (given_failures after.statements) (Err told)
           → TellsFailedReads {T = T} Answers (given_failures before.answers) (given_failures after.answers) (Err told)
           → IsAbout Statements told ⊎ IsAbout Answers told
-          → TellsFaultsBeside {T = U} (IsFirstFaultOfFiles moment) remaining before after (Err told)
+          → TellsFaultsBeside {T = U} (IsFirstFaultOfFiles moments) remaining before after (Err told)
       unsaid x y told seals tells held trusted anchor_reads faults statement_reads answer_reads about = record {
         first = λ files are.
-            OfOctets-weaker (IsFaultBeforeKnown files.capture moment files.statements files.answers) (IsFirstFaultOfFiles moment files) told
+            OfOctets-weaker (IsFaultBeforeKnown files.capture moments files.statements files.answers) (IsFirstFaultOfFiles moments files) told
             (λ fault holds.
             let evidence = held files.capture are.capture in
             inr (
@@ -176,7 +177,7 @@ module _ {R U : Type 0} {remaining : R → Option (List ℕ)} {before after : In
                 evidence.1,
                 inr (
                   trusted files.anchors are.anchors,
-                  before_known files.capture moment (evidence_of evidence.0).rrsets files.statements files.answers fault holds,
+                  before_known files.capture moments (evidence_of evidence.0).rrsets files.statements files.answers fault holds,
                 ),
               ),
             ))
@@ -194,7 +195,7 @@ module _ {R U : Type 0} {remaining : R → Option (List ℕ)} {before after : In
       }
 
     -- all are taken
-    pub all_taken : {S V W X : Type 0} (moment : ℕ) (s : S) (x : V) (y : W) (z : X) (result : Result U Fault)
+    pub all_taken : {S V W X : Type 0} (moments : Moments) (s : S) (x : V) (y : W) (z : X) (result : Result U Fault)
         → TellsFailedReads {T = S} Keys (given_failures before.keys) (given_failures after.keys) (Ok s)
         → TellsFailedReads {T = S} Macs (given_failures before.macs) (given_failures after.macs) (Ok s)
         → CapturedBy {T = V} opening remaining before after (Ok x)
@@ -202,9 +203,9 @@ module _ {R U : Type 0} {remaining : R → Option (List ℕ)} {before after : In
         → TellsFailedReads {T = X} Statements (given_failures before.statements) (given_failures after.statements) (Ok z)
         → TellsFailedReads {T = X} Answers (given_failures before.answers) (given_failures after.answers) (Ok z)
         → IfErr result (λ told. told ≡ fault.OutOfMemory)
-        → TellsFaultsBeside {T = U} (IsFirstFaultOfFiles moment) remaining before after result
-    all_taken moment s x y z result keys_reads macs_reads tells anchor_reads statement_reads answer_reads only = record {
-      first = λ files are. no_octets (IsFirstFaultOfFiles moment files) result only;
+        → TellsFaultsBeside {T = U} (IsFirstFaultOfFiles moments) remaining before after result
+    all_taken moments s x y z result keys_reads macs_reads tells anchor_reads statement_reads answer_reads only = record {
+      first = λ files are. no_octets (IsFirstFaultOfFiles moments files) result only;
       reads = record {
         capture = reads_then x result tells.reads (not_read result Capture only);
         anchors = reads_then y result anchor_reads (not_read result Anchors only);

@@ -1,5 +1,5 @@
 -- What the layers below say of octets, files, evidence and questions: each is read in one way.
-use Rattle.std.specs.Prelude.{◌≡◌, ◌≢◌, ℕ, List, Option, Result}
+use Rattle.std.specs.Prelude.{◌≡◌, ◌≢◌, ◌≤◌, ℕ, Bool, List, Option, Result}
 use Rattle.std.specs.List.{AllByRecursion}
 use Rattle.dnsv_names.specs.Name.{IsName, Labels}
 use Rattle.dnsv_names.specs.Octets.{AreOctets}
@@ -22,7 +22,8 @@ use Rattle.dnsv_canonical.specs.declared.capture.CaptureError.TheVariants as cap
 use Rattle.dnsv_canonical.specs.Evidence.{Evidence, IsEvidence, IsReasonAgainst}
 use Rattle.dnsv_canonical.specs.Rrsets.{ReceivedRrset}
 use Rattle.dnsv_canonical.specs.SignedData.{IsSignedData}
-use Rattle.dnsv_verifier.specs.Table.{IsTableOf, TableContents}
+use Rattle.dnsv_verifier.specs.Table.{TableContents}
+use Rattle.dnsv_verifier.specs.Within.{IsTableWithin}
 use Rattle.dnsv_verifier.specs.declared.answer.Answer.{Answer}
 use Rattle.dnsv_verifier.specs.declared.entry.Entry.{Entry}
 use Rattle.dnsv_chain.specs.AnchorFile.{AreAnchorsOf, IsFaultOf}
@@ -36,6 +37,12 @@ use Rattle.dnsv_verdict.specs.declared.report.Report.{Report}
 use Rattle.dnsv_verdict.specs.declared.verdict.Verdict.{Verdict}
 use Rattle.dnsv_explain.specs.Explanation.{IsExplanationOf}
 use Rattle.dnsv_lines.specs.declared.line.Line.{Line}
+use Rattle.dnsv_texts.specs.declared.format.Format.{Format}
+use Rattle.dnsv_timeline.specs.Timeline.{IsTimelineBy}
+use Rattle.dnsv_timeline.specs.declared.stretch.Stretch.{Stretch}
+use Rattle.dnsv_timeline_laws.specs.Said.{IsSaidAt, Said}
+use Rattle.dnsv_moments.specs.Question.{IsRefusedThroughout}
+use Rattle.dnsv_timeline_texts.specs.Text.{IsTimelineText}
 
 -- names as text
 pub record NameLaws : Type 0 where
@@ -82,8 +89,8 @@ pub record EvidenceLaws : Type 0 where
 
 -- questions, what they are judged by, and why a verdict stands
 pub record VerdictLaws : Type 0 where
-  pub one_table : (meaning : Entry → Answer) (moment : ℕ) (rrsets : List ReceivedRrset) (a b : TableContents)
-      → IsTableOf meaning moment rrsets a → IsTableOf meaning moment rrsets b → a ≡ b
+  pub one_table : (meaning : Entry → Answer) (from to : ℕ) (rrsets : List ReceivedRrset) (a b : TableContents)
+      → IsTableWithin meaning from to rrsets a → IsTableWithin meaning from to rrsets b → a.answers ≡ b.answers
   pub one_list_of_anchors : (text : List ℕ) (a b : List Anchor) → AreAnchorsOf text a → AreAnchorsOf text b → a ≡ b
   pub one_fault_of_anchors : (text : List ℕ) (a b : AnchorsError) → IsFaultOf text a → IsFaultOf text b → a ≡ b
   pub anchors_apart : (text : List ℕ) (anchors : List Anchor) (error : AnchorsError) → AreAnchorsOf text anchors
@@ -99,9 +106,21 @@ pub record VerdictLaws : Type 0 where
   pub verdict_apart : (basis : Basis) (name : Labels) (t : ℕ) (links : List Link) (last : Labels) (verdict : Verdict)
       (error : VerdictError) → IsVerdictOf basis name t links last verdict → IsRefusedFor basis name t error → ⊥
 
+-- timelines
+pub record TimelineLaws : Type 0 where
+  pub one_timeline : (format : Format) (basis : Basis) (name : Labels) (t from to : ℕ) (stretches others : List (Stretch Said))
+      → IsTimelineBy (IsSaidAt format basis name t) from to stretches
+      → IsTimelineBy (IsSaidAt format basis name t) from to others → stretches ≡ others
+  pub one_refusal : (basis : Basis) (from to : ℕ) (name : Labels) (t : ℕ) (error other : VerdictError) → from ≤ to
+      → IsRefusedThroughout basis from to name t error → IsRefusedThroughout basis from to name t other → error ≡ other
+  pub one_text : (format : Format) (kinds : Bool) (rrsets : List ReceivedRrset) (name : Labels) (t from to : ℕ)
+      (stretches : List (Stretch Said)) (a b : List ℕ) → IsTimelineText format kinds rrsets name t from to stretches a
+      → IsTimelineText format kinds rrsets name t from to stretches b → a ≡ b
+
 pub record LayerLaws : Type 0 where
   pub names : NameLaws
   pub messages : MessageLaws
   pub tsig : TsigLaws
   pub evidence : EvidenceLaws
   pub verdicts : VerdictLaws
+  pub timelines : TimelineLaws

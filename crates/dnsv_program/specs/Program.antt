@@ -130,7 +130,7 @@ LeavesOutput old new Grew fault.WriteFailed = failures_of old < 2 ^ 64 - 1 → f
 LeavesOutput old new Grew fault.OutOfMemory = (new ≡ old) ⊎ Grew
 LeavesOutput old new Grew _ = new ≡ old
 
--- a question that is refused is told, unless a file doesn't open
+-- a question or a range that is refused is told, unless a file doesn't open
 abbrev pub TellsQuestion : Request → Fault → Type 0
 TellsQuestion request told =
     (refused : Fault) → AsksRefused request refused → (told ≡ refused) ⊎ ((file : InputFile) × (told ≡ fault.OpenFailed file))

@@ -1,9 +1,12 @@
 -- What a request asks of its files, and what is their first fault.
-use Rattle.std.specs.Prelude.{◌≡◌, ◌⊎◌, ⊤, ℕ, Bool, true, false, List, string_bytes}
+use Rattle.std.specs.Prelude.{◌≡◌, ◌⊎◌, ⊤, ℕ, Bool, List, string_bytes}
 use Rattle.dnsv_names.specs.Name.{Labels}
 use Rattle.dnsv_message.specs.Message.{Contents}
 use Rattle.dnsv_canonical.specs.Evidence.{evidence_of}
 use Rattle.dnsv_canonical.specs.Rrsets.{IsQuestion, ReceivedRrset}
+use Rattle.dnsv_timeline.specs.Range.{IsRange}
+use Rattle.dnsv_answers.specs.declared.heading.Moments.{Moments}
+use Rattle.dnsv_answers.specs.declared.heading.Moments.TheVariants.{At, Between}
 use Rattle.dnsv_chain.specs.declared.anchor.Anchor.{Anchor}
 use Rattle.dnsv_files.specs.declared.opening.Opening.{Opening}
 use Rattle.dnsv_files.specs.declared.opening.Opening.TheVariants.{Plain}
@@ -26,11 +29,12 @@ use Rattle.dnsv_files.specs.Files.Questions.{HasQuestions, IsFaultOfQuestions}
 use Rattle.dnsv_program.specs.Work.Asking.{AreAnswered, AreFirstAnswered}
 use Rattle.dnsv_program.specs.Work.Checking.{IsCheck, IsStopped}
 use Rattle.dnsv_program.specs.Work.Known.{IsFaultOfKnown, IsKnownReached}
-use Rattle.dnsv_files.specs.Opening.Given.{IsOpeningOf, IsOpeningReached, IsFaultOfOpening}
 use Rattle.dnsv_files.specs.Files.{Files, IsGiven, octets_or_none}
-use Rattle.dnsv_program.specs.Work.Listing.{IsListing, IsTodo, lists_all}
+use Rattle.dnsv_program.specs.Work.Listing.{IsListing, IsTodo}
 use Rattle.dnsv_program.specs.Question.{IsQuestionRefused, Spells}
+use Rattle.dnsv_program.specs.Work.Opening.{IsFaultOfOpeningAt, IsOpeningAt, IsOpeningReachedAt}
 use Rattle.dnsv_program.specs.Work.Showing.{IsShowing}
+use Rattle.dnsv_program.specs.Work.Timeline.{IsFaultOfRange, IsStoppedThroughout, IsTimeline}
 use Rattle.dnsv_files.specs.Files.Statements.{IsFaultOfStatements}
 
 -- ---- the text
@@ -40,22 +44,38 @@ abbrev pub IsAnswered : Format → Bool → List ℕ → ℕ → ℕ → Files �
 IsAnswered format why asked rtype moment files end text =
     (name : Labels) × Spells asked name × IsQuestion name rtype × IsCheck format why name rtype moment files end text
 
+-- the question is one that can be asked, the range is one, and the text is that of its timeline
+abbrev pub IsTimelineAsked : Format → Bool → List ℕ → ℕ → ℕ → ℕ → Files → List ℕ → Type 0
+IsTimelineAsked format kinds asked rtype from to files text =
+    (name : Labels) × Spells asked name × IsQuestion name rtype × IsRange from to
+    × IsTimeline format kinds name rtype from to files text
+
 -- what each signature signs, or what a verifier still has to check
 abbrev pub IsListed : Listing → Format → ℕ → Files → List ℕ → Type 0
 IsListed listing.All format moment files text = IsListing format moment files.capture text
-IsListed (listing.Todo form) format moment files text = IsTodo (listing.Todo form) format moment files text
+IsListed (listing.Todo form) format moment files text = IsTodo form format (At moment) files text
 
 -- over these files the request ends so, with this text: in JSON, and with why the verdict stands, where it asks for that
 abbrev pub IsTextAskedFor : Request → Files → Status → List ℕ → Type 0
 IsTextAskedFor (request.Show capture) files end text = (end ≡ Done) × IsShowing files.capture text
 IsTextAskedFor (request.List capture moment statements lists format) files end text =
     (end ≡ Done) × IsListed lists format moment files text
-IsTextAskedFor (request.ListRange capture from to statements form format) files end text = ⊥
-IsTextAskedFor (request.Timeline capture anchors from to asked rtype known kinds format) files end text = ⊥
+IsTextAskedFor (request.ListRange capture from to statements form format) files end text =
+    (end ≡ Done) × IsRange from to × IsTodo form format (Between from to) files text
+IsTextAskedFor (request.Timeline capture anchors from to asked rtype known kinds format) files end text =
+    (end ≡ Done) × IsTimelineAsked format kinds (string_bytes asked) rtype.0 from to files text
 IsTextAskedFor (request.Check capture anchors moment (asking.One asked rtype) known keys macs format why) files end text =
     IsAnswered format why (string_bytes asked) rtype.0 moment files end text
 IsTextAskedFor (request.Check capture anchors moment (asking.Each questions) known keys macs format why) files end text =
     AreAnswered format why moment files end text
+
+-- the request asks for no verdict of one moment, so that its whole text ends in one way
+abbrev pub EndsAsDone : Request → Type 0
+EndsAsDone (request.Show capture) = ⊤
+EndsAsDone (request.List capture moment statements lists format) = ⊤
+EndsAsDone (request.ListRange capture from to statements form format) = ⊤
+EndsAsDone (request.Timeline capture anchors from to asked rtype known kinds format) = ⊤
+EndsAsDone (request.Check capture anchors moment asked known keys macs format why) = ⊥
 
 -- the request asks many questions
 abbrev pub AsksMany : Request → Type 0
@@ -70,7 +90,7 @@ AsksMany (request.Check capture anchors moment (asking.Each questions) known key
 abbrev pub IsManyAsked : Request → Format → Bool → ℕ → Type 0
 IsManyAsked (request.Show capture) format why moment = ⊥
 IsManyAsked (request.List capture at statements lists form) format why moment = ⊥
-IsManyAsked (request.ListRange capture from to statements each form) format why moment = ⊥
+IsManyAsked (request.ListRange capture from to statements lists form) format why moment = ⊥
 IsManyAsked (request.Timeline capture anchors from to asked rtype known kinds form) format why moment = ⊥
 IsManyAsked (request.Check capture anchors at (asking.One asked rtype) known keys macs form whether) format why moment = ⊥
 IsManyAsked (request.Check capture anchors at (asking.Each questions) known keys macs form whether) format why moment =
@@ -81,8 +101,10 @@ abbrev pub IsTextOfFirst : Request → Files → List ℕ → Type 0
 IsTextOfFirst (request.Show capture) files text = (end : Status) × IsTextAskedFor (request.Show capture) files end text
 IsTextOfFirst (request.List capture moment statements lists format) files text =
     (end : Status) × IsTextAskedFor (request.List capture moment statements lists format) files end text
-IsTextOfFirst (request.ListRange capture from to statements form format) files text = ⊥
-IsTextOfFirst (request.Timeline capture anchors from to asked rtype known kinds format) files text = ⊥
+IsTextOfFirst (request.ListRange capture from to statements form format) files text =
+    (end : Status) × IsTextAskedFor (request.ListRange capture from to statements form format) files end text
+IsTextOfFirst (request.Timeline capture anchors from to asked rtype known kinds format) files text =
+    (end : Status) × IsTextAskedFor (request.Timeline capture anchors from to asked rtype known kinds format) files end text
 IsTextOfFirst (request.Check capture anchors moment (asking.One asked rtype) known keys macs format why) files text =
     (end : Status) × IsAnswered format why (string_bytes asked) rtype.0 moment files end text
 IsTextOfFirst (request.Check capture anchors moment (asking.Each questions) known keys macs format why) files text =
@@ -101,44 +123,58 @@ IsFirstFaultOfTodo files fault =
     ⊎ (HasEvidence Plain files.capture × IsFaultOfStatements (octets_or_none files.statements) fault)
 
 -- where only the file of captured messages is read, that has this fault
-abbrev pub IsFirstFaultOfList : Bool → Files → Fault → Type 0
-IsFirstFaultOfList true files fault = IsFaultOfCapture NewEvidence Plain files.capture fault
-IsFirstFaultOfList false files fault = IsFirstFaultOfTodo files fault
+abbrev pub IsFirstFaultOfList : Listing → Files → Fault → Type 0
+IsFirstFaultOfList listing.All files fault = IsFaultOfCapture NewEvidence Plain files.capture fault
+IsFirstFaultOfList (listing.Todo form) files fault = IsFirstFaultOfTodo files fault
 
 -- behind the file of captured messages, which has these RRsets, the first fault is in the trust anchors, and then in what
--- is known of signatures
-abbrev pub IsFirstFaultBehind : ℕ → List ReceivedRrset → Files → Fault → Type 0
-IsFirstFaultBehind moment rrsets files fault =
+-- is known of signatures at the moments
+abbrev pub IsFirstFaultBehind : Moments → List ReceivedRrset → Files → Fault → Type 0
+IsFirstFaultBehind moments rrsets files fault =
     IsFaultOfAnchors (octets_or_none files.anchors) fault
     ⊎ (((anchors : List Anchor) × HasAnchors (octets_or_none files.anchors) anchors)
-    × IsFaultOfKnown files.capture moment rrsets files.statements files.answers fault)
+    × IsFaultOfKnown files.capture moments rrsets files.statements files.answers fault)
 
 -- where frames are opened so, the first fault is in the file of captured messages, and then in those behind it
-abbrev pub IsFirstFaultOfEvidence : Opening → ℕ → Files → Fault → Type 0
-IsFirstFaultOfEvidence opening moment files fault =
+abbrev pub IsFirstFaultOfEvidence : Opening → Moments → Files → Fault → Type 0
+IsFirstFaultOfEvidence opening moments files fault =
     IsFaultOfCapture NewEvidence opening files.capture fault
     ⊎ ((messages : List Contents) × Holds NewEvidence opening files.capture messages
-    × IsFirstFaultBehind moment (evidence_of messages).rrsets files fault)
+    × IsFirstFaultBehind moments (evidence_of messages).rrsets files fault)
 
--- the first fault is in the files of keys and MACs, and then in the others
-abbrev pub IsFirstFaultOfFiles : ℕ → Files → Fault → Type 0
-IsFirstFaultOfFiles moment files fault =
-    IsFaultOfOpening files.keys files.macs fault
-    ⊎ ((opening : Opening) × IsOpeningOf files.keys files.macs moment opening
-    × IsFirstFaultOfEvidence opening moment files fault)
+-- the first fault is in the files of keys and MACs, where these are read, and then in the others
+abbrev pub IsFirstFaultOfFiles : Moments → Files → Fault → Type 0
+IsFirstFaultOfFiles moments files fault =
+    IsFaultOfOpeningAt files.keys files.macs moments fault
+    ⊎ ((opening : Opening) × IsOpeningAt files.keys files.macs moments opening
+    × IsFirstFaultOfEvidence opening moments files fault)
 
 -- the question is refused so
 abbrev pub IsFaultOfQuestion : List ℕ → ℕ → Fault → Type 0
 IsFaultOfQuestion asked rtype (fault.Refused why place) = IsQuestionRefused asked rtype why place
 IsFaultOfQuestion asked rtype _ = ⊥
 
--- the request asks a question, which is refused so
+-- the question is refused so, and else this is the first fault behind it
+abbrev pub IsFirstFaultOfAsked : List ℕ → ℕ → (Labels → Fault → Type 0) → Fault → Type 0
+IsFirstFaultOfAsked asked rtype Behind fault =
+    IsFaultOfQuestion asked rtype fault
+    ⊎ ((name : Labels) × Spells asked name × IsQuestion name rtype × Behind name fault)
+
+-- the range is refused so, and else this is the first fault behind it
+abbrev pub IsFirstFaultOfRange : ℕ → ℕ → (Fault → Type 0) → Fault → Type 0
+IsFirstFaultOfRange from to Behind fault = IsFaultOfRange from to fault ⊎ (IsRange from to × Behind fault)
+
+-- the question is refused so, and else the range
+abbrev pub IsTimelineRefused : List ℕ → ℕ → ℕ → ℕ → Fault → Type 0
+IsTimelineRefused asked rtype from to = IsFirstFaultOfAsked asked rtype (λ name. IsFaultOfRange from to)
+
+-- the request asks a question, or asks for a range, which is refused so
 abbrev pub AsksRefused : Request → Fault → Type 0
 AsksRefused (request.Show capture) fault = ⊥
 AsksRefused (request.List capture moment statements lists format) fault = ⊥
-AsksRefused (request.ListRange capture from to statements form format) fault = ⊥
+AsksRefused (request.ListRange capture from to statements form format) fault = IsFaultOfRange from to fault
 AsksRefused (request.Timeline capture anchors from to asked rtype known kinds format) fault =
-    IsFaultOfQuestion (string_bytes asked) rtype.0 fault
+    IsTimelineRefused (string_bytes asked) rtype.0 from to fault
 AsksRefused (request.Check capture anchors moment (asking.One asked rtype) known keys macs format why) fault =
     IsFaultOfQuestion (string_bytes asked) rtype.0 fault
 AsksRefused (request.Check capture anchors moment (asking.Each questions) known keys macs format why) fault = ⊥
@@ -146,26 +182,38 @@ AsksRefused (request.Check capture anchors moment (asking.Each questions) known 
 -- the first of the files that is at fault has this fault; or none is, and an alias can't be followed
 abbrev pub IsFirstFaultOfName : Labels → ℕ → ℕ → Files → Fault → Type 0
 IsFirstFaultOfName name rtype moment files fault =
-    IsFirstFaultOfFiles moment files fault ⊎ IsStopped name rtype moment files fault
+    IsFirstFaultOfFiles (At moment) files fault ⊎ IsStopped name rtype moment files fault
 
 -- the question is refused, and else this is the first fault of the files and of the way from its name
 abbrev pub IsFirstFaultOfCheck : List ℕ → ℕ → ℕ → Files → Fault → Type 0
-IsFirstFaultOfCheck asked rtype moment files fault =
-    IsFaultOfQuestion asked rtype fault
-    ⊎ ((name : Labels) × Spells asked name × IsQuestion name rtype × IsFirstFaultOfName name rtype moment files fault)
+IsFirstFaultOfCheck asked rtype moment files =
+    IsFirstFaultOfAsked asked rtype (λ name. IsFirstFaultOfName name rtype moment files)
+
+-- the first of the files that is at fault has this fault; or none is, and the question is refused throughout the range
+abbrev pub IsFirstFaultThroughout : Labels → ℕ → ℕ → ℕ → Files → Fault → Type 0
+IsFirstFaultThroughout name rtype from to files fault =
+    IsFirstFaultOfFiles (Between from to) files fault ⊎ IsStoppedThroughout name rtype from to files fault
+
+-- the question is refused, and else the range, and else this is the first fault of the files and of the ways
+abbrev pub IsFirstFaultOfTimeline : List ℕ → ℕ → ℕ → ℕ → Files → Fault → Type 0
+IsFirstFaultOfTimeline asked rtype from to files =
+    IsFirstFaultOfAsked asked rtype (λ name. IsFirstFaultOfRange from to (IsFirstFaultThroughout name rtype from to files))
 
 -- the first fault is in the questions, and then in the files that they are judged by
 abbrev pub IsFirstFaultOfEach : ℕ → Files → Fault → Type 0
 IsFirstFaultOfEach moment files fault =
     IsFaultOfQuestions (octets_or_none files.questions) fault
-    ⊎ (((asked : List Asked) × HasQuestions (octets_or_none files.questions) asked) × IsFirstFaultOfFiles moment files fault)
+    ⊎ (((asked : List Asked) × HasQuestions (octets_or_none files.questions) asked)
+    × IsFirstFaultOfFiles (At moment) files fault)
 
 -- the first fault, in the order of the work
 abbrev pub IsFirstFault : Request → Files → Fault → Type 0
 IsFirstFault (request.Show capture) files fault = IsFaultOfCapture AnyMessage Plain files.capture fault
-IsFirstFault (request.List capture moment statements lists format) files fault = IsFirstFaultOfList (lists_all lists) files fault
-IsFirstFault (request.ListRange capture from to statements form format) files fault = ⊥
-IsFirstFault (request.Timeline capture anchors from to asked rtype known kinds format) files fault = ⊥
+IsFirstFault (request.List capture moment statements lists format) files fault = IsFirstFaultOfList lists files fault
+IsFirstFault (request.ListRange capture from to statements form format) files fault =
+    IsFirstFaultOfRange from to (IsFirstFaultOfTodo files) fault
+IsFirstFault (request.Timeline capture anchors from to asked rtype known kinds format) files fault =
+    IsFirstFaultOfTimeline (string_bytes asked) rtype.0 from to files fault
 IsFirstFault (request.Check capture anchors moment (asking.One asked rtype) known keys macs format why) files fault =
     IsFirstFaultOfCheck (string_bytes asked) rtype.0 moment files fault
 IsFirstFault (request.Check capture anchors moment (asking.Each questions) known keys macs format why) files fault =
@@ -184,46 +232,53 @@ IsReachedByTodo files Capture = ⊤
 IsReachedByTodo files Statements = HasEvidence Plain files.capture × IsGiven files.statements
 IsReachedByTodo files _ = ⊥
 
-abbrev pub IsReachedByList : Bool → Files → InputFile → Type 0
-IsReachedByList true files file = IsCaptureReached file
-IsReachedByList false files file = IsReachedByTodo files file
+abbrev pub IsReachedByList : Listing → Files → InputFile → Type 0
+IsReachedByList listing.All files file = IsCaptureReached file
+IsReachedByList (listing.Todo form) files file = IsReachedByTodo files file
 
 -- the file of captured messages is read behind the keys and MACs, the anchors behind evidence, and the statements, or
 -- the answers, behind the anchors, each where it is given
-abbrev pub IsReachedOfFiles : ℕ → Files → InputFile → Type 0
-IsReachedOfFiles moment files Keys = IsOpeningReached files.keys files.macs Keys
-IsReachedOfFiles moment files Macs = IsOpeningReached files.keys files.macs Macs
-IsReachedOfFiles moment files Capture = (opening : Opening) × IsOpeningOf files.keys files.macs moment opening
-IsReachedOfFiles moment files Anchors =
-    (opening : Opening) × IsOpeningOf files.keys files.macs moment opening × HasEvidence opening files.capture
+abbrev pub IsReachedOfFiles : Moments → Files → InputFile → Type 0
+IsReachedOfFiles moments files Keys = IsOpeningReachedAt files.keys files.macs moments Keys
+IsReachedOfFiles moments files Macs = IsOpeningReachedAt files.keys files.macs moments Macs
+IsReachedOfFiles moments files Capture = (opening : Opening) × IsOpeningAt files.keys files.macs moments opening
+IsReachedOfFiles moments files Anchors =
+    (opening : Opening) × IsOpeningAt files.keys files.macs moments opening × HasEvidence opening files.capture
     × IsGiven files.anchors
-IsReachedOfFiles moment files Statements =
-    (opening : Opening) × IsOpeningOf files.keys files.macs moment opening × HasEvidence opening files.capture
+IsReachedOfFiles moments files Statements =
+    (opening : Opening) × IsOpeningAt files.keys files.macs moments opening × HasEvidence opening files.capture
     × ((anchors : List Anchor) × HasAnchors (octets_or_none files.anchors) anchors)
     × IsKnownReached files.statements files.answers Statements
-IsReachedOfFiles moment files Answers =
-    (opening : Opening) × IsOpeningOf files.keys files.macs moment opening × HasEvidence opening files.capture
+IsReachedOfFiles moments files Answers =
+    (opening : Opening) × IsOpeningAt files.keys files.macs moments opening × HasEvidence opening files.capture
     × ((anchors : List Anchor) × HasAnchors (octets_or_none files.anchors) anchors)
     × IsKnownReached files.statements files.answers Answers
-IsReachedOfFiles moment files Questions = ⊥
+IsReachedOfFiles moments files Questions = ⊥
 
 -- the question can be asked, and the files before this one are in order
 abbrev pub IsReachedByCheck : List ℕ → ℕ → ℕ → Files → InputFile → Type 0
 IsReachedByCheck asked rtype moment files file =
-    ((name : Labels) × Spells asked name × IsQuestion name rtype) × IsReachedOfFiles moment files file
+    ((name : Labels) × Spells asked name × IsQuestion name rtype) × IsReachedOfFiles (At moment) files file
+
+-- the question can be asked, the range is one, and the files before this one are in order
+abbrev pub IsReachedByTimeline : List ℕ → ℕ → ℕ → ℕ → Files → InputFile → Type 0
+IsReachedByTimeline asked rtype from to files file =
+    ((name : Labels) × Spells asked name × IsQuestion name rtype) × IsRange from to
+    × IsReachedOfFiles (Between from to) files file
 
 -- the questions are read first, and then the files that they are judged by
 abbrev pub IsReachedByEach : ℕ → Files → InputFile → Type 0
 IsReachedByEach moment files Questions = IsGiven files.questions
 IsReachedByEach moment files file =
-    ((asked : List Asked) × HasQuestions (octets_or_none files.questions) asked) × IsReachedOfFiles moment files file
+    ((asked : List Asked) × HasQuestions (octets_or_none files.questions) asked) × IsReachedOfFiles (At moment) files file
 
 -- The request reads the file, which is given, and what comes before it in the order of the work is in order.
 abbrev pub IsReached : Request → Files → InputFile → Type 0
 IsReached (request.Show capture) files file = IsCaptureReached file
-IsReached (request.List capture moment statements lists format) files file = IsReachedByList (lists_all lists) files file
-IsReached (request.ListRange capture from to statements form format) files file = ⊥
-IsReached (request.Timeline capture anchors from to asked rtype known kinds format) files file = ⊥
+IsReached (request.List capture moment statements lists format) files file = IsReachedByList lists files file
+IsReached (request.ListRange capture from to statements form format) files file = IsRange from to × IsReachedByTodo files file
+IsReached (request.Timeline capture anchors from to asked rtype known kinds format) files file =
+    IsReachedByTimeline (string_bytes asked) rtype.0 from to files file
 IsReached (request.Check capture anchors moment (asking.One asked rtype) known keys macs format why) files file =
     IsReachedByCheck (string_bytes asked) rtype.0 moment files file
 IsReached (request.Check capture anchors moment (asking.Each questions) known keys macs format why) files file =

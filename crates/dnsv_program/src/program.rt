@@ -41,8 +41,8 @@ pub fn exit_status_on<R: Env + Files + AllocGlobal + Print, E: Print>(system: &R
 
 /// Does what the command line asks for. The answer is the exit status: where the output got the text, 0, or 3 to 6
 /// for the verdicts Insecure, Pending, Bogus and Indeterminate, and of many questions the greatest of theirs, with 7 for
-/// one that is refused by itself; 0 where it got help; 7 where the question or a file is refused, 2 where the words are no
-/// command, and 1 where the machine failed.
+/// one that is refused by itself; 0 where it got help; 7 where the question, the range or a file is refused, 2 where the
+/// words are no command, and 1 where the machine failed.
 pub fn exit_status<M: Machine, W: Write, E: Write>(
     machine: &M,
     output: &mut Counted<W>,
@@ -120,7 +120,7 @@ fn answer<M: Machine, W: Write>(
     ensures reached { (files : Files) → AreFilesAt (M.octets_at machine.now) request.now files
         → IfErr result (OfFailedRead (IsReached request.now files)) }
 
-    // A question that is refused is told where the files open, whatever memory there is.
+    // A question or a range that is refused is told where the files open, whatever memory there is.
     ensures question { IfErr result (TellsQuestion request.now) }
 
     // The first file that doesn't open is the fault.

@@ -1,6 +1,7 @@
 //! Questions on the command line.
 ghost use Rattle.std.specs.Prelude.{◌≡◌, IfErr, IfOk};
 ghost use Rattle.dnsv_canonical.specs.Rrsets.{IsQuestion};
+ghost use Rattle.dnsv_names.specs.Name.{Labels};
 ghost use Rattle.dnsv_program.specs.Question.{Spells};
 ghost use Rattle.dnsv_program.specs.Run.{IsFaultOfQuestion};
 
@@ -17,6 +18,7 @@ pub fn question_name(text: &[u8], rtype: RecordType) -> Result<Name, Fault>
     ensures question { IfOk result (λ name. IsQuestion name rtype.0) }
     ensures fault { IfErr result (IsFaultOfQuestion text.now rtype.0) }
     ensures every_fault { (fault : Fault) → IsFaultOfQuestion text.now rtype.0 fault → result ≡ Err fault }
+    ensures every { IfErr result (λ _. (name : Labels) → Spells text.now name → ¬ IsQuestion name rtype.0) }
 {
     let name = match Name::parse(text) {
         Ok(name) => name,

@@ -4,7 +4,7 @@ ghost use Rattle.std.specs.Io.KnownBytes.{Appends};
 ghost use Rattle.dnsv_message.specs.Streams.Counted.{inner_of, failures_of, AppendsBeginning};
 ghost use Rattle.dnsv_files.specs.Files.Faults.{OfFailedRead, TellsFaults};
 ghost use Rattle.dnsv_files.specs.Files.{AreTold, Files};
-ghost use Rattle.dnsv_program.specs.Run.{AsksMany, AsksRefused, IsFirstFault, IsManyAsked, IsReached, IsTextAskedFor, IsTextOfFirst};
+ghost use Rattle.dnsv_program.specs.Run.{AsksMany, AsksRefused, EndsAsDone, IsFirstFault, IsManyAsked, IsReached, IsTextAskedFor, IsTextOfFirst};
 ghost use Rattle.dnsv_files.specs.declared.status.Status.{Status};
 
 pub mod asking;
@@ -14,12 +14,15 @@ pub mod judging;
 pub mod known;
 pub mod listing;
 pub mod showing;
+pub mod span;
+pub mod timeline;
 
 use crate::work::asking::check_each;
 use crate::work::checking::check;
 use crate::work::judging::Telling;
-use crate::work::listing::list;
+use crate::work::listing::{list, list_range};
 use crate::work::showing::show;
+use crate::work::timeline::{Showing, timeline};
 use bumpalo::Bump;
 use dnsv_commands::{Asking, Request};
 use dnsv_files::{Fault, Inputs, Moment, Status};
@@ -38,9 +41,10 @@ pub struct Outcome {
 /// written before the next is judged. The octets of the messages lie in an arena of its own.
 ///
 /// The answer is a status where the output got the whole text, and else the first fault in the order of the
-/// work: the question's name and type, or the file of questions, the keys, the MACs of requests, reading the file of
-/// captured messages, its framing, the number of the MACs, each message in turn, the trust anchors, and then the
-/// statements, or the answers. A write that fails is not tried again; the output then has a beginning of the text.
+/// work: the question's name and type, or the file of questions, the range of moments, the keys, the MACs of requests,
+/// reading the file of captured messages, its framing, the number of the MACs, each message in turn, the trust anchors,
+/// and then the statements, or the answers. A write that fails is not tried again; the output then has a beginning of the
+/// text.
 pub fn run<R: Read, W: Write>(
     alloc: Global,
     request: &Request,
@@ -55,7 +59,7 @@ pub fn run<R: Read, W: Write>(
     // The fault is the first that the files have.
     ensures faults { TellsFaults (IsFirstFault request.now) R.remaining inputs.old inputs.new result }
 
-    // A question that is refused is always told, whatever memory and files there are.
+    // A question or a range that is refused is always told, whatever memory and files there are.
     ensures question { (fault : Fault) → AsksRefused request.now fault → result ≡ Err fault }
 
     // A failed read is told of a file that the request reads, and what comes before that file is in order.
@@ -162,42 +166,78 @@ fn outcome_of<R: Read>(
     ensures unwritten { IfErr result (λ fault. fault ≡ Fault.WriteFailed → ⊥) }
     ensures unrefused { IfOk result (λ outcome. outcome.status ≡ Status.Refused → ⊥) }
 {
+    let Request::Check {
+        asking,
+        moment,
+        format,
+        why,
+        ..
+    } = request
+    else {
+        let text = text_of(alloc, request, inputs, bump)?;
+        return Ok(done(text));
+    };
+    let telling = Telling {
+        format: *format,
+        why: *why,
+    };
+    match asking {
+        Asking::One { name, rtype } => {
+            let asked = name.as_bytes();
+            check(alloc, telling, asked, *rtype, *moment, inputs, bump)
+        }
+        Asking::Each { .. } => unreachable!(),
+    }
+}
+
+/// The text that the request asks for, which ends in one way.
+fn text_of<R: Read>(
+    alloc: Global,
+    request: &Request,
+    inputs: &mut Inputs<R>,
+    bump: &Bump,
+) -> Result<String, Fault>
+    requires { EndsAsDone request.now }
+    ensures text { (files : Files) → AreTold R.remaining inputs.old files
+        → IfOk result (λ text. IsTextAskedFor request.now files Status.Done (string_bytes text)) }
+    ensures faults { TellsFaults (IsFirstFault request.now) R.remaining inputs.old inputs.new result }
+    ensures question { (fault : Fault) → AsksRefused request.now fault → result ≡ Err fault }
+    ensures reached { (files : Files) → AreTold R.remaining inputs.old files
+        → IfErr result (OfFailedRead (IsReached request.now files)) }
+    ensures unwritten { IfErr result (λ fault. fault ≡ Fault.WriteFailed → ⊥) }
+{
     match request {
-        Request::Show { .. } => Ok(done(show(alloc, inputs, bump)?)),
+        Request::Show { .. } => show(alloc, inputs, bump),
         Request::List {
             listing,
             moment,
             format,
             ..
-        } => {
-            let text = list(alloc, *listing, *format, *moment, inputs, bump)?;
-            Ok(done(text))
-        }
-        Request::ListRange { .. } | Request::Timeline { .. } => Err(Fault::OutOfMemory),
-        Request::Check {
-            asking,
-            moment,
+        } => list(alloc, *listing, *format, *moment, inputs, bump),
+        Request::ListRange {
+            from,
+            to,
+            form,
             format,
-            why,
             ..
-        } => match asking {
-            Asking::One { name, rtype } => {
-                let telling = Telling {
-                    format: *format,
-                    why: *why,
-                };
-                check(
-                    alloc,
-                    telling,
-                    name.as_bytes(),
-                    *rtype,
-                    *moment,
-                    inputs,
-                    bump,
-                )
-            }
-            Asking::Each { .. } => unreachable!(),
-        },
+        } => list_range(alloc, *form, *format, *from, *to, inputs, bump),
+        Request::Timeline {
+            from,
+            to,
+            name,
+            rtype,
+            kinds,
+            format,
+            ..
+        } => {
+            let asked = name.as_bytes();
+            let showing = Showing {
+                format: *format,
+                kinds: *kinds,
+            };
+            timeline(alloc, showing, asked, *rtype, *from, *to, inputs, bump)
+        }
+        Request::Check { .. } => unreachable!(),
     }
 }
 

@@ -1,7 +1,8 @@
 -- The steps in which a compact list is written.
-use Rattle.std.proofs.Common.{◌≡◌, true, List, [], ◌∷◌, ◌++◌, ℕ, refl, ap, ◌∙◌, append_assoc, codes}
-use Rattle.dnsv_lines.specs.Json.{array, member, object, parted, quoted}
+use Rattle.std.proofs.Common.{◌≡◌, true, false, List, [], ◌∷◌, ◌++◌, ℕ, refl, ap, ◌∙◌, append_assoc, codes}
+use Rattle.dnsv_lines.specs.Json.{array, member, object, parted}
 use Rattle.dnsv_texts.specs.Json.{object_line}
+use Rattle.dnsv_texts.proofs.MomentsLemmas.{of_list, with_members}
 
 -- ---- a key
 
@@ -69,16 +70,17 @@ lines_written s s1 s2 s3 s4 s5 s6 n o t d g is1 is2 is3 is4 is5 is6 =
 
 -- ---- the whole list
 
-whole : (p m q k r x b z t e l : List ℕ)
-    → ((((((p ++ (m ++ q)) ++ k) ++ r) ++ x) ++ (b ++ z)) ++ t) ++ (e ++ l) ≡ ((p ++ (m ++ (q ++ (k ++ ((r ++ (x ++ b)) ++ (z ++ (t ++ []))))))) ++ e) ++ l
-whole p m q k r x b z t e l = simp append_assoc refl
+whole : (o c p q k r x b z t e l : List ℕ)
+    → (((((((o ++ (c ++ p)) ++ q) ++ k) ++ r) ++ x) ++ (b ++ z)) ++ t) ++ (e ++ l)
+    ≡ (o ++ ((c ++ (p ++ (q ++ (k ++ ((r ++ (x ++ b)) ++ (z ++ (t ++ []))))))) ++ e)) ++ l
+whole o c p q k r x b z t e l = simp append_assoc refl
 
-pub list_written : (s1 s2 s3 s4 s5 s6 s7 m k t : List ℕ) (rrsets : List (List ℕ))
-    → s1 ≡ codes "{\"command\":\"list\",\"moment\":" ++ (m ++ codes ",\"keys\":") → s2 ≡ s1 ++ k → s3 ≡ s2 ++ codes ",\"rrsets\":["
+pub list_written : (s s1 s2 s3 s4 s5 s6 s7 k t : List ℕ) (moments rrsets : List (List ℕ)) → s ≡ codes "{" ++ parted true (of_list ∷ moments)
+    → s1 ≡ s ++ codes ",\"keys\":" → s2 ≡ s1 ++ k → s3 ≡ s2 ++ codes ",\"rrsets\":["
     → s4 ≡ s3 ++ parted true rrsets → s5 ≡ s4 ++ codes "],\"todo\":" → s6 ≡ s5 ++ t → s7 ≡ s6 ++ codes "}\n"
-    → s7 ≡ object_line (member (codes "command") (quoted (codes "list")) ∷ member (codes "moment") m ∷ member (codes "keys") k
-    ∷ member (codes "rrsets") (array rrsets) ∷ member (codes "todo") t ∷ [])
-list_written s1 s2 s3 s4 s5 s6 s7 m k t rrsets is1 is2 is3 is4 is5 is6 is7 =
+    → s7 ≡ object_line (of_list ∷ moments ++ member (codes "keys") k ∷ member (codes "rrsets") (array rrsets) ∷ member (codes "todo") t ∷ [])
+list_written s s1 s2 s3 s4 s5 s6 s7 k t moments rrsets is is1 is2 is3 is4 is5 is6 is7 =
     is7 ∙ ap (λ x. x ++ codes "}\n") (is6 ∙ ap (λ x. x ++ t) (is5 ∙ ap (λ x. x ++ codes "],\"todo\":") (is4 ∙ ap (λ x. x ++ parted true rrsets)
-    (is3 ∙ ap (λ x. x ++ codes ",\"rrsets\":[") (is2 ∙ ap (λ x. x ++ k) is1)))))
-    ∙ whole (codes "{\"command\":\"list\",\"moment\":") m (codes ",\"keys\":") k (codes ",\"rrsets\":[") (parted true rrsets) (codes "]") (codes ",\"todo\":") t (codes "}") (codes "\n")
+    (is3 ∙ ap (λ x. x ++ codes ",\"rrsets\":[") (is2 ∙ ap (λ x. x ++ k) (is1 ∙ ap (λ x. x ++ codes ",\"keys\":") is))))))
+    ∙ whole (codes "{") of_list (parted false moments) (codes ",\"keys\":") k (codes ",\"rrsets\":[") (parted true rrsets) (codes "]") (codes ",\"todo\":") t (codes "}") (codes "\n")
+    ∙ with_members moments (member (codes "keys") k ∷ member (codes "rrsets") (array rrsets) ∷ member (codes "todo") t ∷ [])

@@ -6,11 +6,13 @@ use Rattle.dnsv_names.specs.Name.{wire}
 use Rattle.dnsv_compact.specs.CompactList.{ListContents, ListedRrset, ListedSignature}
 use Rattle.dnsv_compact.specs.declared.key.ListedKey.{ListedKey}
 use Rattle.dnsv_compact.specs.declared.place.Place.{Place}
+use Rattle.dnsv_answers.specs.declared.heading.Moments.{Moments}
 use Rattle.dnsv_lines.specs.Json.{array, member, object, quoted}
 use Rattle.dnsv_texts.specs.declared.format.Format.{Format}
 use Rattle.dnsv_texts.specs.declared.format.Format.TheVariants.{Json, Lines}
 use Rattle.dnsv_texts.specs.Hex.{hex_text}
 use Rattle.dnsv_texts.specs.Json.{object_line, octets_json}
+use Rattle.dnsv_texts.specs.Moments.{moments_members}
 use Rattle.dnsv_texts.specs.Parts.{part}
 use Rattle.dnsv_texts.specs.Showing.{texts_from}
 
@@ -81,9 +83,9 @@ rrsets_part format first listed = part rrset_lines rrset_json format first liste
 
 -- ---- the text
 
--- lines, or JSON with the moment
-abbrev pub compact_text : Format → ℕ → ListContents → List ℕ
-compact_text Lines moment list = compact_lines list
-compact_text Json moment list = object_line (member (codes "command") (quoted (codes "list"))
-    ∷ member (codes "moment") (decimal moment) ∷ member (codes "keys") (array (map key_json list.keys))
+-- lines, or JSON with the moment or the range
+abbrev pub compact_text : Format → Moments → ListContents → List ℕ
+compact_text Lines moments list = compact_lines list
+compact_text Json moments list = object_line (member (codes "command") (quoted (codes "list"))
+    ∷ moments_members moments ++ member (codes "keys") (array (map key_json list.keys))
     ∷ member (codes "rrsets") (array (map rrset_json list.rrsets)) ∷ member (codes "todo") (array (map place_json list.todo)) ∷ [])

@@ -3,6 +3,7 @@ pub mod Compact
 pub mod Hex
 pub mod Json
 pub mod Listing
+pub mod Moments
 pub mod Parts
 pub mod Refused
 pub mod Showing

@@ -3,11 +3,13 @@ use Rattle.std.specs.Prelude.{ℕ, List, [], ◌∷◌, ◌++◌, codes, map}
 use Rattle.std.specs.Fmt.{decimal}
 use Rattle.std.specs.List.{flat_map}
 use Rattle.dnsv_verifier.specs.declared.entry.Entry.{Entry}
+use Rattle.dnsv_answers.specs.declared.heading.Moments.{Moments}
 use Rattle.dnsv_texts.specs.declared.format.Format.{Format}
 use Rattle.dnsv_texts.specs.declared.format.Format.TheVariants.{Json, Lines}
 use Rattle.dnsv_texts.specs.Hex.{hex_text}
 use Rattle.dnsv_lines.specs.Json.{array, member, object, quoted}
 use Rattle.dnsv_texts.specs.Json.{object_line, octets_json}
+use Rattle.dnsv_texts.specs.Moments.{moments_members}
 
 -- a line: the algorithm, the key, the signed data and the signature
 abbrev pub todo_line : Entry → List ℕ
@@ -20,8 +22,8 @@ abbrev pub todo_json : Entry → List ℕ
 todo_json entry = object (member (codes "algorithm") (decimal entry.algorithm.0) ∷ member (codes "key") (octets_json entry.key)
     ∷ member (codes "data") (octets_json entry.signed_data) ∷ member (codes "signature") (octets_json entry.signature) ∷ [])
 
--- what is still to be checked at the moment: lines, or JSON
-abbrev pub todo_text : Format → ℕ → List Entry → List ℕ
-todo_text Lines moment entries = flat_map todo_line entries
-todo_text Json moment entries = object_line (member (codes "command") (quoted (codes "list"))
-    ∷ member (codes "moment") (decimal moment) ∷ member (codes "todo") (array (map todo_json entries)) ∷ [])
+-- what is still to be checked at the moment, or at the moments of the range: lines, or JSON
+abbrev pub todo_text : Format → Moments → List Entry → List ℕ
+todo_text Lines moments entries = flat_map todo_line entries
+todo_text Json moments entries = object_line (member (codes "command") (quoted (codes "list"))
+    ∷ moments_members moments ++ member (codes "todo") (array (map todo_json entries)) ∷ [])

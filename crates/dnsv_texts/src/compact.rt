@@ -9,22 +9,23 @@ ghost use Rattle.dnsv_texts.specs.Showing.{texts_from};
 use crate::format::Format;
 use crate::hex_text::push_hex_text;
 use crate::json::compact as json;
+use dnsv_answers::Moments;
 use dnsv_canonical::{Rrset, canonical_rrset};
 use dnsv_compact::{CompactList, ListedKey, Place, front_of};
 use dnsv_records::Rrsig;
 use std::alloc::{AllocError, Global};
 
-/// The compact list of entries that are asked of the RRsets: in lines, or in JSON with the moment, in seconds since
-/// 1970-01-01 00:00:00 UTC. The error is that memory ran out.
+/// The compact list of entries that are asked of the RRsets: in lines, or in JSON with the moment or the range. The error
+/// is that memory ran out.
 pub fn compact_text(
     alloc: Global,
     format: Format,
-    moment: u64,
+    moments: Moments,
     rrsets: &[Rrset<'_>],
     list: &CompactList<'_>,
 ) -> Result<String, AllocError>
     ensures { IfOk result (λ text. (listed : List ListedRrset) × ListsRrsets list.now.todo 1 rrsets.now listed
-        × (string_bytes text ≡ specs.compact_text format moment (record {
+        × (string_bytes text ≡ specs.compact_text format moments (record {
           keys = list.now.keys;
           rrsets = listed;
           todo = list.now.todo;
@@ -32,7 +33,7 @@ pub fn compact_text(
 {
     match format {
         Format::Lines => compact_lines(alloc, rrsets, list),
-        Format::Json => json::compact_json(alloc, moment, rrsets, list),
+        Format::Json => json::compact_json(alloc, moments, rrsets, list),
     }
 }
 

@@ -5,6 +5,7 @@ ghost use Rattle.dnsv_texts.specs.Json.{octets_json};
 pub mod checking;
 pub mod compact;
 pub mod explaining;
+pub mod moments;
 pub mod refused;
 pub mod todo;
 

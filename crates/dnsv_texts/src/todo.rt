@@ -5,22 +5,23 @@ ghost use Rattle.dnsv_texts.specs.Todo as specs;
 use crate::format::Format;
 use crate::hex_text::push_hex_text;
 use crate::json::todo::todo_json;
+use dnsv_answers::Moments;
 use dnsv_verifier::{Entries, Entry};
 use std::alloc::{AllocError, Global};
 
-/// The text of the entries that are still to be checked: in lines, or in JSON with the moment, in seconds since
-/// 1970-01-01 00:00:00 UTC. The error is that memory ran out.
+/// The text of the entries that are still to be checked: in lines, or in JSON with the moment or the range. The error is
+/// that memory ran out.
 pub fn todo_text(
     alloc: Global,
     format: Format,
-    moment: u64,
+    moments: Moments,
     entries: &Entries<'_>,
 ) -> Result<String, AllocError>
-    ensures { IfOk result (λ text. string_bytes text ≡ specs.todo_text format moment entries.now) }
+    ensures { IfOk result (λ text. string_bytes text ≡ specs.todo_text format moments entries.now) }
 {
     match format {
         Format::Lines => todo_lines(alloc, entries),
-        Format::Json => todo_json(alloc, moment, entries),
+        Format::Json => todo_json(alloc, moments, entries),
     }
 }
 

@@ -1,3 +1,4 @@
+pub mod AlikeLemmas
 pub mod DerivationLemmas
 pub mod MomentLemmas
 pub mod SaidLemmas

@@ -28,6 +28,18 @@ alike a b (entry ∷ entries) same =
     let first : a entry ≡ b entry = same entry (is_first entry entries) in
     λ i. (entry, first i) ∷ rest i
 
+-- a table of what one verifier says is that of another that answers alike what is asked
+pub table_alike : (a b : Entry → Answer) (moment : ℕ) (rrsets : List ReceivedRrset)
+    → ((entry : Entry) → IsAsked moment rrsets entry → a entry ≡ b entry)
+    → (contents : TableContents) → IsTableOf a moment rrsets contents → IsTableOf b moment rrsets contents
+table_alike a b moment rrsets same contents of = record {
+  of_moment = of.of_moment;
+  entries = of.entries;
+  rising = of.rising;
+  asked = of.asked;
+  answers = of.answers ∙ alike a b of.entries (λ entry there. same entry ((of.asked entry).0 there));
+}
+
 module _ (meaning : Entry → Answer) (from to : ℕ) (rrsets : List ReceivedRrset) (within : TableContents)
     (is : IsTableWithin meaning from to rrsets within) where
   -- it says what the verifier says of each entry that is asked at a moment of the range
@@ -49,22 +61,8 @@ module _ (meaning : Entry → Answer) (from to : ℕ) (rrsets : List ReceivedRrs
 
     -- asked in the verifier's place, it gives the verifier's table of the moment
     pub table_by_range : (contents : TableContents) → IsTableOf (table_answer within) moment rrsets contents → IsTableOf meaning moment rrsets contents
-    table_by_range contents of = record {
-      of_moment = of.of_moment;
-      entries = of.entries;
-      rising = of.rising;
-      asked = of.asked;
-      answers = of.answers
-          ∙ alike (table_answer within) meaning of.entries (λ entry there. at_moment_of entry ((of.asked entry).0 there));
-    }
+    table_by_range = table_alike (table_answer within) meaning moment rrsets at_moment_of
 
     -- and the other way
     pub range_by_table : (contents : TableContents) → IsTableOf meaning moment rrsets contents → IsTableOf (table_answer within) moment rrsets contents
-    range_by_table contents of = record {
-      of_moment = of.of_moment;
-      entries = of.entries;
-      rising = of.rising;
-      asked = of.asked;
-      answers = of.answers
-          ∙ alike meaning (table_answer within) of.entries (λ entry there. sym (at_moment_of entry ((of.asked entry).0 there)));
-    }
+    range_by_table = table_alike meaning (table_answer within) moment rrsets (λ entry asked. sym (at_moment_of entry asked))

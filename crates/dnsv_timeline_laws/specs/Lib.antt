@@ -1,3 +1,4 @@
+pub mod Alike
 pub mod Kinds
 pub mod Said
 pub mod SameValid

@@ -15,7 +15,6 @@ use Rattle.dnsv_derivations.specs.intervals.Holding.{signature_shown}
 use Rattle.dnsv_lines.specs.declared.line.Line.{Line}
 use Rattle.dnsv_texts.specs.Told.{told_text}
 use Rattle.dnsv_texts.specs.declared.format.Format.{Format}
-use Rattle.dnsv_texts.specs.declared.format.Format.TheVariants.{Lines}
 use Rattle.dnsv_explain.specs.Derived.{AreLinksDerived, IsDerivationOf, alias_of}
 use Rattle.dnsv_timeline_laws.specs.Kinds.{verdict_kind}
 use Rattle.dnsv_timeline_laws.specs.SameValid.{at_moment}
@@ -85,11 +84,3 @@ pub data IsSaid (format : Format) (basis : Basis) (name : Labels) (t : ℕ) (sai
 -- by the same evidence, anchors and verifier at another moment
 abbrev pub IsSaidAt : Format → Basis → Labels → ℕ → ℕ → Said → Type 0
 IsSaidAt format basis name t moment = IsSaid format (at_moment basis moment) name t
-
--- ---- kinds alone
-
--- that of what is said at the moment, in whatever format
-pub record IsKindAt (basis : Basis) (name : Labels) (t moment : ℕ) (kind : Kind) : Type 0 where
-  pub said : Said
-  pub is : IsSaidAt Lines basis name t moment said
-  pub kind_is : kind ≡ said.told.kind

@@ -11,11 +11,11 @@ ghost use Rattle.dnsv_timeline.specs.declared.times.Times.{Times};
 ghost use Rattle.dnsv_texts.specs.declared.format.Format.{Format};
 ghost use Rattle.dnsv_lines.specs.declared.line.Line.{Line};
 ghost use Rattle.dnsv_explain.specs.Derived.{AreLinksDerived, IsDerivationOf};
-ghost use Rattle.dnsv_timeline_laws.specs.Said.{IsKindAt, IsSaid, IsSaidAt, Said};
+ghost use Rattle.dnsv_timeline_laws.specs.Said.{IsSaid, IsSaidAt, Said};
+ghost use Rattle.dnsv_timeline_laws.specs.Alike.{AreAnsweredAlike};
 ghost use Rattle.dnsv_timeline_laws.specs.SameValid.{AreSignaturesSameValid, HaveTimes, at_moment};
-ghost use Rattle.dnsv_timeline_laws.specs.declared.kind.Kind.{Kind};
 ghost use Rattle.dnsv_verifier.specs.Within.{IsAskedWithin, IsTableWithin};
-ghost use Rattle.dnsv_verdict.specs.Verdict.{Basis, IsVerdictAt};
+ghost use Rattle.dnsv_verdict.specs.Verdict.{Basis, IsVerdictAt, with_meaning};
 ghost use Rattle.dnsv_verdict.specs.Way.{IsRefusal, IsVerdictOf};
 ghost use Rattle.dnsv_verdict.specs.declared.error.VerdictError.{VerdictError};
 ghost use Rattle.dnsv_verdict.specs.declared.link.Link.{Link};
@@ -23,7 +23,8 @@ ghost use Rattle.dnsv_verifier.specs.declared.answer.Answer.{Answer};
 ghost use Rattle.dnsv_verifier.specs.declared.entry.Entry.{Entry};
 ghost use Rattle.dnsv_verifier.specs.Table.{IsTableOf, TableContents, table_answer};
 
-use dnsv_verdict::{Verdict, a_question_leads_one_way};
+use dnsv_chain::trust_depends_on_what_is_asked;
+use dnsv_verdict::{Verdict, a_question_leads_one_way, a_question_stops_at_one_alias};
 
 /// Where the same signatures of the evidence are valid at two moments (RFC 4034 3.1.5), the same is said: the verdict at
 /// a name, the verdict on a question with the way that leads to it, and what a question is refused for.
@@ -66,24 +67,35 @@ pub fn the_times_of_all_signatures_tell()
 {}
 
 /// What is said of a question at a moment, which is what `check` tells of it with the signatures that derive it, depends
-/// on the moment through the validity of the evidence's signatures alone; so does its kind. So both have timelines.
+/// on the moment through the validity of the evidence's signatures alone. So it has a timeline.
 pub fn what_is_said_depends_on_signatures()
-    ensures said { (format : Format) (basis : Basis) (name : Labels) (t : ℕ) (signatures : List Times)
+    ensures { (format : Format) (basis : Basis) (name : Labels) (t : ℕ) (signatures : List Times)
         → HaveTimes basis.rrsets signatures → DependsOn (IsSaidAt format basis name t) signatures }
-    ensures kinds { (basis : Basis) (name : Labels) (t : ℕ) (signatures : List Times)
-        → HaveTimes basis.rrsets signatures → DependsOn (IsKindAt basis name t) signatures }
 {}
 
-/// At a moment one thing is told of a question, whichever signatures derive it; and of kinds alone it has at most one
-/// timeline.
-pub fn one_thing_is_told_of_a_question()
-    ensures told { (format : Format) (basis : Basis) (name : Labels) (t : ℕ) (said other : Said)
-        → IsSaid format basis name t said → IsSaid format basis name t other → said.told ≡ other.told }
-    ensures kinds { (basis : Basis) (name : Labels) (t from to : ℕ) (kinds others : List (Stretch Kind))
-        → IsTimelineBy (IsKindAt basis name t) from to kinds → IsTimelineBy (IsKindAt basis name t) from to others
-        → kinds ≡ others }
+/// And it depends on the verifier through what is asked at the moment alone; so does what a question is refused for.
+pub fn what_is_said_depends_on_what_is_asked()
+    ensures said { (format : Format) (basis : Basis) (other : Entry → Answer) (name : Labels) (t : ℕ) (said : Said)
+        → AreAnsweredAlike basis other
+        → IsSaid format basis name t said → IsSaid format (with_meaning basis other) name t said }
+    ensures refused { (basis : Basis) (other : Entry → Answer) (name : Labels) (t : ℕ) (error : VerdictError)
+        → AreAnsweredAlike basis other
+        → IsRefusal basis name t error → IsRefusal (with_meaning basis other) name t error }
+{
+    trust_depends_on_what_is_asked();
+}
+
+/// At a moment one thing is told of a question, and one list of signatures derives it. So it has at most one timeline.
+pub fn one_thing_is_said_of_a_question()
+    ensures said { (format : Format) (basis : Basis) (name : Labels) (t : ℕ) (said other : Said)
+        → IsSaid format basis name t said → IsSaid format basis name t other → said ≡ other }
+    ensures timeline { (format : Format) (basis : Basis) (name : Labels) (t from to : ℕ)
+        (stretches others : List (Stretch Said))
+        → IsTimelineBy (IsSaidAt format basis name t) from to stretches
+        → IsTimelineBy (IsSaidAt format basis name t) from to others → stretches ≡ others }
 {
     a_question_leads_one_way();
+    a_question_stops_at_one_alias();
 }
 
 /// A table of what a verifier says of each entry that may be verified at some moment of a range serves in the verifier's

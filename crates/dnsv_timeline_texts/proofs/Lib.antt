@@ -1,3 +1,4 @@
+mod OneTextLemmas
 mod PieceLemmas
 mod ShownLemmas
 mod TextLemmas

@@ -12,7 +12,7 @@ EQUATION = re.compile(r"^(\w+) (\S.*) = ([\w ]+)$", re.MULTILINE)
 WHERE = {"Name": {"name"}, "Question": {"type", "-"}, "KeyLine": {"keys"}, "MacSyntax": {"macs"}, "MacCount": {"macs"},
          "ZeroLength": {"capture"}, "TornFrame": {"capture"}, "Message": {"capture"}, "Tsig": {"capture"},
          "Evidence": {"capture"}, "AnchorLine": {"anchors"}, "StatementLine": {"statements"},
-         "AnswerLine": {"answers"}, "QuestionLine": {"questions"}}
+         "AnswerLine": {"answers"}, "QuestionLine": {"questions"}, "BadRange": {"-"}}
 # Where the words of an explanation's lines are written, and the keys of their objects.
 LINES = ("dnsv_lines/src/**/*.rt",)
 

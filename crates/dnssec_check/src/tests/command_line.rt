@@ -55,146 +55,16 @@ $ dnssec_check explain --capture a --anchors b --moment 1 --name c. --type 1 --a
 ! 
 ~ help
 
-# Words that are no command: status 2, nothing on the output, a text on the errors.
-$ 
-=> 2
-! 
-~ help
+# The first moment is not behind the last.
+a = 
+$ dnssec_check list --to 4 --capture a --compact --from 5
+=> 7
+! refused 821
 
-$ dnssec_check
-=> 2
-! 
-~ help
-
-$ dnssec_check list
-=> 2
-! 
-~ help
-
-$ dnssec_check show
-=> 2
-! 
-~ help
-
-$ dnssec_check show --capture
-=> 2
-! 
-~ help
-
-$ dnssec_check show --moment 1
-=> 2
-! 
-~ help
-
-$ dnssec_check show --capture a --moment 1
-=> 2
-! 
-~ help
-
-$ dnssec_check show --capture a --all
-=> 2
-! 
-~ help
-
-$ dnssec_check show --capture a --capture a
-=> 2
-! 
-~ help
-
-$ dnssec_check show --capture a b
-=> 2
-! 
-~ help
-
-$ dnssec_check help
-=> 2
-! 
-~ help
-
-$ dnssec_check list --capture a --all
-=> 2
-! 
-~ help
-
-$ dnssec_check list --moment 1 --all
-=> 2
-! 
-~ help
-
-$ dnssec_check list --capture --moment 1 --all
-=> 2
-! 
-~ help
-
-$ dnssec_check list --capture a --moment 281474976710656 --all
-=> 2
-! 
-~ help
-
-$ dnssec_check list --capture a --moment -1 --all
-=> 2
-! 
-~ help
-
-$ dnssec_check list --capture a --moment= --all
-=> 2
-! 
-~ help
-
-$ dnssec_check list --capture a --moment 1 --statements
-=> 2
-! 
-~ help
-
-$ dnssec_check list --capture a --moment 1 --statements b --statements b
-=> 2
-! 
-~ help
-
-$ dnssec_check list --capture a --moment 1 --all=true
-=> 2
-! 
-~ help
-
-$ dnssec_check show --capture a --json
-=> 2
-! 
-~ help
-
-$ dnssec_check list --capture a --moment 1 --all --all
-=> 2
-! 
-~ help
-
-$ dnssec_check show --capture a --statements b
-=> 2
-! 
-~ help
-
-$ dnssec_check list --capture a --capture a --moment 1 --all
-=> 2
-! 
-~ help
-
-$ dnssec_check list --capture a --moment 1 --all b
-=> 2
-! 
-~ help
-
-$ dnssec_check list --capture a --moment 1 --keys b
-=> 2
-! 
-~ help
-
-$ dnssec_check check --capture a --anchors b --moment 1 --name c. --type 1 --keys
-=> 2
-! 
-~ help
-
-$ dnssec_check check --capture a --anchors b --moment 1 --name c. --type 65536
-=> 2
-! 
-~ help
+a = 
+$ dnssec_check timeline --to 4 --capture a --anchors b --name c. --type 1 --from 5 --kinds --json
+=> 7
+! refused 821
 
 # Words that are all taken are 19; one more has no place.
 a = 
@@ -231,6 +101,7 @@ $ dnssec_check --help
 ~ show
 ~ check
 ~ explain
+~ timeline
 ~ dnssec_check-judge does all three
 
 $ dnssec_check show --help
@@ -245,6 +116,8 @@ $ dnssec_check list --help
 ~ Lists the signatures that a verifier still has to check
 ~ --capture <FILE>
 ~ --moment <N>
+~ --from <N>
+~ --to <N>
 ~ --all
 ~ --statements <FILE>
 ~ Exit status: 0 where the list is whole, also where it is empty, 7 where a file is refused,
@@ -268,6 +141,15 @@ $ dnssec_check explain --help
 ~ --json
 ~ Exit status: that of check
 ~ dnssec_check explain --capture
+
+$ dnssec_check timeline --help
+=> 0
+~ Says what check says at each moment of a range
+~ --from <N>
+~ --to <N>
+~ --kinds
+~ Exit status: 0 where the timeline is whole, 7 where the question, the range or a file is refused,
+~ dnssec_check timeline --capture
 
 # The version: status 0, on the output, in a line; no subcommand has one.
 $ dnssec_check --version

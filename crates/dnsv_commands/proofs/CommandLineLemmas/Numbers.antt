@@ -1,13 +1,13 @@
 -- Options whose value is a number within limits.
-use Rattle.std.proofs.Common.{subst, true, ◌≡◌}
+use Rattle.std.proofs.Common.{subst, ◌≡◌}
 use Rattle.std.specs.Prelude.{ℤ, Option, Some, pos}
 use Rattle.clap.specs.Words.{NarrowsTo, Rule}
 use Rattle.clap.specs.declared.builder.ValueParser.{ValueParser}
 use Rattle.clap.specs.declared.builder.ValueParser.TheVariants as parser
 
--- a rule with this reader of its value, which has to be given
-abbrev pub demanded : Option ValueParser → Rule → Rule
-demanded p r = record r { parser = p; required = true }
+-- a rule with this reader of its value
+abbrev pub read_by : Option ValueParser → Rule → Rule
+read_by p r = record r { parser = p }
 
 -- a reader of any number, narrowed to those up to the greatest one
 pub narrowed_to : (greatest first last : ℤ) (r : ValueParser) → NarrowsTo (parser.Unsigned 0 18446744073709551615) (Some first) (Some last) r

@@ -1,5 +1,5 @@
 -- The values that a subcommand without a fault has.
-use Rattle.std.proofs.Common.{◌≡◌, ◌∙◌, Bool, true, false, not, List, Option, Some, None, ap, refl, sym, subst, inl, inr}
+use Rattle.std.proofs.Common.{◌≡◌, ◌∙◌, ℕ, Bool, true, false, not, List, Option, Some, None, ap, refl, sym, subst, inl, inr}
 use Rattle.std.proofs.lemmas.Slice.Eq.{bytes_eq-Decides}
 use Rattle.clap.specs.Words.{Text}
 use Rattle.std.specs.Prelude.{◌&&◌, ◌||◌, [], ◌∷◌, is_some, cond, codes, find, slice_get, unwrap_or}
@@ -13,9 +13,11 @@ use Rattle.clap.specs.Simple.{App, Shape, built, built_leaf, filled, inherited, 
 use Rattle.clap.specs.Takes.{is_given, value_passes}
 use Rattle.clap.specs.Values.{read_as}
 use Rattle.clap.specs.Walk.{Row, Rule, first_of, one_of, reading_by}
+use Rattle.clap.specs.Words.{new_rule}
 use Rattle.dnsv_commands.proofs.CommandLineLemmas.Rows.{AreRowsIn, IsIn, IsRowIn, IsRowOf, StartsPassing}
-use Rattle.dnsv_commands.specs.Commands.{all_rule, anchors_rule, capture_rule, compact_rule, json_rule, list_app, moment_rule, program_app, question_app, show_app, type_rule}
-use Rattle.dnsv_commands.specs.CommandLine.{HasCapture, HasCheckValues, HasListValues, HasNumber, IsFlag, MayHaveNumber}
+use Rattle.clap.specs.declared.builder.ArgAction.TheVariants.{SetTrue}
+use Rattle.dnsv_commands.specs.Commands.{anchors_rule, capture_rule, list_app, moment_rule, name_rule, needed, program_app, question_app, show_app, timeline_app, type_rule}
+use Rattle.dnsv_commands.specs.CommandLine.{HasCapture, HasCheckValues, HasListValues, HasNumber, HasTimelineValues, HasValue, IsFlag, MayHaveNumber}
 use Rattle.dnsv_files.specs.Moment.{last_moment}
 
 -- what building makes of the program and of its subcommands
@@ -34,8 +36,11 @@ list_shape = leaf list_app
 abbrev pub question_shape : Bool → Shape
 question_shape why = leaf (question_app why)
 
+abbrev pub timeline_shape : Shape
+timeline_shape = leaf timeline_app
+
 abbrev pub sub_shapes : List Shape
-sub_shapes = show_shape ∷ list_shape ∷ question_shape false ∷ question_shape true ∷ []
+sub_shapes = show_shape ∷ list_shape ∷ question_shape false ∷ question_shape true ∷ timeline_shape ∷ []
 
 -- an argument has a value that it takes
 abbrev HasValueOf : Rule → Text → List Row → Type 0
@@ -129,45 +134,52 @@ required_value s a rows only at required negates all fault =
     (not (s.subcommand_negates_reqs && false) && list_any (λ a. a.required && not (is_given a.id rows)) s.rules) fault in
     value_given s a.id a rows only all (given_where_required s.rules rows a (rw negates at missing) at required)
 
+has_value : (a : Rule) (id : Text) (rows : List Row) → HasValueOf a id rows → HasValue id rows
+has_value a id rows value = ap is_some value.1
+
 -- the options, as built
 abbrev built_capture : Rule
 built_capture = filled capture_rule
 
-abbrev built_moment : Rule
-built_moment = filled moment_rule
-
-abbrev built_all : Rule
-built_all = filled all_rule
-
-abbrev built_compact : Rule
-built_compact = filled compact_rule
-
-abbrev built_json : Rule
-built_json = filled json_rule
-
 abbrev built_anchors : Rule
 built_anchors = filled anchors_rule
+
+abbrev built_moment : Text → Rule
+built_moment word = filled (moment_rule word)
 
 abbrev built_type : Rule
 built_type = filled type_rule
 
--- ---- the values of each subcommand
+abbrev built_flag : Text → Rule
+built_flag word = filled (record (new_rule word) { long = Some word; action = Some SetTrue })
 
-pub show_values : (rows : List Row) → AreRowsIn show_shape.rules rows → check_fault show_shape rows false ≡ [] → HasCapture rows
-show_values rows all fault =
-    let file = required_value show_shape built_capture rows (λ e. refl, (λ e. cc, tt)) (inl refl) refl refl all fault in
-    ap is_some file.1
+-- those that have to be there
+abbrev needed_moment : Text → Rule
+needed_moment word = filled (needed (moment_rule word))
 
-moment_has : (rows : List Row) → HasValueOf built_moment (codes "moment") rows → HasNumber (codes "moment") last_moment rows
-moment_has rows number = (number.0, number.1, number.2, number.3)
+abbrev needed_name : Rule
+needed_name = filled (needed name_rule)
 
--- the number of a type that may be given
-type_may : (s : Shape) (rows : List Row) → IsOnly s.rules (codes "type") built_type → AreRowsIn s.rules rows → MayHaveNumber (codes "type") 65535 rows
-type_may s rows only all = go (find (λ r. bytes_eq r.id (codes "type")) rows) refl
+abbrev needed_type : Rule
+needed_type = filled (needed type_rule)
+
+-- ---- numbers and flags
+
+-- the number of an option that may be given
+number_may : (s : Shape) (a : Rule) (id : Text) (last : ℕ) (rows : List Row) → (HasValueOf a id rows → HasNumber id last rows)
+    → IsOnly s.rules id a → AreRowsIn s.rules rows → MayHaveNumber id last rows
+number_may s a id last rows has only all = go (find (λ r. bytes_eq r.id id) rows) refl
   where
-    go : (o : Option Row) → find (λ r. bytes_eq r.id (codes "type")) rows ≡ o → MayHaveNumber (codes "type") 65535 rows
+    go : (o : Option Row) → find (λ r. bytes_eq r.id id) rows ≡ o → MayHaveNumber id last rows
     go None is = inl (rw is refl, rw is refl)
-    go (Some r) is = let number = value_found s (codes "type") built_type rows r only all is in inr (number.0, number.1, number.2, number.3)
+    go (Some r) is = inr (has (value_found s id a rows r only all is))
+
+moment_may : (s : Shape) (word : Text) (rows : List Row) → IsOnly s.rules word (built_moment word) → AreRowsIn s.rules rows
+    → MayHaveNumber word last_moment rows
+moment_may s word rows = number_may s (built_moment word) word last_moment rows (λ number. (number.0, number.1, number.2, number.3))
+
+type_may : (s : Shape) (rows : List Row) → IsOnly s.rules (codes "type") built_type → AreRowsIn s.rules rows → MayHaveNumber (codes "type") 65535 rows
+type_may s rows = number_may s built_type (codes "type") 65535 rows (λ number. (number.0, number.1, number.2, number.3))
 
 -- the text of a flag, by what the flag takes
 flag_text : (text : Text) → (bytes_eq text (codes "true") || bytes_eq text (codes "false")) ≡ true → IsFlag (Some text)
@@ -178,67 +190,83 @@ flag_text text passes = go (bytes_eq text (codes "true")) (bytes_eq text (codes 
     go false true is_x is_y e = inr (inr (ap (λ t. Some t) ((bytes_eq-Decides text (codes "false")).0 is_y)))
     go false false is_x is_y e = cc
 
-all_has : (rows : List Row) → IsOnly list_shape.rules (codes "all") built_all → AreRowsIn list_shape.rules rows → IsFlag (one_of (codes "all") rows)
-all_has rows only all = go (find (λ r. bytes_eq r.id (codes "all")) rows) refl
+flag_has : (s : Shape) (word : Text) (rows : List Row) → IsOnly s.rules word (built_flag word) → AreRowsIn s.rules rows → IsFlag (one_of word rows)
+flag_has s word rows only all = go (find (λ r. bytes_eq r.id word) rows) refl
   where
-    go : (o : Option Row) → find (λ r. bytes_eq r.id (codes "all")) rows ≡ o → IsFlag (one_of (codes "all") rows)
+    go : (o : Option Row) → find (λ r. bytes_eq r.id word) rows ≡ o → IsFlag (one_of word rows)
     go None is = inl (rw is refl)
     go (Some r) is =
-        let value = value_found list_shape (codes "all") built_all rows r only all is in
+        let value = value_found s word (built_flag word) rows r only all is in
         subst IsFlag (sym value.2) (flag_text value.0 value.3)
 
-compact_has : (rows : List Row) → IsOnly list_shape.rules (codes "compact") built_compact → AreRowsIn list_shape.rules rows → IsFlag (one_of (codes "compact") rows)
-compact_has rows only all = go (find (λ r. bytes_eq r.id (codes "compact")) rows) refl
-  where
-    go : (o : Option Row) → find (λ r. bytes_eq r.id (codes "compact")) rows ≡ o → IsFlag (one_of (codes "compact") rows)
-    go None is = inl (rw is refl)
-    go (Some r) is =
-        let value = value_found list_shape (codes "compact") built_compact rows r only all is in
-        subst IsFlag (sym value.2) (flag_text value.0 value.3)
+-- ---- the values of each subcommand
 
-json_has : (s : Shape) (rows : List Row) → IsOnly s.rules (codes "json") built_json → AreRowsIn s.rules rows → IsFlag (one_of (codes "json") rows)
-json_has s rows only all = go (find (λ r. bytes_eq r.id (codes "json")) rows) refl
-  where
-    go : (o : Option Row) → find (λ r. bytes_eq r.id (codes "json")) rows ≡ o → IsFlag (one_of (codes "json") rows)
-    go None is = inl (rw is refl)
-    go (Some r) is =
-        let value = value_found s (codes "json") built_json rows r only all is in
-        subst IsFlag (sym value.2) (flag_text value.0 value.3)
+pub show_values : (rows : List Row) → AreRowsIn show_shape.rules rows → check_fault show_shape rows false ≡ [] → HasCapture rows
+show_values rows all fault =
+    let file = required_value show_shape built_capture rows (λ e. refl, (λ e. cc, tt)) (inl refl) refl refl all fault in
+    has_value built_capture (codes "capture") rows file
 
 pub list_values : (rows : List Row) → AreRowsIn list_shape.rules rows → check_fault list_shape rows false ≡ [] → HasListValues rows
 list_values rows all fault =
-    let file = required_value list_shape built_capture rows (λ e. refl, (λ e. cc, (λ e. cc, (λ e. cc, (λ e. cc, (λ e. cc, (λ e. cc, tt))))))) (inl refl) refl refl all fault in
-    let number = required_value list_shape built_moment rows (λ e. cc, (λ e. refl, (λ e. cc, (λ e. cc, (λ e. cc, (λ e. cc, (λ e. cc, tt))))))) (inr (inl refl)) refl refl all fault in (
-      ap is_some file.1,
-      moment_has rows number,
-      all_has rows (λ e. cc, (λ e. cc, (λ e. cc, (λ e. refl, (λ e. cc, (λ e. cc, (λ e. cc, tt))))))) all,
-      compact_has rows (λ e. cc, (λ e. cc, (λ e. cc, (λ e. cc, (λ e. refl, (λ e. cc, (λ e. cc, tt))))))) all,
-      json_has list_shape rows (λ e. cc, (λ e. cc, (λ e. cc, (λ e. cc, (λ e. cc, (λ e. refl, (λ e. cc, tt))))))) all,
+    let file = required_value list_shape built_capture rows (λ e. refl, (λ e. cc, (λ e. cc, (λ e. cc, (λ e. cc, (λ e. cc, (λ e. cc, (λ e. cc, (λ e. cc, tt))))))))) (inl refl) refl refl all fault in (
+      has_value built_capture (codes "capture") rows file,
+      (
+        moment_may list_shape (codes "moment") rows (λ e. cc, (λ e. refl, (λ e. cc, (λ e. cc, (λ e. cc, (λ e. cc, (λ e. cc, (λ e. cc, (λ e. cc, tt))))))))) all,
+        moment_may list_shape (codes "from") rows (λ e. cc, (λ e. cc, (λ e. refl, (λ e. cc, (λ e. cc, (λ e. cc, (λ e. cc, (λ e. cc, (λ e. cc, tt))))))))) all,
+        moment_may list_shape (codes "to") rows (λ e. cc, (λ e. cc, (λ e. cc, (λ e. refl, (λ e. cc, (λ e. cc, (λ e. cc, (λ e. cc, (λ e. cc, tt))))))))) all,
+      ),
+      flag_has list_shape (codes "all") rows (λ e. cc, (λ e. cc, (λ e. cc, (λ e. cc, (λ e. cc, (λ e. refl, (λ e. cc, (λ e. cc, (λ e. cc, tt))))))))) all,
+      flag_has list_shape (codes "compact") rows (λ e. cc, (λ e. cc, (λ e. cc, (λ e. cc, (λ e. cc, (λ e. cc, (λ e. refl, (λ e. cc, (λ e. cc, tt))))))))) all,
+      flag_has list_shape (codes "json") rows (λ e. cc, (λ e. cc, (λ e. cc, (λ e. cc, (λ e. cc, (λ e. cc, (λ e. cc, (λ e. refl, (λ e. cc, tt))))))))) all,
     )
 
-check_capture : (why : Bool) (rows : List Row) → AreRowsIn (question_shape why).rules rows → check_fault (question_shape why) rows false ≡ [] → HasValueOf built_capture built_capture.id rows
-check_capture why rows all fault =
-    required_value (question_shape why) built_capture rows (λ e. refl, (λ e. cc, (λ e. cc, (λ e. cc, (λ e. cc, (λ e. cc, (λ e. cc, (λ e. cc, (λ e. cc, (λ e. cc, (λ e. cc, (λ e. cc, tt)))))))))))) (inl refl) refl refl all fault
+module _ (why : Bool) (rows : List Row) (all : AreRowsIn (question_shape why).rules rows) (fault : check_fault (question_shape why) rows false ≡ []) where
+  check_capture : HasValueOf built_capture built_capture.id rows
+  check_capture = required_value (question_shape why) built_capture rows (λ e. refl, (λ e. cc, (λ e. cc, (λ e. cc, (λ e. cc, (λ e. cc, (λ e. cc, (λ e. cc, (λ e. cc, (λ e. cc, (λ e. cc, (λ e. cc, tt)))))))))))) (inl refl) refl refl all fault
 
-check_anchors : (why : Bool) (rows : List Row) → AreRowsIn (question_shape why).rules rows → check_fault (question_shape why) rows false ≡ [] → HasValueOf built_anchors built_anchors.id rows
-check_anchors why rows all fault =
-    required_value (question_shape why) built_anchors rows (λ e. cc, (λ e. refl, (λ e. cc, (λ e. cc, (λ e. cc, (λ e. cc, (λ e. cc, (λ e. cc, (λ e. cc, (λ e. cc, (λ e. cc, (λ e. cc, tt)))))))))))) (inr (inl refl)) refl refl all fault
+  check_anchors : HasValueOf built_anchors built_anchors.id rows
+  check_anchors = required_value (question_shape why) built_anchors rows (λ e. cc, (λ e. refl, (λ e. cc, (λ e. cc, (λ e. cc, (λ e. cc, (λ e. cc, (λ e. cc, (λ e. cc, (λ e. cc, (λ e. cc, (λ e. cc, tt)))))))))))) (inr (inl refl)) refl refl all fault
 
-check_moment : (why : Bool) (rows : List Row) → AreRowsIn (question_shape why).rules rows → check_fault (question_shape why) rows false ≡ [] → HasValueOf built_moment built_moment.id rows
-check_moment why rows all fault =
-    required_value (question_shape why) built_moment rows (λ e. cc, (λ e. cc, (λ e. refl, (λ e. cc, (λ e. cc, (λ e. cc, (λ e. cc, (λ e. cc, (λ e. cc, (λ e. cc, (λ e. cc, (λ e. cc, tt)))))))))))) (inr (inr (inl refl))) refl refl all fault
+  check_moment : HasValueOf (needed_moment (codes "moment")) (codes "moment") rows
+  check_moment =
+      required_value (question_shape why) (needed_moment (codes "moment")) rows (λ e. cc, (λ e. cc, (λ e. refl, (λ e. cc, (λ e. cc, (λ e. cc, (λ e. cc, (λ e. cc, (λ e. cc, (λ e. cc, (λ e. cc, (λ e. cc, tt)))))))))))) (inr (inr (inl refl))) refl refl all fault
 
-check_type : (why : Bool) (rows : List Row) → AreRowsIn (question_shape why).rules rows → MayHaveNumber (codes "type") 65535 rows
-check_type why rows all = type_may (question_shape why) rows (λ e. cc, (λ e. cc, (λ e. cc, (λ e. cc, (λ e. refl, (λ e. cc, (λ e. cc, (λ e. cc, (λ e. cc, (λ e. cc, (λ e. cc, (λ e. cc, tt)))))))))))) all
+  pub check_values : HasCheckValues rows
+  check_values = (
+    has_value built_capture (codes "capture") rows check_capture,
+    has_value built_anchors (codes "anchors") rows check_anchors,
+    (check_moment.0, check_moment.1, check_moment.2, check_moment.3),
+    type_may (question_shape why) rows (λ e. cc, (λ e. cc, (λ e. cc, (λ e. cc, (λ e. refl, (λ e. cc, (λ e. cc, (λ e. cc, (λ e. cc, (λ e. cc, (λ e. cc, (λ e. cc, tt)))))))))))) all,
+    flag_has (question_shape why) (codes "json") rows (λ e. cc, (λ e. cc, (λ e. cc, (λ e. cc, (λ e. cc, (λ e. cc, (λ e. cc, (λ e. cc, (λ e. cc, (λ e. cc, (λ e. refl, (λ e. cc, tt)))))))))))) all,
+  )
 
-check_json : (why : Bool) (rows : List Row) → AreRowsIn (question_shape why).rules rows → IsFlag (one_of (codes "json") rows)
-check_json why rows all = json_has (question_shape why) rows (λ e. cc, (λ e. cc, (λ e. cc, (λ e. cc, (λ e. cc, (λ e. cc, (λ e. cc, (λ e. cc, (λ e. cc, (λ e. cc, (λ e. refl, (λ e. cc, tt)))))))))))) all
+module _ (rows : List Row) (all : AreRowsIn timeline_shape.rules rows) (fault : check_fault timeline_shape rows false ≡ []) where
+  timeline_capture : HasValueOf built_capture built_capture.id rows
+  timeline_capture = required_value timeline_shape built_capture rows (λ e. refl, (λ e. cc, (λ e. cc, (λ e. cc, (λ e. cc, (λ e. cc, (λ e. cc, (λ e. cc, (λ e. cc, (λ e. cc, (λ e. cc, tt))))))))))) (inl refl) refl refl all fault
 
-pub check_values : (why : Bool) (rows : List Row) → AreRowsIn (question_shape why).rules rows → check_fault (question_shape why) rows false ≡ [] → HasCheckValues rows
-check_values why rows all fault = (
-  ap is_some (check_capture why rows all fault).1,
-  ap is_some (check_anchors why rows all fault).1,
-  moment_has rows (check_moment why rows all fault),
-  check_type why rows all,
-  check_json why rows all,
-)
+  timeline_anchors : HasValueOf built_anchors built_anchors.id rows
+  timeline_anchors = required_value timeline_shape built_anchors rows (λ e. cc, (λ e. refl, (λ e. cc, (λ e. cc, (λ e. cc, (λ e. cc, (λ e. cc, (λ e. cc, (λ e. cc, (λ e. cc, (λ e. cc, tt))))))))))) (inr (inl refl)) refl refl all fault
+
+  timeline_from : HasValueOf (needed_moment (codes "from")) (codes "from") rows
+  timeline_from = required_value timeline_shape (needed_moment (codes "from")) rows (λ e. cc, (λ e. cc, (λ e. refl, (λ e. cc, (λ e. cc, (λ e. cc, (λ e. cc, (λ e. cc, (λ e. cc, (λ e. cc, (λ e. cc, tt))))))))))) (inr (inr (inl refl))) refl refl all fault
+
+  timeline_to : HasValueOf (needed_moment (codes "to")) (codes "to") rows
+  timeline_to = required_value timeline_shape (needed_moment (codes "to")) rows (λ e. cc, (λ e. cc, (λ e. cc, (λ e. refl, (λ e. cc, (λ e. cc, (λ e. cc, (λ e. cc, (λ e. cc, (λ e. cc, (λ e. cc, tt))))))))))) (inr (inr (inr (inl refl)))) refl refl all fault
+
+  timeline_name : HasValueOf needed_name (codes "name") rows
+  timeline_name = required_value timeline_shape needed_name rows (λ e. cc, (λ e. cc, (λ e. cc, (λ e. cc, (λ e. refl, (λ e. cc, (λ e. cc, (λ e. cc, (λ e. cc, (λ e. cc, (λ e. cc, tt))))))))))) (inr (inr (inr (inr (inl refl))))) refl refl all fault
+
+  timeline_type : HasValueOf needed_type (codes "type") rows
+  timeline_type = required_value timeline_shape needed_type rows (λ e. cc, (λ e. cc, (λ e. cc, (λ e. cc, (λ e. cc, (λ e. refl, (λ e. cc, (λ e. cc, (λ e. cc, (λ e. cc, (λ e. cc, tt))))))))))) (inr (inr (inr (inr (inr (inl refl)))))) refl refl all fault
+
+  pub timeline_values : HasTimelineValues rows
+  timeline_values = (
+    has_value built_capture (codes "capture") rows timeline_capture,
+    has_value built_anchors (codes "anchors") rows timeline_anchors,
+    (timeline_from.0, timeline_from.1, timeline_from.2, timeline_from.3),
+    (timeline_to.0, timeline_to.1, timeline_to.2, timeline_to.3),
+    has_value needed_name (codes "name") rows timeline_name,
+    (timeline_type.0, timeline_type.1, timeline_type.2, timeline_type.3),
+    flag_has timeline_shape (codes "kinds") rows (λ e. cc, (λ e. cc, (λ e. cc, (λ e. cc, (λ e. cc, (λ e. cc, (λ e. cc, (λ e. cc, (λ e. refl, (λ e. cc, (λ e. cc, tt))))))))))) all,
+    flag_has timeline_shape (codes "json") rows (λ e. cc, (λ e. cc, (λ e. cc, (λ e. cc, (λ e. cc, (λ e. cc, (λ e. cc, (λ e. cc, (λ e. cc, (λ e. refl, (λ e. cc, tt))))))))))) all,
+  )

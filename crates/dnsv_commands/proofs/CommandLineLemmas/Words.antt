@@ -27,12 +27,12 @@ use Rattle.dnsv_commands.specs.declared.command_line.CommandLineError.{CommandLi
 use Rattle.dnsv_commands.specs.declared.command_line.CommandLineError.TheVariants as line
 use Rattle.dnsv_commands.specs.declared.request.Request.{Request}
 use Rattle.dnsv_commands.proofs.CommandLineLemmas.Rows.{AreRowsIn}
-use Rattle.dnsv_commands.proofs.CommandLineLemmas.Values.{check_values, list_values, program_shape, show_values, sub_shapes}
+use Rattle.dnsv_commands.proofs.CommandLineLemmas.Values.{check_values, list_values, program_shape, show_values, sub_shapes, timeline_values}
 use Rattle.dnsv_commands.proofs.CommandLineLemmas.Walks.{AllLeaveValues, level_in}
 use Rattle.clap.proofs.ValueTestLemmas.{accepts-Accepts}
 use Rattle.dnsv_texts.specs.Checking.{question_word}
 use Rattle.dnsv_commands.specs.Commands.{program_app}
-use Rattle.dnsv_commands.specs.CommandLine.{Asks, AsksForTwoLists, GoesByBoth, HasCapture, HasCheckValues, HasListValues, IsAccepted, IsFlag, IsRefused, IsUnclear, error_of_kind, flag_said, command_line_error, is_asked, number_said}
+use Rattle.dnsv_commands.specs.CommandLine.{Asks, AsksForAllOfRange, AsksForTwoLists, GoesByBoth, HasCapture, HasCheckValues, HasListValues, HasTimelineValues, IsAccepted, IsFlag, IsRefused, IsUnclear, IsUndated, error_of_kind, flag_said, command_line_error, is_asked, number_said}
 use Rattle.std.specs.Option.{SomeIff}
 use Rattle.dnsv_files.specs.Moment.{IsMoment}
 
@@ -50,7 +50,7 @@ number_reads last E G text None read only passed =
     absurd (only text (Err read.0) read.1 (within.0, within.1))
 
 -- what `Moment::new` makes of a number within the bounds
-made : (o : Option ℕ) (n : ℕ) → SomeIff o (IsMoment n) n → IsMoment n → o ≡ Some n
+pub made : (o : Option ℕ) (n : ℕ) → SomeIff o (IsMoment n) n → IsMoment n → o ≡ Some n
 made None n refused fits = absurd (refused fits)
 made (Some m) n gives fits = ap (λ k. Some k) gives.1
 
@@ -139,21 +139,24 @@ flag_read text given (inr (inr is)) none some other = ap flag_said is ∙ sym (o
 -- a name and rows are those of one of the subcommands, with its values
 abbrev pub IsCommand : Text → List Row → Type 0
 IsCommand name rows = ((name ≡ codes "show") × HasCapture rows)
-    ⊎ (((name ≡ codes "list") × HasListValues rows) ⊎ ((why : Bool) × (name ≡ question_word why) × HasCheckValues rows))
+    ⊎ ((name ≡ codes "list") × HasListValues rows)
+    ⊎ ((why : Bool) × (name ≡ question_word why) × HasCheckValues rows)
+    ⊎ ((name ≡ codes "timeline") × HasTimelineValues rows)
 
 -- whatever the program takes is a subcommand with its values
 pub taken : (words : List Text) → fault_of program_app words ≡ []
     → (name : Text) × (rows : List Row) × (subcommand_of program_app words ≡ Some (name, rows)) × IsCommand name rows
 taken words none =
-    of (one_entered program_shape sub_shapes (argument_words program_app words) refl (refl, (refl, (refl, (refl, tt)))) refl none)
+    of (one_entered program_shape sub_shapes (argument_words program_app words) refl (refl, (refl, (refl, (refl, (refl, tt))))) refl none)
   where
     of : EntersOneOf (subcommand_of program_app words) sub_shapes
         → (name : Text) × (rows : List Row) × (subcommand_of program_app words ≡ Some (name, rows)) × IsCommand name rows
     of (inl show) = (codes "show", show.0, show.1, inl (refl, show_values show.0 show.2 show.3))
     of (inr (inl list)) = (codes "list", list.0, list.1, inr (inl (refl, list_values list.0 list.2 list.3)))
-    of (inr (inr (inl check))) = (codes "check", check.0, check.1, inr (inr (false, refl, check_values false check.0 check.2 check.3)))
-    of (inr (inr (inr (inl explain)))) = (codes "explain", explain.0, explain.1, inr (inr (true, refl, check_values true explain.0 explain.2 explain.3)))
-    of (inr (inr (inr (inr none)))) = absurd none
+    of (inr (inr (inl check))) = (codes "check", check.0, check.1, inr (inr (inl (false, refl, check_values false check.0 check.2 check.3))))
+    of (inr (inr (inr (inl explain)))) = (codes "explain", explain.0, explain.1, inr (inr (inl (true, refl, check_values true explain.0 explain.2 explain.3))))
+    of (inr (inr (inr (inr (inl timeline))))) = (codes "timeline", timeline.0, timeline.1, inr (inr (inr (refl, timeline_values timeline.0 timeline.2 timeline.3))))
+    of (inr (inr (inr (inr (inr none))))) = absurd none
 
 -- an error of `clap` at the words, as the program tells it
 pub refused_as : (words : List Text) (e : Error) → HasKind (fault_of program_app words) e → IsRefused words (command_line_error e)
@@ -190,15 +193,26 @@ pub unclear_as : (r : Result Request CommandLineError) (words : List Text) (why 
     → IfErr r (IsRefused words)
 unclear_as (Ok request) words why rows none met told = tt
 unclear_as (Err error) words why rows none met (inl memory) = subst (IsRefused words) (sym memory) tt
-unclear_as (Err error) words why rows none met (inr (inl unclear)) = subst (IsRefused words) (sym unclear.0) (none, (why, rows, met, unclear.1))
-unclear_as (Err error) words why rows none met (inr (inr both)) = subst (IsRefused words) (sym both.0) (none, (why, rows, met, both.1))
+unclear_as (Err error) words why rows none met (inr (inl unclear)) = subst (IsRefused words) (sym unclear.0) (why, (none, (rows, met, unclear.1)))
+unclear_as (Err error) words why rows none met (inr (inr both)) = subst (IsRefused words) (sym both.0) (inr (why, (none, (rows, met, both.1))))
 
-pub two_lists_as : (r : Result Request CommandLineError) (words : List Text) (rows : List Row) → fault_of program_app words ≡ []
+pub no_list_as : (r : Result Request CommandLineError) (words : List Text) (rows : List Row) → fault_of program_app words ≡ []
     → subcommand_of program_app words ≡ Some (codes "list", rows)
-    → IfErr r (λ error. (error ≡ line.OutOfMemory) ⊎ ((error ≡ line.TwoLists) × AsksForTwoLists rows)) → IfErr r (IsRefused words)
-two_lists_as (Ok request) words rows none met told = tt
-two_lists_as (Err error) words rows none met (inl memory) = subst (IsRefused words) (sym memory) tt
-two_lists_as (Err error) words rows none met (inr two) = subst (IsRefused words) (sym two.0) (none, (rows, met, two.1))
+    → IfErr r (λ error. (error ≡ line.OutOfMemory) ⊎ ((error ≡ line.Undated) × IsUndated rows) ⊎ ((error ≡ line.TwoLists) × AsksForTwoLists rows)
+    ⊎ ((error ≡ line.AllOfRange) × AsksForAllOfRange rows))
+    → IfErr r (IsRefused words)
+no_list_as (Ok request) words rows none met told = tt
+no_list_as (Err error) words rows none met (inl memory) = subst (IsRefused words) (sym memory) tt
+no_list_as (Err error) words rows none met (inr (inl undated)) = subst (IsRefused words) (sym undated.0) (none, (rows, met, undated.1))
+no_list_as (Err error) words rows none met (inr (inr (inl two))) = subst (IsRefused words) (sym two.0) (none, (rows, met, two.1))
+no_list_as (Err error) words rows none met (inr (inr (inr range))) = subst (IsRefused words) (sym range.0) (none, (rows, met, range.1))
+
+pub no_timeline_as : (r : Result Request CommandLineError) (words : List Text) (rows : List Row) → fault_of program_app words ≡ []
+    → subcommand_of program_app words ≡ Some (codes "timeline", rows)
+    → IfErr r (λ error. (error ≡ line.OutOfMemory) ⊎ ((error ≡ line.BothKnown) × GoesByBoth rows)) → IfErr r (IsRefused words)
+no_timeline_as (Ok request) words rows none met told = tt
+no_timeline_as (Err error) words rows none met (inl memory) = subst (IsRefused words) (sym memory) tt
+no_timeline_as (Err error) words rows none met (inr both) = subst (IsRefused words) (sym both.0) (inl (none, (rows, met, both.1)))
 
 -- a subcommand of that name with these rows stands in the words, and has its values
 pub record Sees (words : List Text) (name : Text) (rows : List Row) : Type 0 where
@@ -251,19 +265,30 @@ other_question : (why : Bool) (b : Text) → (slice_index (codes "check") 0 ≡ 
 other_question false b check explain same = other_name (codes "check") b check same
 other_question true b check explain same = other_name (codes "explain") b explain same
 
+-- of a name with another first letter than the others it has the values of its own
 pub is_show : {words : List Text} {name : Text} {rows : List Row} → Sees words name rows → name ≡ codes "show" → HasCapture rows
 is_show {words} {name} {rows} at same = go at.has where
   go : IsCommand name rows → HasCapture rows
   go (inl show) = show.1
   go (inr (inl list)) = absurd (other_name (codes "list") (codes "show") (λ e. omega (arith, e)) (sym list.0 ∙ same))
-  go (inr (inr question)) = absurd (other_question question.0 (codes "show") (λ e. omega (arith, e)) (λ e. omega (arith, e)) (sym question.1 ∙ same))
+  go (inr (inr (inl question))) = absurd (other_question question.0 (codes "show") (λ e. omega (arith, e)) (λ e. omega (arith, e)) (sym question.1 ∙ same))
+  go (inr (inr (inr timeline))) = absurd (other_name (codes "timeline") (codes "show") (λ e. omega (arith, e)) (sym timeline.0 ∙ same))
 
 pub is_list : {words : List Text} {name : Text} {rows : List Row} → Sees words name rows → name ≡ codes "list" → HasListValues rows
 is_list {words} {name} {rows} at same = go at.has where
   go : IsCommand name rows → HasListValues rows
   go (inl show) = absurd (other_name (codes "show") (codes "list") (λ e. omega (arith, e)) (sym show.0 ∙ same))
   go (inr (inl list)) = list.1
-  go (inr (inr question)) = absurd (other_question question.0 (codes "list") (λ e. omega (arith, e)) (λ e. omega (arith, e)) (sym question.1 ∙ same))
+  go (inr (inr (inl question))) = absurd (other_question question.0 (codes "list") (λ e. omega (arith, e)) (λ e. omega (arith, e)) (sym question.1 ∙ same))
+  go (inr (inr (inr timeline))) = absurd (other_name (codes "timeline") (codes "list") (λ e. omega (arith, e)) (sym timeline.0 ∙ same))
+
+pub is_timeline : {words : List Text} {name : Text} {rows : List Row} → Sees words name rows → name ≡ codes "timeline" → HasTimelineValues rows
+is_timeline {words} {name} {rows} at same = go at.has where
+  go : IsCommand name rows → HasTimelineValues rows
+  go (inl show) = absurd (other_name (codes "show") (codes "timeline") (λ e. omega (arith, e)) (sym show.0 ∙ same))
+  go (inr (inl list)) = absurd (other_name (codes "list") (codes "timeline") (λ e. omega (arith, e)) (sym list.0 ∙ same))
+  go (inr (inr (inl question))) = absurd (other_question question.0 (codes "timeline") (λ e. omega (arith, e)) (λ e. omega (arith, e)) (sym question.1 ∙ same))
+  go (inr (inr (inr timeline))) = timeline.1
 
 -- a name that fails the test of another isn't that
 not_named : (name other : Text) → bytes_eq name other ≡ false → name ≡ other → ⊥
@@ -276,11 +301,12 @@ explains : (why : Bool) → bytes_eq (question_word why) (codes "explain") ≡ w
 explains false = refl
 explains true = refl
 
-pub is_neither : {words : List Text} {name : Text} {rows : List Row} → Sees words name rows → bytes_eq name (codes "show") ≡ false → bytes_eq name (codes "list") ≡ false
-    → (name ≡ question_word (bytes_eq name (codes "explain"))) × HasCheckValues rows
-is_neither {words} {name} {rows} at no_show no_list = go at.has where
+pub is_question : {words : List Text} {name : Text} {rows : List Row} → Sees words name rows → bytes_eq name (codes "show") ≡ false → bytes_eq name (codes "list") ≡ false
+    → bytes_eq name (codes "timeline") ≡ false → (name ≡ question_word (bytes_eq name (codes "explain"))) × HasCheckValues rows
+is_question {words} {name} {rows} at no_show no_list no_timeline = go at.has where
   go : IsCommand name rows → (name ≡ question_word (bytes_eq name (codes "explain"))) × HasCheckValues rows
   go (inl show) = absurd (not_named name (codes "show") no_show show.0)
   go (inr (inl list)) = absurd (not_named name (codes "list") no_list list.0)
-  go (inr (inr question)) =
+  go (inr (inr (inl question))) =
       (question.1 ∙ ap question_word (sym (ap (λ n. bytes_eq n (codes "explain")) question.1 ∙ explains question.0)), question.2)
+  go (inr (inr (inr timeline))) = absurd (not_named name (codes "timeline") no_timeline timeline.0)

@@ -7,13 +7,14 @@ use Rattle.std.specs.Prelude.{IfErr, ⊤}
 use Rattle.sha2.specs.Sha256.{sha256}
 use Rattle.dnsv_message.specs.Streams.Frames.{IsCapture, IsFramed, frame}
 use Rattle.dnsv_canonical.specs.Rrsets.{ReceivedRrset}
-use Rattle.dnsv_verifier.specs.Asked.{IsNumberAsked}
 use Rattle.dnsv_answers.specs.AnswerFile.{AnswersContents, AreAnswersOf, AreMiscounted, AreOf, AreOfOther, BeginsWithHeading, IsFaultOf}
+use Rattle.dnsv_answers.specs.Answered.{IsNumberAskedWithin}
 use Rattle.dnsv_answers.specs.declared.error.AnswersError.{AnswersError}
 use Rattle.dnsv_answers.specs.declared.error.AnswersError.TheVariants as answers
+use Rattle.dnsv_answers.specs.declared.heading.Moments.{Moments}
 use Rattle.dnsv_answers.specs.declared.said.SaidAnswer.{SaidAnswer}
 use Rattle.dnsv_answers.proofs.AnswerLaws.{AreAnswersOf-no_fault, AreAnswersOf-only, IsFaultOf-only}
-use Rattle.dnsv_answers.proofs.AnsweredLaws.{one_number_asked}
+use Rattle.dnsv_answers.proofs.AnsweredLaws.{one_number_within}
 use Rattle.dnsv_files.specs.declared.status.Fault.{Fault}
 use Rattle.dnsv_files.specs.declared.status.Fault.TheVariants as fault
 use Rattle.dnsv_files.specs.declared.status.InputFile.{InputFile}
@@ -22,6 +23,7 @@ use Rattle.dnsv_files.specs.declared.status.Place.{Place}
 use Rattle.dnsv_files.specs.declared.status.Refusal.{Refusal}
 use Rattle.dnsv_files.specs.declared.status.Refusal.TheVariants as refusal
 use Rattle.dnsv_files.specs.Files.Answers.{AreAnswersRefused, AreFor, AreForOther, AreRefusedBeforeCount, AreRefusedFor, AreSaidFor, AreTooManyOrFew, HasAnswers, IsAtSomeLine, IsFaultBeforeCount, IsFaultOfAnswers, TellsAnswersError}
+use Rattle.dnsv_files.specs.Moment.{begin_of, end_of}
 use Rattle.dnsv_files.specs.Files.Faults.{IsAbout, IsTextFault, OfFailedRead, OfOctets}
 use Rattle.dnsv_files.specs.Told.{IsAnswersFault, IsFaultOf as IsFaultFor, IsRefusalOf, TellsRefusals}
 use Rattle.dnsv_files.proofs.FileLemmas.Text.{every_told, no_text_fault, one_text_fault, told_by_one}
@@ -125,53 +127,53 @@ one_miscount contents count a b (inr x) (inr y) =
     let same : x.0 ≡ y.0 = cc in
     x.2 ∙ ap (λ (each : SaidAnswer). answers.Count (Some each.line)) same ∙ sym y.2
 
-module _ (capture : List ℕ) (moment : ℕ) (text : List ℕ) where
+module _ (capture : List ℕ) (moments : Moments) (text : List ℕ) where
   -- what is said of another list isn't said of this one
-  other_stands : (a b : AnswersContents) → AreAnswersOf text a → AreAnswersOf text b → AreFor capture moment a → (error : AnswersError)
-      → AreOfOther b (sha256 capture) moment error → ⊥
+  other_stands : (a b : AnswersContents) → AreAnswersOf text a → AreAnswersOf text b → AreFor capture moments a → (error : AnswersError)
+      → AreOfOther b (sha256 capture) moments error → ⊥
   other_stands a b x y is error bad =
-      bad.other (subst (λ (each : AnswersContents). AreFor capture moment each) (AreAnswersOf-only text a b x y) is)
+      bad.other (subst (λ (each : AnswersContents). AreFor capture moments each) (AreAnswersOf-only text a b x y) is)
 
-  before_once : (a b : Refusal) (p q : Place) → AreRefusedBeforeCount capture moment text a p → AreRefusedBeforeCount capture moment text b q
+  before_once : (a b : Refusal) (p q : Place) → AreRefusedBeforeCount capture moments text a p → AreRefusedBeforeCount capture moments text b q
       → fault.Refused a p ≡ fault.Refused b q
   before_once a b p q (inl x) (inl y) = told_by_one (IsFaultOf text) TellsAnswersError (IsFaultOf-only text) one_telling a b p q x y
   before_once a b p q (inl x) (inr y) = absurd (AreAnswersOf-no_fault text y.0 x.0 y.1 x.1)
   before_once a b p q (inr x) (inl y) = absurd (AreAnswersOf-no_fault text x.0 y.0 x.1 y.1)
   before_once a b p q (inr x) (inr y) =
-      told_by_one (AreOfOther y.0 (sha256 capture) moment) TellsAnswersError (λ e f one other. one.is ∙ sym other.is) one_telling a b p q
-      (subst (λ (each : AnswersContents). AreForOther capture moment each a p) (AreAnswersOf-only text x.0 y.0 x.1 y.1) x.2) y.2
+      told_by_one (AreOfOther y.0 (sha256 capture) moments) TellsAnswersError (λ e f one other. one.is ∙ sym other.is) one_telling a b p q
+      (subst (λ (each : AnswersContents). AreForOther capture moments each a p) (AreAnswersOf-only text x.0 y.0 x.1 y.1) x.2) y.2
 
   -- answers of this list are refused for their number alone
-  counted_stands : (contents : AnswersContents) → AreAnswersOf text contents → AreFor capture moment contents → (why : Refusal) (place : Place)
-      → AreRefusedBeforeCount capture moment text why place → ⊥
+  counted_stands : (contents : AnswersContents) → AreAnswersOf text contents → AreFor capture moments contents → (why : Refusal) (place : Place)
+      → AreRefusedBeforeCount capture moments text why place → ⊥
   counted_stands contents are is why place (inl bad) = AreAnswersOf-no_fault text contents bad.0 are bad.1
   counted_stands contents are is why place (inr bad) = other_stands contents bad.0 are bad.1 is bad.2.0 bad.2.1
 
   module _ (rrsets : List ReceivedRrset) where
-    one_count : (contents : AnswersContents) (a b : AnswersError) → (count : ℕ) × IsNumberAsked moment rrsets count × AreMiscounted contents count a
-        → (count : ℕ) × IsNumberAsked moment rrsets count × AreMiscounted contents count b → a ≡ b
+    one_count : (contents : AnswersContents) (a b : AnswersError) → (count : ℕ) × IsNumberAskedWithin (begin_of moments) (end_of moments) rrsets count × AreMiscounted contents count a
+        → (count : ℕ) × IsNumberAskedWithin (begin_of moments) (end_of moments) rrsets count × AreMiscounted contents count b → a ≡ b
     one_count contents a b x y =
         one_miscount contents y.0 a b
-        (subst (λ (count : ℕ). AreMiscounted contents count a) (one_number_asked moment rrsets x.0 y.0 x.1 y.1) x.2) y.2
+        (subst (λ (count : ℕ). AreMiscounted contents count a) (one_number_within (begin_of moments) (end_of moments) rrsets x.0 y.0 x.1 y.1) x.2) y.2
 
-    refused_once : (a b : Refusal) (p q : Place) → AreRefusedFor capture moment rrsets text a p → AreRefusedFor capture moment rrsets text b q
+    refused_once : (a b : Refusal) (p q : Place) → AreRefusedFor capture moments rrsets text a p → AreRefusedFor capture moments rrsets text b q
         → fault.Refused a p ≡ fault.Refused b q
     refused_once a b p q (inl x) (inl y) = before_once a b p q x y
     refused_once a b p q (inl x) (inr y) = absurd (counted_stands y.0 y.1 y.2 a p x)
     refused_once a b p q (inr x) (inl y) = absurd (counted_stands x.0 x.1 x.2 b q y)
     refused_once a b p q (inr x) (inr y) =
-        told_by_one (λ error. (count : ℕ) × IsNumberAsked moment rrsets count × AreMiscounted y.0 count error) TellsAnswersError (one_count y.0) one_telling a b p q
-        (subst (λ (each : AnswersContents). AreTooManyOrFew moment rrsets each a p) (AreAnswersOf-only text x.0 y.0 x.1 y.1) x.3) y.3
+        told_by_one (λ error. (count : ℕ) × IsNumberAskedWithin (begin_of moments) (end_of moments) rrsets count × AreMiscounted y.0 count error) TellsAnswersError (one_count y.0) one_telling a b p q
+        (subst (λ (each : AnswersContents). AreTooManyOrFew moments rrsets each a p) (AreAnswersOf-only text x.0 y.0 x.1 y.1) x.3) y.3
 
     -- a text has one fault
-    pub one_answers_fault : (a b : Fault) → IsFaultOfAnswers capture moment rrsets text a → IsFaultOfAnswers capture moment rrsets text b → a ≡ b
-    one_answers_fault = one_text_fault Answers (AreRefusedFor capture moment rrsets) text refused_once
+    pub one_answers_fault : (a b : Fault) → IsFaultOfAnswers capture moments rrsets text a → IsFaultOfAnswers capture moments rrsets text b → a ≡ b
+    one_answers_fault = one_text_fault Answers (AreRefusedFor capture moments rrsets) text refused_once
 
     -- as many answers to this list as it has entries have none
-    pub no_answers_fault : (contents : AnswersContents) → AreSaidFor capture moment text contents → ((count : ℕ) → IsNumberAsked moment rrsets count → length contents.said ≡ count)
-        → (told : Fault) → IsFaultOfAnswers capture moment rrsets text told → ⊥
+    pub no_answers_fault : (contents : AnswersContents) → AreSaidFor capture moments text contents → ((count : ℕ) → IsNumberAskedWithin (begin_of moments) (end_of moments) rrsets count → length contents.said ≡ count)
+        → (told : Fault) → IsFaultOfAnswers capture moments rrsets text told → ⊥
     no_answers_fault contents said so_many =
-        no_text_fault Answers (AreRefusedFor capture moment rrsets) text said.has.within (λ why place bad. stands why place bad)
+        no_text_fault Answers (AreRefusedFor capture moments rrsets) text said.has.within (λ why place bad. stands why place bad)
       where
         counted : (error : AnswersError) (count : ℕ) → length contents.said ≡ count → AreMiscounted contents count error → ⊥
         counted error count same (inl few) = let less : length contents.said < count = few.0 in omega (arith, same, less)
@@ -179,7 +181,7 @@ module _ (capture : List ℕ) (moment : ℕ) (text : List ℕ) where
             let none = slice_get_past contents.said count (omega (arith, same)) in
             let bad : Some many.0 ≡ None = sym many.1 ∙ none in cc
 
-        stands : (why : Refusal) (place : Place) → AreRefusedFor capture moment rrsets text why place → ⊥
+        stands : (why : Refusal) (place : Place) → AreRefusedFor capture moments rrsets text why place → ⊥
         stands why place (inl bad) = counted_stands contents said.has.are said.are_for why place bad
         stands why place (inr bad) =
             let same = AreAnswersOf-only text bad.0 contents bad.1 said.has.are in
@@ -194,9 +196,9 @@ other_found line (fault.TooLong file) tells = absurd tells
 other_found line (fault.OpenFailed file) tells = absurd tells
 other_found line fault.WriteFailed tells = absurd tells
 
-pub other_refused : (contents : AnswersContents) (digest : List ℕ) (moment : ℕ) (error : AnswersError) (found : Fault) → AreOfOther contents digest moment error
+pub other_refused : (contents : AnswersContents) (digest : List ℕ) (moments : Moments) (error : AnswersError) (found : Fault) → AreOfOther contents digest moments error
     → IsAnswersFault error found → IsRefusalOf (λ why place. ⊤) found
-other_refused contents digest moment error found other tells = other_found contents.line found (subst (λ (e : AnswersError). IsAnswersFault e found) other.is tells)
+other_refused contents digest moments error found other tells = other_found contents.line found (subst (λ (e : AnswersError). IsAnswersFault e found) other.is tells)
 
 pub refused_unread : (file : InputFile) (told : Fault) → IsRefusalOf (λ why place. ⊤) told → told ≡ fault.ReadFailed file → ⊥
 refused_unread file (fault.Refused why place) refused is = cc
@@ -223,24 +225,24 @@ refused_of_reads Holds (fault.OpenFailed other) refused = absurd refused
 refused_of_reads Holds fault.WriteFailed refused = absurd refused
 
 -- what the text is at fault for is at fault before entries are counted
-pub text_before : (capture : List ℕ) (moment : ℕ) (text : List ℕ) (told : Fault) → OfOctets (IsTextFault Answers AreAnswersRefused text) told
-    → OfOctets (IsFaultBeforeCount capture moment text) told
-text_before capture moment text (fault.Refused why place) holds = (holds.0, inl holds.1)
-text_before capture moment text (fault.TooLong file) holds = holds
-text_before capture moment text fault.OutOfMemory holds = tt
-text_before capture moment text (fault.ReadFailed file) holds = tt
-text_before capture moment text (fault.OpenFailed file) holds = tt
-text_before capture moment text fault.WriteFailed holds = tt
+pub text_before : (capture : List ℕ) (moments : Moments) (text : List ℕ) (told : Fault) → OfOctets (IsTextFault Answers AreAnswersRefused text) told
+    → OfOctets (IsFaultBeforeCount capture moments text) told
+text_before capture moments text (fault.Refused why place) holds = (holds.0, inl holds.1)
+text_before capture moments text (fault.TooLong file) holds = holds
+text_before capture moments text fault.OutOfMemory holds = tt
+text_before capture moments text (fault.ReadFailed file) holds = tt
+text_before capture moments text (fault.OpenFailed file) holds = tt
+text_before capture moments text fault.WriteFailed holds = tt
 
 -- and so are answers to another list
-pub other_before : (capture : List ℕ) (moment : ℕ) (text : List ℕ) (contents : AnswersContents) → HasAnswers text contents → (told : Fault)
-    → IsRefusalOf (AreForOther capture moment contents) told → OfOctets (IsFaultBeforeCount capture moment text) told
-other_before capture moment text contents has (fault.Refused why place) bad = (has.within, inr (contents, has.are, bad))
-other_before capture moment text contents has fault.OutOfMemory bad = absurd bad
-other_before capture moment text contents has (fault.ReadFailed file) bad = absurd bad
-other_before capture moment text contents has (fault.TooLong file) bad = absurd bad
-other_before capture moment text contents has (fault.OpenFailed file) bad = absurd bad
-other_before capture moment text contents has fault.WriteFailed bad = absurd bad
+pub other_before : (capture : List ℕ) (moments : Moments) (text : List ℕ) (contents : AnswersContents) → HasAnswers text contents → (told : Fault)
+    → IsRefusalOf (AreForOther capture moments contents) told → OfOctets (IsFaultBeforeCount capture moments text) told
+other_before capture moments text contents has (fault.Refused why place) bad = (has.within, inr (contents, has.are, bad))
+other_before capture moments text contents has fault.OutOfMemory bad = absurd bad
+other_before capture moments text contents has (fault.ReadFailed file) bad = absurd bad
+other_before capture moments text contents has (fault.TooLong file) bad = absurd bad
+other_before capture moments text contents has (fault.OpenFailed file) bad = absurd bad
+other_before capture moments text contents has fault.WriteFailed bad = absurd bad
 
 -- ---- the capture that they are said of
 
@@ -250,21 +252,20 @@ pub digest_of : (capture : List ℕ) (frames : List (List ℕ)) (digest : List �
 digest_of capture frames digest framed told =
     told framed.frames.each ∙ ap (λ (octets : List ℕ). sha256 octets) (sym (framed.frames.whole ∙ append-nil (flat_map frame frames)))
 
-pub said_for : (capture : List ℕ) (moment seconds : ℕ) (digest : List ℕ) (contents : AnswersContents) → digest ≡ sha256 capture → seconds ≡ moment
-    → AreOf contents.heading digest seconds → AreFor capture moment contents
-said_for capture moment seconds digest contents is at are =
-    subst (λ (m : ℕ). AreOf contents.heading (sha256 capture) m) at (subst (λ (d : List ℕ). AreOf contents.heading d seconds) is are)
+pub said_for : (capture : List ℕ) (moments : Moments) (digest : List ℕ) (contents : AnswersContents) → digest ≡ sha256 capture
+    → AreOf contents.heading digest moments → AreFor capture moments contents
+said_for capture moments digest contents is are = subst (λ (d : List ℕ). AreOf contents.heading d moments) is are
 
 -- what is told of answers to another list
-pub other_told : (capture : List ℕ) (moment seconds : ℕ) (digest : List ℕ) (contents : AnswersContents) → digest ≡ sha256 capture → seconds ≡ moment
-    → (error : AnswersError) (found : Fault) → AreOfOther contents digest seconds error → IsAnswersFault error found → IsRefusalOf (AreForOther capture moment contents) found
-other_told capture moment seconds digest contents is at error found other tells =
+pub other_told : (capture : List ℕ) (moments : Moments) (digest : List ℕ) (contents : AnswersContents) → digest ≡ sha256 capture
+    → (error : AnswersError) (found : Fault) → AreOfOther contents digest moments error → IsAnswersFault error found → IsRefusalOf (AreForOther capture moments contents) found
+other_told capture moments digest contents is error found other tells =
     go found (subst (λ (each : AnswersError). IsAnswersFault each found) other.is tells)
   where
-    there : AreOfOther contents (sha256 capture) moment (answers.OtherList contents.line)
-    there = record { other = λ are. other.other (subst (λ (d : List ℕ). AreOf contents.heading d seconds) (sym is) (subst (λ (m : ℕ). AreOf contents.heading (sha256 capture) m) (sym at) are)); is = refl }
+    there : AreOfOther contents (sha256 capture) moments (answers.OtherList contents.line)
+    there = record { other = λ are. other.other (subst (λ (d : List ℕ). AreOf contents.heading d moments) (sym is) are); is = refl }
 
-    go : (found : Fault) → IsAnswersFault (answers.OtherList contents.line) found → IsRefusalOf (AreForOther capture moment contents) found
+    go : (found : Fault) → IsAnswersFault (answers.OtherList contents.line) found → IsRefusalOf (AreForOther capture moments contents) found
     go (fault.Refused why place) tells = (answers.OtherList contents.line, there, tells)
     go fault.OutOfMemory tells = absurd tells
     go (fault.ReadFailed file) tells = absurd tells

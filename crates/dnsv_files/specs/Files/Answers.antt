@@ -3,8 +3,9 @@ use Rattle.std.specs.Prelude.{◌≡◌, ◌⊎◌, ◌≤◌, ℕ, List, Option
 use Rattle.sha2.specs.Sha256.{sha256}
 use Rattle.dnsv_message.specs.Streams.Frames.{file_limit}
 use Rattle.dnsv_canonical.specs.Rrsets.{ReceivedRrset}
-use Rattle.dnsv_verifier.specs.Asked.{IsNumberAsked}
+use Rattle.dnsv_answers.specs.Answered.{IsNumberAskedWithin}
 use Rattle.dnsv_answers.specs.AnswerFile.{AnswersContents, AreAnswersOf, AreMiscounted, AreOf, AreOfOther, IsFaultOf}
+use Rattle.dnsv_answers.specs.declared.heading.Moments.{Moments}
 use Rattle.dnsv_answers.specs.declared.error.AnswersError.{AnswersError}
 use Rattle.dnsv_answers.specs.declared.error.AnswersError.TheVariants as answers
 use Rattle.dnsv_files.specs.declared.status.Fault.{Fault}
@@ -14,6 +15,7 @@ use Rattle.dnsv_files.specs.declared.status.Place.{Place}
 use Rattle.dnsv_files.specs.declared.status.Refusal.{Refusal}
 use Rattle.dnsv_files.specs.declared.status.Refusal.TheVariants as refusal
 use Rattle.dnsv_files.specs.Files.Faults.{IsTextFault}
+use Rattle.dnsv_files.specs.Moment.{begin_of, end_of}
 
 -- ---- what is said
 
@@ -22,14 +24,14 @@ pub record HasAnswers (text : List ℕ) (contents : AnswersContents) : Type 0 wh
   pub within : length text ≤ file_limit
   pub are : AreAnswersOf text contents
 
--- they are said of the capture with these octets, and of the moment
-abbrev pub AreFor : List ℕ → ℕ → AnswersContents → Type 0
-AreFor capture moment contents = AreOf contents.heading (sha256 capture) moment
+-- they are said of the capture with these octets, and of the moment or just the range
+abbrev pub AreFor : List ℕ → Moments → AnswersContents → Type 0
+AreFor capture moments contents = AreOf contents.heading (sha256 capture) moments
 
--- the text has these answers, which are said of the capture and the moment
-pub record AreSaidFor (capture : List ℕ) (moment : ℕ) (text : List ℕ) (contents : AnswersContents) : Type 0 where
+-- the text has these answers, which are said of the capture and the moments
+pub record AreSaidFor (capture : List ℕ) (moments : Moments) (text : List ℕ) (contents : AnswersContents) : Type 0 where
   pub has : HasAnswers text contents
-  pub are_for : AreFor capture moment contents
+  pub are_for : AreFor capture moments contents
 
 -- ---- what is refused
 
@@ -51,33 +53,34 @@ TellsAnswersError (answers.Count number) why place =
 abbrev pub AreAnswersRefused : List ℕ → Refusal → Place → Type 0
 AreAnswersRefused text why place = (error : AnswersError) × IsFaultOf text error × TellsAnswersError error why place
 
--- the answers are refused because they are said of another capture, or another moment or a range
-abbrev pub AreForOther : List ℕ → ℕ → AnswersContents → Refusal → Place → Type 0
-AreForOther capture moment contents why place =
-    (error : AnswersError) × AreOfOther contents (sha256 capture) moment error × TellsAnswersError error why place
+-- the answers are refused because they are said of another capture, or of other moments
+abbrev pub AreForOther : List ℕ → Moments → AnswersContents → Refusal → Place → Type 0
+AreForOther capture moments contents why place =
+    (error : AnswersError) × AreOfOther contents (sha256 capture) moments error × TellsAnswersError error why place
 
--- the answers are refused because there are more or fewer than entries that are asked of the RRsets at the moment
-abbrev pub AreTooManyOrFew : ℕ → List ReceivedRrset → AnswersContents → Refusal → Place → Type 0
-AreTooManyOrFew moment rrsets contents why place =
-    (error : AnswersError) × ((count : ℕ) × IsNumberAsked moment rrsets count × AreMiscounted contents count error)
+-- the answers are refused because there are more or fewer than entries that are asked of the RRsets at the
+-- moments
+abbrev pub AreTooManyOrFew : Moments → List ReceivedRrset → AnswersContents → Refusal → Place → Type 0
+AreTooManyOrFew moments rrsets contents why place =
+    (error : AnswersError) × ((count : ℕ) × IsNumberAskedWithin (begin_of moments) (end_of moments) rrsets count × AreMiscounted contents count error)
     × TellsAnswersError error why place
 
 -- the text is refused, or else its answers are because they are said of another list
-abbrev pub AreRefusedBeforeCount : List ℕ → ℕ → List ℕ → Refusal → Place → Type 0
-AreRefusedBeforeCount capture moment text why place =
+abbrev pub AreRefusedBeforeCount : List ℕ → Moments → List ℕ → Refusal → Place → Type 0
+AreRefusedBeforeCount capture moments text why place =
     AreAnswersRefused text why place
-    ⊎ ((contents : AnswersContents) × AreAnswersOf text contents × AreForOther capture moment contents why place)
+    ⊎ ((contents : AnswersContents) × AreAnswersOf text contents × AreForOther capture moments contents why place)
 
 -- or else because of their number
-abbrev pub AreRefusedFor : List ℕ → ℕ → List ReceivedRrset → List ℕ → Refusal → Place → Type 0
-AreRefusedFor capture moment rrsets text why place =
-    AreRefusedBeforeCount capture moment text why place
-    ⊎ ((contents : AnswersContents) × AreAnswersOf text contents × AreFor capture moment contents
-    × AreTooManyOrFew moment rrsets contents why place)
+abbrev pub AreRefusedFor : List ℕ → Moments → List ReceivedRrset → List ℕ → Refusal → Place → Type 0
+AreRefusedFor capture moments rrsets text why place =
+    AreRefusedBeforeCount capture moments text why place
+    ⊎ ((contents : AnswersContents) × AreAnswersOf text contents × AreFor capture moments contents
+    × AreTooManyOrFew moments rrsets contents why place)
 
 -- the faults of a file of them
-abbrev pub IsFaultBeforeCount : List ℕ → ℕ → List ℕ → Fault → Type 0
-IsFaultBeforeCount capture moment = IsTextFault Answers (AreRefusedBeforeCount capture moment)
+abbrev pub IsFaultBeforeCount : List ℕ → Moments → List ℕ → Fault → Type 0
+IsFaultBeforeCount capture moments = IsTextFault Answers (AreRefusedBeforeCount capture moments)
 
-abbrev pub IsFaultOfAnswers : List ℕ → ℕ → List ReceivedRrset → List ℕ → Fault → Type 0
-IsFaultOfAnswers capture moment rrsets = IsTextFault Answers (AreRefusedFor capture moment rrsets)
+abbrev pub IsFaultOfAnswers : List ℕ → Moments → List ReceivedRrset → List ℕ → Fault → Type 0
+IsFaultOfAnswers capture moments rrsets = IsTextFault Answers (AreRefusedFor capture moments rrsets)

@@ -9,9 +9,8 @@ ghost use Rattle.dnsv_files.specs.Status.{fault_number};
 ghost use Rattle.dnsv_files.specs.Told.{IsAnswersFault, IsRefusalOf};
 
 use crate::files::text::{FromText, text_in};
-use crate::moment::Moment;
 use crate::status::{Fault, InputFile, Place, Refusal};
-use dnsv_answers::{Answers, AnswersError, capture_digest};
+use dnsv_answers::{Answers, AnswersError, Moments, capture_digest};
 use dnsv_message::Counted;
 use std::alloc::Global;
 use std::io::Read;
@@ -34,40 +33,40 @@ impl FromText for Answers {
     }
 }
 
-/// The answers of the file, which are said of the capture of these frames and of the moment. How many they are isn't
-/// tested here.
+/// The answers of the file, which are said of the capture of these frames and of the moment, or of just the range. How many
+/// they are isn't tested here.
 ///
 /// The fault is the first: reading the file, its first line that is at fault, and then that they are said of another list.
 pub fn answers_in<R: Read>(
     alloc: Global,
-    moment: Moment,
+    moments: Moments,
     frames: &[&[u8]],
     reader: &mut Option<Counted<R>>,
 ) -> Result<Answers, Fault>
     ensures said { (capture : List ℕ) (octets : Option (List ℕ)) → IsCapture capture (octets_at_each frames.now)
-        → IsToldBy R.remaining reader.old octets → IfOk result (AreSaidFor capture moment (octets_or_none octets)) }
+        → IsToldBy R.remaining reader.old octets → IfOk result (AreSaidFor capture moments (octets_or_none octets)) }
     ensures faults { (capture : List ℕ) (octets : Option (List ℕ)) → IsCapture capture (octets_at_each frames.now)
         → IsToldBy R.remaining reader.old octets
-        → IfErr result (OfOctets (IsFaultBeforeCount capture moment (octets_or_none octets))) }
+        → IfErr result (OfOctets (IsFaultBeforeCount capture moments (octets_or_none octets))) }
     ensures reads { TellsFailedReads InputFile.Answers (given_failures reader.old) (given_failures reader.new) result }
     ensures about { IfErr result (IsAbout InputFile.Answers) }
     ensures given { IfErr result (OfFailedRead (λ _. IsGiven reader.old)) }
 {
     let answers: Answers = text_in(alloc, InputFile::Answers, reader)?;
-    test_list(&answers, frames, moment)?;
+    test_list(&answers, frames, &moments)?;
     Ok(answers)
 }
 
-/// Tests that the answers are said of the capture of these frames and of the moment.
-fn test_list(answers: &Answers, frames: &[&[u8]], moment: Moment) -> Result<(), Fault>
+/// Tests that the answers are said of the capture of these frames and of the moments.
+fn test_list(answers: &Answers, frames: &[&[u8]], moments: &Moments) -> Result<(), Fault>
     ensures are { (capture : List ℕ) → IsCapture capture (octets_at_each frames.now)
-        → OnOk result (AreFor capture moment answers.now) }
+        → OnOk result (AreFor capture moments.now answers.now) }
     ensures other { (capture : List ℕ) → IsCapture capture (octets_at_each frames.now)
-        → IfErr result (IsRefusalOf (AreForOther capture moment answers.now)) }
+        → IfErr result (IsRefusalOf (AreForOther capture moments.now answers.now)) }
     ensures refused { IfErr result (IsRefusalOf (λ _ _. ⊤)) }
 {
     let digest = capture_digest(frames);
-    match answers.test_list(&digest, moment.seconds()) {
+    match answers.test_list(&digest, moments) {
         Ok(()) => Ok(()),
         Err(error) => Err(answers_fault(error)),
     }

@@ -2,6 +2,7 @@
 use Rattle.std.proofs.Common.{◌≡◌, ◌⊎◌, ℕ, Bool, List, Option, inl, inr, subst, sym, take}
 use Rattle.std.specs.Prelude.{Err, IfErr, IfOk, Ok, Result, ⊤}
 use Rattle.std.specs.Io.KnownBytes.{Appends}
+use Rattle.dnsv_answers.specs.declared.heading.Moments.TheVariants.{At}
 use Rattle.dnsv_message.specs.declared.streams.counted.Counted.{Counted}
 use Rattle.dnsv_message.specs.Streams.Counted.{AppendsBeginning}
 use Rattle.dnsv_canonical.specs.Question.{Asked}
@@ -60,11 +61,11 @@ module _ {R : Type 0} {remaining : R → Option (List ℕ)} {before : Inputs R} 
   pub given_failed : {S T U : Type 0} {after : Inputs R} (x : U) → TellsFailedReads {T = U} Questions (given_failures before.questions) (given_failures reader) (Ok x)
       → (moment : ℕ) (told : Fault)
       → ((files : Files) → AreTold remaining before files → (asked : List Asked) × HasQuestions (octets_or_none files.questions) asked)
-      → TellsFaultsBeside {T = S} (IsFirstFaultOfFiles moment) remaining (behind before reader) after (Err told) → after.questions ≡ reader
+      → TellsFaultsBeside {T = S} (IsFirstFaultOfFiles (At moment)) remaining (behind before reader) after (Err told) → after.questions ≡ reader
       → TellsFaults {T = T} (IsFirstFaultOfEach moment) remaining before after (Err told)
   given_failed {S} {T} {U} {after} x read moment told asked failed same =
-      let tells : TellsFaultsBeside {T = T} (IsFirstFaultOfFiles moment) remaining (behind before reader) after (Err told) = beside_passed told failed in record {
-        first = λ files are. OfOctets-weaker (IsFirstFaultOfFiles moment files) (IsFirstFaultOfEach moment files) told (λ fault holds. inr (asked files are, holds))
+      let tells : TellsFaultsBeside {T = T} (IsFirstFaultOfFiles (At moment)) remaining (behind before reader) after (Err told) = beside_passed told failed in record {
+        first = λ files are. OfOctets-weaker (IsFirstFaultOfFiles (At moment) files) (IsFirstFaultOfEach moment files) told (λ fault holds. inr (asked files are, holds))
             (tells.first files (told_behind are.beside));
         reads = reads_behind reader (Err told) tells.reads;
         questions = read_once before.questions reader after.questions x (Err told) read same tells.unread;
@@ -74,10 +75,10 @@ module _ {R : Type 0} {remaining : R → Option (List ℕ)} {before : Inputs R} 
   pub all_asked : {S T U : Type 0} {after : Inputs R} (x : U) → TellsFailedReads {T = U} Questions (given_failures before.questions) (given_failures reader) (Ok x)
       → (moment : ℕ) (result : Result T Fault)
       → ((files : Files) → AreTold remaining before files → (asked : List Asked) × HasQuestions (octets_or_none files.questions) asked)
-      → (given : S) → TellsFaultsBeside {T = S} (IsFirstFaultOfFiles moment) remaining (behind before reader) after (Ok given) → after.questions ≡ reader
+      → (given : S) → TellsFaultsBeside {T = S} (IsFirstFaultOfFiles (At moment)) remaining (behind before reader) after (Ok given) → after.questions ≡ reader
       → (P : Refusal → Place → Type 0)
       → ((files : Files) → AreToldBeside remaining (behind before reader) files → (why : Refusal) (place : Place) → P why place
-      → IsFirstFaultOfFiles moment files (fault.Refused why place))
+      → IsFirstFaultOfFiles (At moment) files (fault.Refused why place))
       → IfErr result (λ told. IsFaultOf P told ⊎ (told ≡ fault.WriteFailed))
       → TellsFaults {T = T} (IsFirstFaultOfEach moment) remaining before after result
   all_asked {after = after} x read moment (Ok y) asked given tells same P first only = record {
@@ -86,7 +87,7 @@ module _ {R : Type 0} {remaining : R → Option (List ℕ)} {before : Inputs R} 
     questions = read_once before.questions reader after.questions x (Ok y) read same tt;
   }
   all_asked x read moment (Err told) asked given tells same P first (inl bad) =
-      given_failed x read moment told asked (refused_behind {T = ⊤} (IsFirstFaultOfFiles moment) given told P tells first bad) same
+      given_failed x read moment told asked (refused_behind {T = ⊤} (IsFirstFaultOfFiles (At moment)) given told P tells first bad) same
   all_asked {T = T} {after = after} x read moment (Err told) asked given tells same P first (inr failed) =
       subst (λ (each : Fault). TellsFaults {T = T} (IsFirstFaultOfEach moment) remaining before after (Err each)) (sym failed) (record {
         first = λ files are. tt;
@@ -104,11 +105,11 @@ asked_reached P Holds (Err told) (inr failed) = subst (OfFailedRead Holds) (sym 
 -- ---- what is told of all
 
 module _ (format : Format) (why : Bool) (moment : ℕ) (files : Files) (asked : List Asked) (has : HasQuestions (octets_or_none files.questions) asked)
-    {rrsets : List ReceivedRrset} {anchors : List Anchor} {said : Said} (read : AreReadFrom moment files rrsets anchors said) where
-  pub answered_by : (knowing : Ground moment rrsets said) (end : Status) (text : List ℕ)
+    {rrsets : List ReceivedRrset} {anchors : List Anchor} {said : Said} (read : AreReadFrom (At moment) files rrsets anchors said) where
+  pub answered_by : (knowing : Ground (At moment) rrsets said) (end : Status) (text : List ℕ)
       → AreAnswers format why knowing.numbers (basis_of rrsets anchors moment knowing.meaning) asked end text → AreAnswered format why moment files end text
   answered_by knowing end text answers =
-      let are = all_given moment files read knowing.meaning knowing.numbers knowing.knows in record {
+      let are = all_given (At moment) files read knowing.meaning knowing.numbers knowing.knows in record {
         asked = asked;
         has = has;
         given = are.given;
@@ -116,11 +117,11 @@ module _ (format : Format) (why : Bool) (moment : ℕ) (files : Files) (asked : 
             (subst (λ (basis : Basis). AreAnswers format why knowing.numbers basis asked end text) are.is answers);
       }
 
-  pub first_answered_by : (knowing : Ground moment rrsets said) (count : ℕ) (end : Status) (text : List ℕ)
+  pub first_answered_by : (knowing : Ground (At moment) rrsets said) (count : ℕ) (end : Status) (text : List ℕ)
       → AreAnswers format why knowing.numbers (basis_of rrsets anchors moment knowing.meaning) (take count asked) end text
       → AreFirstAnswered format why moment files text
   first_answered_by knowing count end text answers =
-      let are = all_given moment files read knowing.meaning knowing.numbers knowing.knows in record {
+      let are = all_given (At moment) files read knowing.meaning knowing.numbers knowing.knows in record {
         asked = asked;
         has = has;
         given = are.given;
@@ -131,14 +132,14 @@ module _ (format : Format) (why : Bool) (moment : ℕ) (files : Files) (asked : 
       }
 
   pub all_done : {E : Type 0} (old new : Option (List ℕ)) (result : Result Status E)
-      → IfOk result (λ end. (knowing : Ground moment rrsets said) × (text : List ℕ)
+      → IfOk result (λ end. (knowing : Ground (At moment) rrsets said) × (text : List ℕ)
       × AreAnswers format why knowing.numbers (basis_of rrsets anchors moment knowing.meaning) asked end text × Appends old new text)
       → IfOk result (λ end. (text : List ℕ) × AreAnswered format why moment files end text × Appends old new text)
   all_done old new (Ok end) done = (done.1, answered_by done.0 end done.1 done.2, done.3)
   all_done old new (Err told) done = tt
 
   pub first_begun : (old new : Option (List ℕ))
-      → (knowing : Ground moment rrsets said) × (count : ℕ) × (end : Status) × (text : List ℕ)
+      → (knowing : Ground (At moment) rrsets said) × (count : ℕ) × (end : Status) × (text : List ℕ)
       × AreAnswers format why knowing.numbers (basis_of rrsets anchors moment knowing.meaning) (take count asked) end text × AppendsBeginning old new text
       → (text : List ℕ) × AreFirstAnswered format why moment files text × AppendsBeginning old new text
   first_begun old new begun = (begun.3, first_answered_by begun.0 begun.1 begun.2 begun.3 begun.4, begun.5)
@@ -147,8 +148,8 @@ module _ (format : Format) (why : Bool) (moment : ℕ) (files : Files) (asked : 
 pub first_whole : {Same : Type 0} {AreSo : Files → Type 0} (format : Format) (why : Bool) (moment : ℕ) (asked : List Asked) {rrsets : List ReceivedRrset}
     {anchors : List Anchor} {said : Said} (old new : Option (List ℕ))
     → ((files : Files) → AreSo files → HasQuestions (octets_or_none files.questions) asked)
-    → ((files : Files) → AreSo files → AreReadFrom moment files rrsets anchors said)
-    → Same ⊎ ((knowing : Ground moment rrsets said) × (count : ℕ) × (end : Status) × (text : List ℕ)
+    → ((files : Files) → AreSo files → AreReadFrom (At moment) files rrsets anchors said)
+    → Same ⊎ ((knowing : Ground (At moment) rrsets said) × (count : ℕ) × (end : Status) × (text : List ℕ)
     × AreAnswers format why knowing.numbers (basis_of rrsets anchors moment knowing.meaning) (take count asked) end text × Appends old new text)
     → Same ⊎ ((files : Files) → AreSo files → (text : List ℕ) × AreFirstAnswered format why moment files text × Appends old new text)
 first_whole format why moment asked old new has given (inl same) = inl same
@@ -161,10 +162,10 @@ first_whole format why moment asked old new has given (inr whole) = inr (λ file
 -- ---- one case
 
 -- what is told by a case is told by what is known
-pub told_done : {moment : ℕ} {rrsets : List ReceivedRrset} {said : Said} {E : Type 0} (P : Ground moment rrsets said → Status → List ℕ → Type 0)
-    (knowing : Ground moment rrsets said) (Grows : List ℕ → Type 0) (result : Result Status E)
+pub told_done : {moment : ℕ} {rrsets : List ReceivedRrset} {said : Said} {E : Type 0} (P : Ground (At moment) rrsets said → Status → List ℕ → Type 0)
+    (knowing : Ground (At moment) rrsets said) (Grows : List ℕ → Type 0) (result : Result Status E)
     → IfOk result (λ end. (text : List ℕ) × P knowing end text × Grows text)
-    → IfOk result (λ end. (each : Ground moment rrsets said) × (text : List ℕ) × P each end text × Grows text)
+    → IfOk result (λ end. (each : Ground (At moment) rrsets said) × (text : List ℕ) × P each end text × Grows text)
 told_done P knowing Grows (Ok end) done = (knowing, done.0, done.1, done.2)
 told_done P knowing Grows (Err told) done = tt
 

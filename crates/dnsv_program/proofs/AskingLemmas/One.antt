@@ -2,6 +2,7 @@
 use Rattle.std.proofs.Common.{◌≡◌, ◌⊎◌, ◌≤◌, ◌∙◌, ℕ, Bool, List, [], ◌∷◌, ap, arith, inl, inr, map, refl, subst, sym}
 use Rattle.std.specs.List.{flat_map}
 use Rattle.std.specs.Prelude.{Contains, Option, Some, slice_get, unwrap_or}
+use Rattle.dnsv_answers.specs.declared.heading.Moments.TheVariants.{At}
 use Rattle.dnsv_names.specs.Octets.{AreOctets}
 use Rattle.dnsv_canonical.specs.Question.{Asked}
 use Rattle.dnsv_canonical.specs.Rrsets.{IsQuestion}
@@ -106,8 +107,8 @@ module _ (laws : LayerLaws) where
       → AreAnswered format why moment files s a → AreAnswered format why moment files t b → (s ≡ t) × (a ≡ b)
   one_answered moment files are format why s t a b x y =
       let asked = one_list_of_questions (octets_or_none files.questions) x.asked y.asked x.has y.has in
-      let bases = one_basis laws 0 moment files are x.given y.given in
+      let bases = one_basis laws (At moment) files are x.given y.given in
       one_of_all moment files are format why y.given.numbers (basis_in y.given) y.asked s t a b
-      (subst (λ (each : Option (List ℕ)). AreAnswers format why each (basis_in y.given) y.asked s a) (one_numbering laws 0 moment files are x.given y.given)
+      (subst (λ (each : Option (List ℕ)). AreAnswers format why each (basis_in y.given) y.asked s a) (one_numbering laws (At moment) files are x.given y.given)
       (subst (λ (each : Basis). AreAnswers format why x.given.numbers each y.asked s a) bases
       (subst (λ (each : List Asked). AreAnswers format why x.given.numbers (basis_in x.given) each s a) asked x.answers))) y.answers

@@ -62,23 +62,23 @@ same_first r s q t (inl x) (inr y) = let same = y.0 in absurd (omega (arith, x, 
 same_first r s q t (inr x) (inl y) = let same = x.0 in absurd (omega (arith, y, same))
 same_first r s q t (inr x) (inr y) = let up = x.1 in let down = y.1 in (x.0, omega (arith, up, down))
 
-one_place : (moment : ℕ) (rrsets : List ReceivedRrset) (keys : List ListedKey) → IsStrictlySortedBy key_cmp keys → (entry : Entry) (a b : Place)
-    → IsPlaceOf moment rrsets keys entry a → IsPlaceOf moment rrsets keys entry b → a ≡ b
-one_place moment rrsets keys rising entry a b x y =
+one_place : (from to : ℕ) (rrsets : List ReceivedRrset) (keys : List ListedKey) → IsStrictlySortedBy key_cmp keys → (entry : Entry) (a b : Place)
+    → IsPlaceOf from to rrsets keys entry a → IsPlaceOf from to rrsets keys entry b → a ≡ b
+one_place from to rrsets keys rising entry a b x y =
     let number = one_number keys rising a.key b.key (key_of_entry entry) x.key y.key in
     let first = same_first a.rrset a.signature b.rrset b.signature (x.signature.lowest b.rrset b.signature y.signature.gives) (y.signature.lowest a.rrset a.signature x.signature.gives) in
     λ i. record { key = number i; rrset = first.0 i; signature = first.1 i }
 
-one_list_of_places : (moment : ℕ) (rrsets : List ReceivedRrset) (keys : List ListedKey) → IsStrictlySortedBy key_cmp keys → (entries : List Entry) (a b : List Place)
-    → AreInPlaces moment rrsets keys entries a → AreInPlaces moment rrsets keys entries b → a ≡ b
-one_list_of_places moment rrsets keys rising [] [] [] x y = refl
-one_list_of_places moment rrsets keys rising [] [] (q ∷ b) x y = absurd y
-one_list_of_places moment rrsets keys rising [] (p ∷ a) b x y = absurd x
-one_list_of_places moment rrsets keys rising (entry ∷ entries) [] b x y = absurd x
-one_list_of_places moment rrsets keys rising (entry ∷ entries) (p ∷ a) [] x y = absurd y
-one_list_of_places moment rrsets keys rising (entry ∷ entries) (p ∷ a) (q ∷ b) x y =
-    let first = one_place moment rrsets keys rising entry p q x.0 y.0 in
-    let rest = one_list_of_places moment rrsets keys rising entries a b x.1 y.1 in
+one_list_of_places : (from to : ℕ) (rrsets : List ReceivedRrset) (keys : List ListedKey) → IsStrictlySortedBy key_cmp keys → (entries : List Entry) (a b : List Place)
+    → AreInPlaces from to rrsets keys entries a → AreInPlaces from to rrsets keys entries b → a ≡ b
+one_list_of_places from to rrsets keys rising [] [] [] x y = refl
+one_list_of_places from to rrsets keys rising [] [] (q ∷ b) x y = absurd y
+one_list_of_places from to rrsets keys rising [] (p ∷ a) b x y = absurd x
+one_list_of_places from to rrsets keys rising (entry ∷ entries) [] b x y = absurd x
+one_list_of_places from to rrsets keys rising (entry ∷ entries) (p ∷ a) [] x y = absurd y
+one_list_of_places from to rrsets keys rising (entry ∷ entries) (p ∷ a) (q ∷ b) x y =
+    let first = one_place from to rrsets keys rising entry p q x.0 y.0 in
+    let rest = one_list_of_places from to rrsets keys rising entries a b x.1 y.1 in
     λ i. first i ∷ rest i
 
 module _ (laws : LayerLaws) where
@@ -122,12 +122,12 @@ module _ (laws : LayerLaws) where
 
   -- ---- the list
 
-  pub one_compact_list : (moment : ℕ) (rrsets : List ReceivedRrset) (entries : List Entry) (a b : ListContents)
-      → IsCompactList moment rrsets entries a → IsCompactList moment rrsets entries b → a ≡ b
-  one_compact_list moment rrsets entries a b x y =
+  pub one_compact_list : (from to : ℕ) (rrsets : List ReceivedRrset) (entries : List Entry) (a b : ListContents)
+      → IsCompactList from to rrsets entries a → IsCompactList from to rrsets entries b → a ≡ b
+  one_compact_list from to rrsets entries a b x y =
       let keys = one_keys entries a.keys b.keys x.places.keys y.places.keys in
-      let todo = one_list_of_places moment rrsets b.keys y.places.keys.rising entries a.todo b.todo
-      (subst (λ (each : List ListedKey). AreInPlaces moment rrsets each entries a.todo) keys x.places.each) y.places.each in
+      let todo = one_list_of_places from to rrsets b.keys y.places.keys.rising entries a.todo b.todo
+      (subst (λ (each : List ListedKey). AreInPlaces from to rrsets each entries a.todo) keys x.places.each) y.places.each in
       let listed = one_list_of_rrsets b.todo 1 rrsets a.rrsets b.rrsets
       (subst (λ (each : List Place). ListsRrsets each 1 rrsets a.rrsets) todo x.listed) y.listed in
       λ i. record { keys = keys i; rrsets = listed i; todo = todo i }

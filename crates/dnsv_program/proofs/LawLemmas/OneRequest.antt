@@ -1,6 +1,7 @@
 -- A request has one text and end for its files.
 use Rattle.std.proofs.Common.{◌≡◌, List, ap, subst, sym, ℕ, ◌∙◌}
 use Rattle.std.specs.Prelude.{string_bytes}
+use Rattle.dnsv_answers.specs.declared.heading.Moments.TheVariants.{At, Between}
 use Rattle.dnsv_names.specs.Octets.{AreOctets}
 use Rattle.dnsv_canonical.specs.Evidence.{evidence_of}
 use Rattle.dnsv_files.specs.declared.opening.Opening.TheVariants.{Plain}
@@ -17,7 +18,7 @@ use Rattle.dnsv_texts.specs.Listing.{ListsRrsets, listing_text}
 use Rattle.dnsv_texts.specs.Showing.{message_text, texts_from}
 use Rattle.dnsv_program.proofs.AskingLemmas.One.{one_answered}
 use Rattle.dnsv_program.proofs.LawLemmas.OneCapture.{one_holding}
-use Rattle.dnsv_program.proofs.LawLemmas.OneText.{one_answer, one_list, one_todo}
+use Rattle.dnsv_program.proofs.LawLemmas.OneText.{one_answer, one_list, one_timeline_asked, one_todo}
 
 module _ (laws : LayerLaws) where
   -- a request has one text and end for its files
@@ -30,9 +31,11 @@ module _ (laws : LayerLaws) where
     x.1.4 ∙ ap (listing_text format moment) (one_list laws 1 (evidence_of x.1.0).rrsets x.1.2 y.1.2 x.1.3
         (subst (λ messages. ListsRrsets 1 (evidence_of messages).rrsets y.1.2) (one_holding laws NewEvidence Plain files.capture are y.1.0 x.1.0 y.1.1 x.1.1) y.1.3)) ∙ sym y.1.4,
   )
-  one_text (request.List capture moment statements (listing.Todo form) format) files are s t a b x y = (x.0 ∙ sym y.0, one_todo laws (listing.Todo form) format moment files are a b x.1 y.1)
-  one_text (request.ListRange capture from to statements form format) files are s t a b x y = absurd x
-  one_text (request.Timeline capture anchors from to asked rtype known kinds format) files are s t a b x y = absurd x
+  one_text (request.List capture moment statements (listing.Todo form) format) files are s t a b x y = (x.0 ∙ sym y.0, one_todo laws form format (At moment) files are a b x.1 y.1)
+  one_text (request.ListRange capture from to statements form format) files are s t a b x y =
+      (x.0 ∙ sym y.0, one_todo laws form format (Between from to) files are a b x.2 y.2)
+  one_text (request.Timeline capture anchors from to asked rtype known kinds format) files are s t a b x y =
+      (x.0 ∙ sym y.0, one_timeline_asked laws format kinds (string_bytes asked) rtype.0 from to files are a b x.1 y.1)
   one_text (request.Check capture anchors moment (asking.One asked rtype) statements keys macs format why) files are s t a b x y =
       one_answer laws rtype.0 moment files are format why (string_bytes asked) s t a b x y
   one_text (request.Check capture anchors moment (asking.Each questions) statements keys macs format why) files are s t a b x y =

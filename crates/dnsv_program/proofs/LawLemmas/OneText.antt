@@ -1,6 +1,8 @@
 -- For its files a request has at most one text.
 use Rattle.std.proofs.Common.{◌≡◌, ℕ, suc, Bool, List, [], ◌∷◌, ◌++◌, Option, Some, None, refl, sym, ap, subst, ◌∙◌}
 use Rattle.std.specs.Prelude.{true, false}
+use Rattle.dnsv_answers.specs.declared.heading.Moments.{Moments}
+use Rattle.dnsv_answers.specs.declared.heading.Moments.TheVariants.{At, Between}
 use Rattle.dnsv_names.specs.Name.{Labels}
 use Rattle.dnsv_names.specs.Octets.{AreOctets}
 use Rattle.dnsv_message.specs.Message.{Contents}
@@ -9,7 +11,8 @@ use Rattle.dnsv_canonical.specs.Evidence.{evidence_of}
 use Rattle.dnsv_canonical.specs.Rrsets.{ReceivedRrset}
 use Rattle.dnsv_canonical.specs.SignedData.{IsSignedData}
 use Rattle.dnsv_tsig.specs.Key.{SharedKey}
-use Rattle.dnsv_verifier.specs.Table.{IsTableOf, unknown_entries}
+use Rattle.dnsv_verifier.specs.Table.{unknown_entries}
+use Rattle.dnsv_verifier.specs.Within.{IsTableWithin}
 use Rattle.dnsv_verifier.specs.declared.answer.Answer.{Answer}
 use Rattle.dnsv_verifier.specs.declared.entry.Entry.{Entry}
 use Rattle.dnsv_verdict.specs.Verdict.{Basis, basis_of}
@@ -20,9 +23,8 @@ use Rattle.dnsv_verdict.specs.declared.verdict.Verdict.{Verdict}
 use Rattle.dnsv_explain.specs.Explained.{Explained}
 use Rattle.dnsv_explain.specs.Explanation.{IsExplanation, IsExplanationOf}
 use Rattle.dnsv_lines.specs.declared.line.Line.{Line}
-use Rattle.dnsv_commands.specs.declared.request.Listing.{Listing}
-use Rattle.dnsv_commands.specs.declared.request.Form.TheVariants as form
-use Rattle.dnsv_commands.specs.declared.request.Listing.TheVariants as listing
+use Rattle.dnsv_commands.specs.declared.request.Form.{Form}
+use Rattle.dnsv_commands.specs.declared.request.Form.TheVariants.{Compact, Whole}
 use Rattle.dnsv_files.specs.declared.opening.Opening.{Opening}
 use Rattle.dnsv_files.specs.declared.opening.Opening.TheVariants.{Plain, Signed}
 use Rattle.dnsv_files.specs.declared.status.Status.{Status}
@@ -32,13 +34,19 @@ use Rattle.dnsv_texts.specs.Checking.{check_text}
 use Rattle.dnsv_texts.specs.Compact.{compact_text}
 use Rattle.dnsv_program.specs.Work.Checking.{AreInOrder, IsCheck, IsJudged, IsWhy, basis_in, verdict_status}
 use Rattle.dnsv_files.specs.Opening.Given.{IsOpeningOf}
+use Rattle.dnsv_files.specs.Moment.{begin_of, end_of}
+use Rattle.dnsv_program.specs.Work.Opening.{IsOpeningAt}
 use Rattle.dnsv_files.specs.Files.{Files, octets_or_none}
 use Rattle.dnsv_files.specs.Opening.Keys.{MayHaveKeys}
 use Rattle.dnsv_program.specs.Layers.{LayerLaws}
 use Rattle.dnsv_texts.specs.Listing.{ListsRrsets, ListsSignatures, SignedOctets}
 use Rattle.dnsv_program.specs.Question.{Spells}
 use Rattle.dnsv_files.specs.Status.{status_code}
-use Rattle.dnsv_program.specs.Run.{IsAnswered}
+use Rattle.dnsv_program.specs.Run.{IsAnswered, IsTimelineAsked}
+use Rattle.dnsv_program.specs.Work.Timeline.{IsTimelineBehind}
+use Rattle.dnsv_timeline.specs.declared.stretch.Stretch.{Stretch}
+use Rattle.dnsv_timeline_laws.specs.Said.{Said}
+use Rattle.dnsv_timeline_texts.specs.Text.{IsTimelineText}
 use Rattle.dnsv_program.specs.Work.Listing.{IsTodo, ListsEntries}
 use Rattle.dnsv_files.proofs.OpeningLemmas.Keys.{same_keys}
 use Rattle.dnsv_files.proofs.OpeningLemmas.Macs.{same_macs}
@@ -71,23 +79,22 @@ module _ (laws : LayerLaws) where
   -- ---- list
 
   -- entries are listed in one way
-  one_listing : (lists : Listing) (format : Format) (moment : ℕ) (rrsets : List ReceivedRrset) (entries : List Entry) (a b : List ℕ)
-      → ListsEntries lists format moment rrsets entries a → ListsEntries lists format moment rrsets entries b → a ≡ b
-  one_listing (listing.Todo form.Whole) format moment rrsets entries a b x y = x ∙ sym y
-  one_listing (listing.Todo form.Compact) format moment rrsets entries a b x y =
-      x.2 ∙ ap (compact_text format moment) (one_compact_list laws moment rrsets entries x.0 y.0 x.1 y.1) ∙ sym y.2
-  one_listing listing.All format moment rrsets entries a b x y = absurd x
+  one_listing : (form : Form) (format : Format) (moments : Moments) (rrsets : List ReceivedRrset) (entries : List Entry) (a b : List ℕ)
+      → ListsEntries form format moments rrsets entries a → ListsEntries form format moments rrsets entries b → a ≡ b
+  one_listing Whole format moments rrsets entries a b x y = x ∙ sym y
+  one_listing Compact format moments rrsets entries a b x y =
+      x.2 ∙ ap (compact_text format moments) (one_compact_list laws (begin_of moments) (end_of moments) rrsets entries x.0 y.0 x.1 y.1) ∙ sym y.2
 
-  pub one_todo : (lists : Listing) (format : Format) (moment : ℕ) (files : Files) → AreOctets files.capture → (a b : List ℕ) → IsTodo lists format moment files a → IsTodo lists format moment files b → a ≡ b
-  one_todo lists format moment files are a b x y =
+  pub one_todo : (form : Form) (format : Format) (moments : Moments) (files : Files) → AreOctets files.capture → (a b : List ℕ) → IsTodo form format moments files a → IsTodo form format moments files b → a ≡ b
+  one_todo form format moments files are a b x y =
       let messages = one_holding laws NewEvidence Plain files.capture are x.messages y.messages x.holds y.holds in
       let meanings = one_meaning (octets_or_none files.statements) x.meaning y.meaning x.said y.said in
-      let first = subst (λ (meaning : Entry → Answer). IsTableOf meaning moment (evidence_of x.messages).rrsets x.table) meanings x.is_table in
-      let second = subst (λ messages. IsTableOf y.meaning moment (evidence_of messages).rrsets x.table) messages first in
-      let tables = laws.verdicts.one_table y.meaning moment (evidence_of y.messages).rrsets x.table y.table second y.is_table in
-      one_listing lists format moment (evidence_of y.messages).rrsets (unknown_entries y.table) a b
-      (subst (λ messages. ListsEntries lists format moment (evidence_of messages).rrsets (unknown_entries y.table) a) messages
-      (subst (λ table. ListsEntries lists format moment (evidence_of x.messages).rrsets (unknown_entries table) a) tables x.lines)) y.lines
+      let first = subst (λ (meaning : Entry → Answer). IsTableWithin meaning (begin_of moments) (end_of moments) (evidence_of x.messages).rrsets x.table) meanings x.is_table in
+      let second = subst (λ messages. IsTableWithin y.meaning (begin_of moments) (end_of moments) (evidence_of messages).rrsets x.table) messages first in
+      let answers = laws.verdicts.one_table y.meaning (begin_of moments) (end_of moments) (evidence_of y.messages).rrsets x.table y.table second y.is_table in
+      one_listing form format moments (evidence_of y.messages).rrsets (unknown_entries y.table) a b
+      (subst (λ messages. ListsEntries form format moments (evidence_of messages).rrsets (unknown_entries y.table) a) messages
+      (subst (λ (each : List (Entry × Answer)). ListsEntries form format moments (evidence_of x.messages).rrsets (unknown_entries (record { moment = y.table.moment; answers = each })) a) answers x.lines)) y.lines
 
   -- ---- check
 
@@ -105,35 +112,41 @@ module _ (laws : LayerLaws) where
       let lists = same_macs macs_file macs more x.2 y.2 in
       λ i. Signed (rings i) ((x.1 ∙ sym y.1) i) (lists i)
 
+  -- and so do they at moments
+  pub one_opening_at : (keys_file macs_file : Option (List ℕ)) (moments : Moments) (a b : Opening) → IsOpeningAt keys_file macs_file moments a → IsOpeningAt keys_file macs_file moments b → a ≡ b
+  one_opening_at keys_file macs_file (At moment) a b x y = one_opening keys_file macs_file moment a b x y
+  one_opening_at keys_file macs_file (Between from to) a b x y = x ∙ sym y
+
   -- a text spells one name
   pub one_question : (asked : List ℕ) (a b : Labels) → Spells asked a → Spells asked b → a ≡ b
   one_question asked a b x y = laws.names.one_name asked a b x.is_name y.is_name x.spelling y.spelling
 
-  module _ (rtype moment : ℕ) (files : Files) (are : AreOctets files.capture) where
-    same_messages : (e f : Opening) (a b : List Contents) → IsOpeningOf files.keys files.macs moment e → IsOpeningOf files.keys files.macs moment f
+  module _ (moments : Moments) (files : Files) (are : AreOctets files.capture) where
+    same_messages : (e f : Opening) (a b : List Contents) → IsOpeningAt files.keys files.macs moments e → IsOpeningAt files.keys files.macs moments f
         → Holds NewEvidence e files.capture a → Holds NewEvidence f files.capture b → a ≡ b
     same_messages e f a b x y holds also =
         one_holding laws NewEvidence f files.capture are a b
-        (subst (λ (opening : Opening). Holds NewEvidence opening files.capture a) (one_opening files.keys files.macs moment e f x y) holds) also
+        (subst (λ (opening : Opening). Holds NewEvidence opening files.capture a) (one_opening_at files.keys files.macs moments e f x y) holds) also
 
-    one_known_by : (x y : AreInOrder moment files) → (x.meaning ≡ y.meaning) × (x.numbers ≡ y.numbers)
+    one_known_by : (x y : AreInOrder moments files) → (x.meaning ≡ y.meaning) × (x.numbers ≡ y.numbers)
     one_known_by x y =
         let messages = same_messages x.opening y.opening x.messages y.messages x.opens y.opens x.holds y.holds in
-        one_known files.capture moment (evidence_of y.messages).rrsets files.statements files.answers x.meaning y.meaning x.numbers y.numbers
-        (subst (λ (each : List Contents). IsKnownBy files.capture moment (evidence_of each).rrsets files.statements files.answers x.meaning x.numbers) messages x.said) y.said
+        one_known files.capture moments (evidence_of y.messages).rrsets files.statements files.answers x.meaning y.meaning x.numbers y.numbers
+        (subst (λ (each : List Contents). IsKnownBy files.capture moments (evidence_of each).rrsets files.statements files.answers x.meaning x.numbers) messages x.said) y.said
 
     -- what the files say is one basis, for a text and for a refusal alike
-    pub one_basis : (x y : AreInOrder moment files) → basis_in x ≡ basis_in y
+    pub one_basis : (x y : AreInOrder moments files) → basis_in x ≡ basis_in y
     one_basis x y =
         let messages = same_messages x.opening y.opening x.messages y.messages x.opens y.opens x.holds y.holds in
         let anchors = laws.verdicts.one_list_of_anchors (octets_or_none files.anchors) x.anchors y.anchors x.trusted.are y.trusted.are in
         let known = one_known_by x y in
-        λ i. basis_of (evidence_of (messages i)).rrsets (anchors i) moment (known.0 i)
+        λ i. basis_of (evidence_of (messages i)).rrsets (anchors i) (begin_of moments) (known.0 i)
 
     -- and give one numbering
-    pub one_numbering : (x y : AreInOrder moment files) → x.numbers ≡ y.numbers
+    pub one_numbering : (x y : AreInOrder moments files) → x.numbers ≡ y.numbers
     one_numbering x y = (one_known_by x y).1
 
+  module _ (rtype moment : ℕ) (files : Files) (are : AreOctets files.capture) where
     -- an explanation is one of the report's links, last name and verdict alone
     explains : (basis : Basis) (report other : Report) → report.links ≡ other.links → report.last ≡ other.last → report.verdict ≡ other.verdict
         → (lines : List Line) → IsExplanationOf basis rtype report lines → IsExplanationOf basis rtype other lines
@@ -180,11 +193,27 @@ module _ (laws : LayerLaws) where
         → (s ≡ t) × (a ≡ b)
     one_check format why name s t a b x y =
         one_judged (basis_in y.given) format why y.given.numbers name s t a b
-        (subst (λ (each : Option (List ℕ)). IsJudged format why each (basis_in y.given) name rtype s a) (one_numbering x.given y.given)
-        (subst (λ (each : Basis). IsJudged format why x.given.numbers each name rtype s a) (one_basis x.given y.given) x.judged)) y.judged
+        (subst (λ (each : Option (List ℕ)). IsJudged format why each (basis_in y.given) name rtype s a) (one_numbering (At moment) files are x.given y.given)
+        (subst (λ (each : Basis). IsJudged format why x.given.numbers each name rtype s a) (one_basis (At moment) files are x.given y.given) x.judged)) y.judged
 
     pub one_answer : (format : Format) (why : Bool) (asked : List ℕ) (s t : Status) (a b : List ℕ) → IsAnswered format why asked rtype moment files s a → IsAnswered format why asked rtype moment files t b
         → (s ≡ t) × (a ≡ b)
     one_answer format why asked s t a b x y =
         one_check format why y.0 s t a b
         (subst (λ (name : Labels). IsCheck format why name rtype moment files s a) (one_question asked x.0 y.0 x.1 y.1) x.3) y.3
+
+  -- ---- timeline
+
+  pub one_timeline : (format : Format) (kinds : Bool) (basis : Basis) (name : Labels) (rtype to : ℕ) (a b : List ℕ)
+      → IsTimelineBehind format kinds basis name rtype to a → IsTimelineBehind format kinds basis name rtype to b → a ≡ b
+  one_timeline format kinds basis name rtype to a b x y =
+      let same = laws.timelines.one_timeline format basis name rtype basis.moment to x.stretches y.stretches x.is_timeline y.is_timeline in
+      laws.timelines.one_text format kinds basis.rrsets name rtype basis.moment to y.stretches a b
+      (subst (λ (each : List (Stretch Said)). IsTimelineText format kinds basis.rrsets name rtype basis.moment to each a) same x.lines) y.lines
+
+  pub one_timeline_asked : (format : Format) (kinds : Bool) (asked : List ℕ) (rtype from to : ℕ) (files : Files) → AreOctets files.capture → (a b : List ℕ)
+      → IsTimelineAsked format kinds asked rtype from to files a → IsTimelineAsked format kinds asked rtype from to files b → a ≡ b
+  one_timeline_asked format kinds asked rtype from to files are a b x y =
+      one_timeline format kinds (basis_in y.4.given) y.0 rtype to a b
+      (subst (λ (name : Labels). IsTimelineBehind format kinds (basis_in y.4.given) name rtype to a) (one_question asked x.0 y.0 x.1 y.1)
+      (subst (λ (basis : Basis). IsTimelineBehind format kinds basis x.0 rtype to a) (one_basis (Between from to) files are x.4.given y.4.given) x.4.timeline)) y.4.timeline

@@ -14,7 +14,10 @@ use Rattle.dnsv_verdict.specs.Verdict.{Basis, basis_of}
 use Rattle.dnsv_files.specs.Files.Anchors.{HasAnchors}
 use Rattle.dnsv_files.specs.declared.opening.Opening.{Opening}
 use Rattle.dnsv_files.specs.Files.Capture.{Holds, NewEvidence}
-use Rattle.dnsv_files.specs.Opening.Given.{IsOpeningOf}
+use Rattle.dnsv_program.specs.Work.Opening.{IsOpeningAt}
+use Rattle.dnsv_files.specs.Moment.{begin_of}
+use Rattle.dnsv_answers.specs.declared.heading.Moments.{Moments}
+use Rattle.dnsv_answers.specs.declared.heading.Moments.TheVariants.{At}
 use Rattle.dnsv_program.specs.Run.{IsFirstFaultOfFiles}
 use Rattle.dnsv_program.specs.Work.Checking.{AreGivenBy, AreReadFrom, IsCheck, IsJudged, basis_in}
 use Rattle.dnsv_program.specs.Work.Known.{AreMiscountedIn, Ground, IsFaultOfKnown, IsKnown, IsKnownBy, IsSaidBy}
@@ -36,12 +39,12 @@ pub framed_by : (frames : List (Bor (List ℕ))) {octets : Option (List ℕ)} {f
 framed_by frames is held = of_told (λ file. IsCapture file (octets_at_each frames)) is held
 
 -- what is read of the files, where all were taken
-pub all_read : (moment : ℕ) (files : Files) (opening : Opening) → IsOpeningOf files.keys files.macs moment opening → (held : Evidence) (anchors : List Anchor)
+pub all_read : (moments : Moments) (files : Files) (opening : Opening) → IsOpeningAt files.keys files.macs moments opening → (held : Evidence) (anchors : List Anchor)
     (said : Said) {octets : Option (List ℕ)} → octets ≡ Some files.capture
     → IfSome octets (λ file. (messages : List Contents) × Holds NewEvidence opening file messages × (held ≡ evidence_of messages))
-    → HasAnchors (octets_or_none files.anchors) anchors → IsSaidBy files.capture moment files.statements files.answers said
-    → AreReadFrom moment files held.rrsets anchors said
-all_read moment files opening opens held anchors said is taken trusted says =
+    → HasAnchors (octets_or_none files.anchors) anchors → IsSaidBy files.capture moments files.statements files.answers said
+    → AreReadFrom moments files held.rrsets anchors said
+all_read moments files opening opens held anchors said is taken trusted says =
     let evidence = of_told (λ file. (messages : List Contents) × Holds NewEvidence opening file messages × (held ≡ evidence_of messages)) is taken in record {
       opening = opening;
       opens = opens;
@@ -52,10 +55,10 @@ all_read moment files opening opens held anchors said is taken trusted says =
       says = says;
     }
 
-module _ (capture : List ℕ) (moment : ℕ) (rrsets : List ReceivedRrset) where
+module _ (capture : List ℕ) (moments : Moments) (rrsets : List ReceivedRrset) where
   -- what is read and known is known by the files
-  known_by : (stated answered : Option (List ℕ)) (said : Said) (meaning : Entry → Answer) (numbers : Option (List ℕ)) → IsSaidBy capture moment stated answered said
-      → IsKnown moment rrsets said meaning numbers → IsKnownBy capture moment rrsets stated answered meaning numbers
+  known_by : (stated answered : Option (List ℕ)) (said : Said) (meaning : Entry → Answer) (numbers : Option (List ℕ)) → IsSaidBy capture moments stated answered said
+      → IsKnown moments rrsets said meaning numbers → IsKnownBy capture moments rrsets stated answered meaning numbers
   known_by stated None (said.Statements listed) meaning numbers says knows =
       (subst (λ (each : Entry → Answer). IsMeaningOf (octets_or_none stated) each) (sym knows.0) says, knows.1)
   known_by stated None (said.Answers contents) meaning numbers says knows = absurd says
@@ -63,17 +66,17 @@ module _ (capture : List ℕ) (moment : ℕ) (rrsets : List ReceivedRrset) where
   known_by stated (Some text) (said.Answers contents) meaning numbers says knows = (contents, says, knows)
 
   -- and what isn't known for the number of answers is at fault in the files
-  unknown_by : (stated answered : Option (List ℕ)) (said : Said) (why : Refusal) (place : Place) → IsSaidBy capture moment stated answered said
-      → AreMiscountedIn moment rrsets said why place → IsFaultOfKnown capture moment rrsets stated answered (fault.Refused why place)
+  unknown_by : (stated answered : Option (List ℕ)) (said : Said) (why : Refusal) (place : Place) → IsSaidBy capture moments stated answered said
+      → AreMiscountedIn moments rrsets said why place → IsFaultOfKnown capture moments rrsets stated answered (fault.Refused why place)
   unknown_by stated None (said.Statements listed) why place says bad = absurd bad
   unknown_by stated None (said.Answers contents) why place says bad = absurd says
   unknown_by stated (Some text) (said.Statements listed) why place says bad = absurd says
   unknown_by stated (Some text) (said.Answers contents) why place says bad = (says.has.within, inr (contents, says.has.are, says.are_for, bad))
 
-module _ (moment : ℕ) (files : Files) {rrsets : List ReceivedRrset} {anchors : List Anchor} {said : Said} (read : AreReadFrom moment files rrsets anchors said) where
+module _ (moments : Moments) (files : Files) {rrsets : List ReceivedRrset} {anchors : List Anchor} {said : Said} (read : AreReadFrom moments files rrsets anchors said) where
   -- the files say what questions are judged by
-  pub all_given : (meaning : Entry → Answer) (numbers : Option (List ℕ)) → IsKnown moment rrsets said meaning numbers
-      → AreGivenBy moment files rrsets anchors meaning numbers
+  pub all_given : (meaning : Entry → Answer) (numbers : Option (List ℕ)) → IsKnown moments rrsets said meaning numbers
+      → AreGivenBy moments files rrsets anchors meaning numbers
   all_given meaning numbers knows = record {
     given = record {
       opening = read.opening;
@@ -84,15 +87,15 @@ module _ (moment : ℕ) (files : Files) {rrsets : List ReceivedRrset} {anchors :
       trusted = read.trusted;
       meaning = meaning;
       numbers = numbers;
-      said = subst (λ (each : List ReceivedRrset). IsKnownBy files.capture moment each files.statements files.answers meaning numbers) read.is
-          (known_by files.capture moment rrsets files.statements files.answers said meaning numbers read.says knows);
+      said = subst (λ (each : List ReceivedRrset). IsKnownBy files.capture moments each files.statements files.answers meaning numbers) read.is
+          (known_by files.capture moments rrsets files.statements files.answers said meaning numbers read.says knows);
     };
-    is = ap (λ (each : List ReceivedRrset). basis_of each anchors moment meaning) read.is;
+    is = ap (λ (each : List ReceivedRrset). basis_of each anchors (begin_of moments) meaning) read.is;
     told = refl;
   }
 
   -- and are at fault where there are more or fewer answers than entries
-  pub none_given : (why : Refusal) (place : Place) → AreMiscountedIn moment rrsets said why place → IsFirstFaultOfFiles moment files (fault.Refused why place)
+  pub none_given : (why : Refusal) (place : Place) → AreMiscountedIn moments rrsets said why place → IsFirstFaultOfFiles moments files (fault.Refused why place)
   none_given why place bad =
       inr (
         read.opening,
@@ -102,22 +105,22 @@ module _ (moment : ℕ) (files : Files) {rrsets : List ReceivedRrset} {anchors :
           read.holds,
           inr (
             (anchors, read.trusted),
-            subst (λ (each : List ReceivedRrset). IsFaultOfKnown files.capture moment each files.statements files.answers (fault.Refused why place)) read.is
-                (unknown_by files.capture moment rrsets files.statements files.answers said why place read.says bad),
+            subst (λ (each : List ReceivedRrset). IsFaultOfKnown files.capture moments each files.statements files.answers (fault.Refused why place)) read.is
+                (unknown_by files.capture moments rrsets files.statements files.answers said why place read.says bad),
           ),
         ),
       )
 
 -- what is judged by what the files say is judged over them
 pub all_checked : (format : Format) (why : Bool) (name : Labels) (rtype moment : ℕ) (files : Files) {rrsets : List ReceivedRrset} {anchors : List Anchor} {said : Said}
-    → AreReadFrom moment files rrsets anchors said → (result : Result Outcome Fault)
-    → IfOk result (λ outcome. (knowing : Ground moment rrsets said)
+    → AreReadFrom (At moment) files rrsets anchors said → (result : Result Outcome Fault)
+    → IfOk result (λ outcome. (knowing : Ground (At moment) rrsets said)
     × IsJudged format why knowing.numbers (basis_of rrsets anchors moment knowing.meaning) name rtype outcome.status (string_bytes outcome.text))
     → IfOk result (λ outcome. IsCheck format why name rtype moment files outcome.status (string_bytes outcome.text))
 all_checked format why name rtype moment files read (Err told) judged = tt
 all_checked format why name rtype moment files read (Ok outcome) judged =
     let knowing = judged.0 in
-    let are = all_given moment files read knowing.meaning knowing.numbers knowing.knows in record {
+    let are = all_given (At moment) files read knowing.meaning knowing.numbers knowing.knows in record {
       given = are.given;
       judged = subst (λ (each : Option (List ℕ)). IsJudged format why each (basis_in are.given) name rtype outcome.status (string_bytes outcome.text)) are.told
           (subst (λ (basis : Basis). IsJudged format why knowing.numbers basis name rtype outcome.status (string_bytes outcome.text)) are.is judged.1);

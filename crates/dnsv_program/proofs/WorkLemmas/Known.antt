@@ -5,8 +5,9 @@ use Rattle.dnsv_answers.specs.declared.said.SaidAnswer.{SaidAnswer}
 use Rattle.dnsv_verifier.specs.declared.answer.Answer.{Answer}
 use Rattle.dnsv_verifier.specs.declared.answer.Answer.TheVariants.{Invalid, Unknown, Valid}
 use Rattle.dnsv_canonical.specs.Rrsets.{ReceivedRrset}
+use Rattle.dnsv_answers.specs.declared.heading.Moments.{Moments}
 use Rattle.dnsv_answers.specs.AnswerFile.{AnswersContents, answers_in}
-use Rattle.dnsv_answers.specs.Answered.{IsAnsweredTable}
+use Rattle.dnsv_answers.specs.Answered.{IsAnsweredTableWithin}
 use Rattle.dnsv_verifier.specs.Statements.{listed_answer}
 use Rattle.dnsv_verifier.specs.Table.{TableContents, table_answer}
 use Rattle.dnsv_verifier.specs.declared.entry.Entry.{Entry}
@@ -18,6 +19,7 @@ use Rattle.dnsv_files.specs.Told.{IsFaultOf}
 use Rattle.dnsv_program.specs.Work.Known.{AreMeant, AreMiscountedIn, IsFaultBeforeKnown, IsKnown, IsSaidBy, numbers_said, open_numbers}
 use Rattle.dnsv_files.specs.declared.status.Fault.{Fault}
 use Rattle.dnsv_files.specs.declared.status.Fault.TheVariants as fault
+use Rattle.dnsv_files.specs.Moment.{begin_of, end_of}
 use Rattle.dnsv_program.specs.declared.work.given.Said.{Said}
 use Rattle.dnsv_program.specs.declared.work.given.Said.TheVariants as said
 
@@ -53,26 +55,26 @@ open_step said i d old new within so_far is =
 
 -- ---- what is known
 
-module _ (Holds : (Entry → Answer) → Type 0) (moment : ℕ) (rrsets : List ReceivedRrset) (what : Said) where
+module _ (Holds : (Entry → Answer) → Type 0) (moments : Moments) (rrsets : List ReceivedRrset) (what : Said) where
   abbrev pub IsKnownSo : Said → Type 0
-  IsKnownSo each = (meaning : Entry → Answer) × IsKnown moment rrsets each meaning (numbers_said each) × Holds meaning
+  IsKnownSo each = (meaning : Entry → Answer) × IsKnown moments rrsets each meaning (numbers_said each) × Holds meaning
 
   -- by statements
   pub known_stated : (listed : List (Entry × Word)) → what ≡ said.Statements listed → Holds (listed_answer listed) → IsKnownSo what
   known_stated listed is holds = subst (λ (each : Said). IsKnownSo each) (sym is) (listed_answer listed, (refl, refl), holds)
 
   -- by answers
-  pub known_answered : (contents : AnswersContents) (table : TableContents) → what ≡ said.Answers contents → IsAnsweredTable moment rrsets (answers_in contents) table
+  pub known_answered : (contents : AnswersContents) (table : TableContents) → what ≡ said.Answers contents → IsAnsweredTableWithin (begin_of moments) (end_of moments) rrsets (answers_in contents) table
       → Holds (table_answer table) → IsKnownSo what
   known_answered contents table is answered holds =
-      let meant : AreMeant moment rrsets contents (table_answer table) (Some (open_numbers 1 (answers_in contents))) =
+      let meant : AreMeant moments rrsets contents (table_answer table) (Some (open_numbers 1 (answers_in contents))) =
       record { table = table; is_table = answered; says = refl; numbered = refl } in
       subst (λ (each : Said). IsKnownSo each) (sym is) (table_answer table, meant, holds)
 
 -- more or fewer answers than entries are a fault of what is said
-pub miscounted : (moment : ℕ) (rrsets : List ReceivedRrset) (what : Said) (contents : AnswersContents) (told : Fault) → what ≡ said.Answers contents
-    → IsFaultOf (AreTooManyOrFew moment rrsets contents) told → IsFaultOf (AreMiscountedIn moment rrsets what) told
-miscounted moment rrsets what contents told is bad = subst (λ (each : Said). IsFaultOf (AreMiscountedIn moment rrsets each) told) (sym is) bad
+pub miscounted : (moments : Moments) (rrsets : List ReceivedRrset) (what : Said) (contents : AnswersContents) (told : Fault) → what ≡ said.Answers contents
+    → IsFaultOf (AreTooManyOrFew moments rrsets contents) told → IsFaultOf (AreMiscountedIn moments rrsets what) told
+miscounted moments rrsets what contents told is bad = subst (λ (each : Said). IsFaultOf (AreMiscountedIn moments rrsets each) told) (sym is) bad
 
 -- ---- which file is read
 
@@ -81,18 +83,18 @@ given_some None is = let bad : false ≡ true = is in cc
 given_some (Some x) is = λ none. cc
 
 -- where answers are given, they are what is said
-pub said_by : (capture : List ℕ) (moment : ℕ) (stated answered : Option (List ℕ)) (contents : AnswersContents) → IsGiven answered
-    → AreSaidFor capture moment (octets_or_none answered) contents → IsSaidBy capture moment stated answered (said.Answers contents)
-said_by capture moment stated (Some text) contents given are = are
-said_by capture moment stated None contents given are = absurd (given refl)
+pub said_by : (capture : List ℕ) (moments : Moments) (stated answered : Option (List ℕ)) (contents : AnswersContents) → IsGiven answered
+    → AreSaidFor capture moments (octets_or_none answered) contents → IsSaidBy capture moments stated answered (said.Answers contents)
+said_by capture moments stated (Some text) contents given are = are
+said_by capture moments stated None contents given are = absurd (given refl)
 
 -- and their fault is the fault
-pub faulty_before : (capture : List ℕ) (moment : ℕ) (stated answered : Option (List ℕ)) (told : Fault) → IsGiven answered
-    → OfOctets (IsFaultBeforeCount capture moment (octets_or_none answered)) told → OfOctets (IsFaultBeforeKnown capture moment stated answered) told
-faulty_before capture moment stated None told given holds = absurd (given refl)
-faulty_before capture moment stated (Some text) (fault.Refused why place) given holds = holds
-faulty_before capture moment stated (Some text) (fault.TooLong file) given holds = holds
-faulty_before capture moment stated (Some text) fault.OutOfMemory given holds = tt
-faulty_before capture moment stated (Some text) (fault.ReadFailed file) given holds = tt
-faulty_before capture moment stated (Some text) (fault.OpenFailed file) given holds = tt
-faulty_before capture moment stated (Some text) fault.WriteFailed given holds = tt
+pub faulty_before : (capture : List ℕ) (moments : Moments) (stated answered : Option (List ℕ)) (told : Fault) → IsGiven answered
+    → OfOctets (IsFaultBeforeCount capture moments (octets_or_none answered)) told → OfOctets (IsFaultBeforeKnown capture moments stated answered) told
+faulty_before capture moments stated None told given holds = absurd (given refl)
+faulty_before capture moments stated (Some text) (fault.Refused why place) given holds = holds
+faulty_before capture moments stated (Some text) (fault.TooLong file) given holds = holds
+faulty_before capture moments stated (Some text) fault.OutOfMemory given holds = tt
+faulty_before capture moments stated (Some text) (fault.ReadFailed file) given holds = tt
+faulty_before capture moments stated (Some text) (fault.OpenFailed file) given holds = tt
+faulty_before capture moments stated (Some text) fault.WriteFailed given holds = tt

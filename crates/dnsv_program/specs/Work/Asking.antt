@@ -1,6 +1,7 @@
 -- What the answers to many questions are: each by itself, one text behind the other, and the greatest exit status.
 use Rattle.std.specs.Prelude.{◌≡◌, ◌⊎◌, ◌≤◌, ℕ, Bool, List, [], ◌∷◌, Contains, Option, map, take}
 use Rattle.std.specs.List.{flat_map}
+use Rattle.dnsv_answers.specs.declared.heading.Moments.TheVariants.{At}
 use Rattle.dnsv_canonical.specs.Question.{Asked}
 use Rattle.dnsv_canonical.specs.Rrsets.{IsQuestion}
 use Rattle.dnsv_verdict.specs.Verdict.{Basis}
@@ -62,14 +63,14 @@ pub record AreAnswers (format : Format) (why : Bool) (numbers : Option (List ℕ
 pub record AreAnswered (format : Format) (why : Bool) (moment : ℕ) (files : Files) (end : Status) (text : List ℕ) : Type 0 where
   pub asked : List Asked
   pub has : HasQuestions (octets_or_none files.questions) asked
-  pub given : AreInOrder moment files
+  pub given : AreInOrder (At moment) files
   pub answers : AreAnswers format why given.numbers (basis_in given) asked end text
 
 -- the text is that of some of the questions, from the first on
 pub record AreFirstAnswered (format : Format) (why : Bool) (moment : ℕ) (files : Files) (text : List ℕ) : Type 0 where
   pub asked : List Asked
   pub has : HasQuestions (octets_or_none files.questions) asked
-  pub given : AreInOrder moment files
+  pub given : AreInOrder (At moment) files
   pub count : ℕ
   pub end : Status
   pub answers : AreAnswers format why given.numbers (basis_in given) (take count asked) end text

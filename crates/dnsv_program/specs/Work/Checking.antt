@@ -6,6 +6,8 @@ use Rattle.dnsv_canonical.specs.Evidence.{evidence_of}
 use Rattle.dnsv_canonical.specs.Rrsets.{ReceivedRrset}
 use Rattle.dnsv_verifier.specs.declared.answer.Answer.{Answer}
 use Rattle.dnsv_verifier.specs.declared.entry.Entry.{Entry}
+use Rattle.dnsv_answers.specs.declared.heading.Moments.{Moments}
+use Rattle.dnsv_answers.specs.declared.heading.Moments.TheVariants.{At}
 use Rattle.dnsv_chain.specs.declared.anchor.Anchor.{Anchor}
 use Rattle.dnsv_verdict.specs.Way.{IsRefusedFor, IsVerdictOf}
 use Rattle.dnsv_verdict.specs.declared.error.VerdictError.{VerdictError}
@@ -19,9 +21,10 @@ use Rattle.dnsv_lines.specs.declared.line.Line.{Line}
 use Rattle.dnsv_files.specs.Files.Anchors.{HasAnchors}
 use Rattle.dnsv_files.specs.declared.opening.Opening.{Opening}
 use Rattle.dnsv_files.specs.Files.Capture.{Holds, NewEvidence}
-use Rattle.dnsv_files.specs.Opening.Given.{IsOpeningOf}
 use Rattle.dnsv_files.specs.Files.{Files, octets_or_none}
 use Rattle.dnsv_program.specs.Work.Known.{IsKnownBy, IsSaidBy}
+use Rattle.dnsv_program.specs.Work.Opening.{IsOpeningAt}
+use Rattle.dnsv_files.specs.Moment.{begin_of}
 use Rattle.dnsv_program.specs.declared.work.given.Said.{Said}
 use Rattle.dnsv_files.specs.Status.{status_code}
 use Rattle.dnsv_texts.specs.declared.format.Format.{Format}
@@ -57,38 +60,38 @@ verdict_fault error.AliasTargets = fault.Refused (refusal.Question error.AliasTa
 
 -- The files are in order: the capture holds messages, in frames that the keys open at the moment where keys are given,
 -- each of them evidence besides those before it, and there are trust anchors, and statements, or the answers to the
--- capture's list at the moment, which give the entries that are still open their numbers.
-pub record AreInOrder (moment : ℕ) (files : Files) : Type 0 where
+-- capture's list of the moments, which give the entries that are still open their numbers.
+pub record AreInOrder (moments : Moments) (files : Files) : Type 0 where
   pub opening : Opening
-  pub opens : IsOpeningOf files.keys files.macs moment opening
+  pub opens : IsOpeningAt files.keys files.macs moments opening
   pub messages : List Contents
   pub holds : Holds NewEvidence opening files.capture messages
   pub anchors : List Anchor
   pub trusted : HasAnchors (octets_or_none files.anchors) anchors
   pub meaning : Entry → Answer
   pub numbers : Option (List ℕ)
-  pub said : IsKnownBy files.capture moment (evidence_of messages).rrsets files.statements files.answers meaning numbers
+  pub said : IsKnownBy files.capture moments (evidence_of messages).rrsets files.statements files.answers meaning numbers
 
--- what a question is judged by, at the moment
-abbrev pub basis_in : {moment : ℕ} {files : Files} → AreInOrder moment files → Basis
-basis_in {moment} given = basis_of (evidence_of given.messages).rrsets given.anchors moment given.meaning
+-- what a question is judged by, at the moment, or at the first of the range
+abbrev pub basis_in : {moments : Moments} {files : Files} → AreInOrder moments files → Basis
+basis_in {moments} given = basis_of (evidence_of given.messages).rrsets given.anchors (begin_of moments) given.meaning
 
 -- what is read of the files: this evidence, these anchors, and this of signatures; how many answers there are isn't said
-pub record AreReadFrom (moment : ℕ) (files : Files) (rrsets : List ReceivedRrset) (anchors : List Anchor) (said : Said) : Type 0 where
+pub record AreReadFrom (moments : Moments) (files : Files) (rrsets : List ReceivedRrset) (anchors : List Anchor) (said : Said) : Type 0 where
   pub opening : Opening
-  pub opens : IsOpeningOf files.keys files.macs moment opening
+  pub opens : IsOpeningAt files.keys files.macs moments opening
   pub messages : List Contents
   pub holds : Holds NewEvidence opening files.capture messages
   pub is : rrsets ≡ (evidence_of messages).rrsets
   pub trusted : HasAnchors (octets_or_none files.anchors) anchors
-  pub says : IsSaidBy files.capture moment files.statements files.answers said
+  pub says : IsSaidBy files.capture moments files.statements files.answers said
 
 -- the files are in order, and questions are judged by this evidence, these anchors and what is known of signatures, and
 -- told with these numbers
-pub record AreGivenBy (moment : ℕ) (files : Files) (rrsets : List ReceivedRrset) (anchors : List Anchor) (meaning : Entry → Answer)
+pub record AreGivenBy (moments : Moments) (files : Files) (rrsets : List ReceivedRrset) (anchors : List Anchor) (meaning : Entry → Answer)
     (numbers : Option (List ℕ)) : Type 0 where
-  pub given : AreInOrder moment files
-  pub is : basis_of rrsets anchors moment meaning ≡ basis_in given
+  pub given : AreInOrder moments files
+  pub is : basis_of rrsets anchors (begin_of moments) meaning ≡ basis_in given
   pub told : numbers ≡ given.numbers
 
 -- where it is asked why the verdict stands, the lines that explain it are told, and else none
@@ -110,13 +113,13 @@ pub record IsJudged (format : Format) (why : Bool) (numbers : Option (List ℕ))
 
 -- the files are in order, and these are the end and the text of the question by what they say
 pub record IsCheck (format : Format) (why : Bool) (name : Labels) (rtype moment : ℕ) (files : Files) (end : Status) (text : List ℕ) : Type 0 where
-  pub given : AreInOrder moment files
+  pub given : AreInOrder (At moment) files
   pub judged : IsJudged format why given.numbers (basis_in given) name rtype end text
 
 -- The files are in order, and the question is refused: a way over aliases from its name ends at one that can't be
 -- followed. The refusal has no place.
 pub record IsStopped (name : Labels) (rtype moment : ℕ) (files : Files) (told : Fault) : Type 0 where
-  pub given : AreInOrder moment files
+  pub given : AreInOrder (At moment) files
   pub error : VerdictError
   pub refused : IsRefusedFor (basis_in given) name rtype error
   pub is : told ≡ verdict_fault error

@@ -1,15 +1,17 @@
 -- What `list` lists over the files: what each signature signs, or what a verifier still has to check.
-use Rattle.std.specs.Prelude.{◌≡◌, ℕ, Bool, true, false, List}
+use Rattle.std.specs.Prelude.{◌≡◌, ℕ, List}
 use Rattle.dnsv_message.specs.Message.{Contents}
 use Rattle.dnsv_canonical.specs.Evidence.{evidence_of}
 use Rattle.dnsv_canonical.specs.Rrsets.{ReceivedRrset}
 use Rattle.dnsv_compact.specs.CompactList.{IsCompactList, ListContents}
 use Rattle.dnsv_verifier.specs.declared.answer.Answer.{Answer}
 use Rattle.dnsv_verifier.specs.declared.entry.Entry.{Entry}
-use Rattle.dnsv_verifier.specs.Table.{IsTableOf, TableContents, unknown_entries}
-use Rattle.dnsv_commands.specs.declared.request.Listing.{Listing}
+use Rattle.dnsv_verifier.specs.Table.{TableContents, unknown_entries}
+use Rattle.dnsv_verifier.specs.Within.{IsTableWithin}
+use Rattle.dnsv_answers.specs.declared.heading.Moments.{Moments}
+use Rattle.dnsv_commands.specs.declared.request.Form.{Form}
 use Rattle.dnsv_commands.specs.declared.request.Form.TheVariants.{Compact, Whole}
-use Rattle.dnsv_commands.specs.declared.request.Listing.TheVariants.{All, Todo}
+use Rattle.dnsv_files.specs.Moment.{begin_of, end_of}
 use Rattle.dnsv_files.specs.declared.opening.Opening.TheVariants.{Plain}
 use Rattle.dnsv_files.specs.Files.Capture.{Holds, NewEvidence}
 use Rattle.dnsv_files.specs.Files.{Files, octets_or_none}
@@ -25,25 +27,21 @@ IsListing format moment file text =
     (messages : List Contents) × Holds NewEvidence Plain file messages × (listed : List SignedOctets)
     × ListsRrsets 1 (evidence_of messages).rrsets listed × (text ≡ listing_text format moment listed)
 
--- whether the signed octets of all signatures are listed, whatever was checked
-abbrev pub lists_all : Listing → Bool
-lists_all (Todo form) = false
-lists_all All = true
-
--- the text lists entries that are asked of the RRsets: each whole, or each octet once
-abbrev pub ListsEntries : Listing → Format → ℕ → List ReceivedRrset → List Entry → List ℕ → Type 0
-ListsEntries (Todo Whole) format moment rrsets entries text = text ≡ todo_text format moment entries
-ListsEntries (Todo Compact) format moment rrsets entries text =
-    (list : ListContents) × IsCompactList moment rrsets entries list × (text ≡ compact_text format moment list)
-ListsEntries All format moment rrsets entries text = ⊥
+-- the text lists entries that are asked of the RRsets at some of the moments: each whole, or each octet once
+abbrev pub ListsEntries : Form → Format → Moments → List ReceivedRrset → List Entry → List ℕ → Type 0
+ListsEntries Whole format moments rrsets entries text = text ≡ todo_text format moments entries
+ListsEntries Compact format moments rrsets entries text =
+    (list : ListContents) × IsCompactList (begin_of moments) (end_of moments) rrsets entries list
+    × (text ≡ compact_text format moments list)
 
 -- The capture holds messages, each of them evidence besides those before it, and the text has an entry for each
--- signature that some key of theirs may be used to verify at the moment and of which the statements say nothing.
-pub record IsTodo (listing : Listing) (format : Format) (moment : ℕ) (files : Files) (text : List ℕ) : Type 0 where
+-- signature that some key of theirs may be used to verify at the moment, or at some moment of the range, and of which the
+-- statements say nothing.
+pub record IsTodo (form : Form) (format : Format) (moments : Moments) (files : Files) (text : List ℕ) : Type 0 where
   pub messages : List Contents
   pub holds : Holds NewEvidence Plain files.capture messages
   pub meaning : Entry → Answer
   pub said : IsMeaningOf (octets_or_none files.statements) meaning
   pub table : TableContents
-  pub is_table : IsTableOf meaning moment (evidence_of messages).rrsets table
-  pub lines : ListsEntries listing format moment (evidence_of messages).rrsets (unknown_entries table) text
+  pub is_table : IsTableWithin meaning (begin_of moments) (end_of moments) (evidence_of messages).rrsets table
+  pub lines : ListsEntries form format moments (evidence_of messages).rrsets (unknown_entries table) text

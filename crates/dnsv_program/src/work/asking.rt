@@ -2,6 +2,7 @@
 ghost use Rattle.std.specs.Prelude.{◌≡◌, ◌⊎◌, ◌<◌, ℕ, Err, IfErr, IfOk, List, string_bytes, take};
 ghost use Rattle.std.specs.Io.KnownBytes.{Appends};
 ghost use Rattle.dnsv_message.specs.Streams.Counted.{inner_of, failures_of, AppendsBeginning};
+ghost use Rattle.dnsv_answers.specs.declared.heading.Moments.TheVariants.{At};
 ghost use Rattle.dnsv_canonical.specs.Question as asked;
 ghost use Rattle.dnsv_verdict.specs.Case.{IsCaseOf};
 ghost use Rattle.dnsv_verdict.specs.Verdict.{Basis, basis_of};
@@ -20,6 +21,7 @@ use crate::work::Outcome;
 use crate::work::given::{Given, given_in};
 use crate::work::judging::{Asked, Judging, Telling, outcome_by, verdict_fault};
 use crate::work::known::{OpenNumbers, open_case};
+use crate::work::span::Span;
 use bumpalo::Bump;
 use dnsv_canonical::Rrset;
 use dnsv_files::{Fault, InputFile, Inputs, Moment, Status, text_in};
@@ -63,7 +65,7 @@ pub fn check_each<R: Read, W: Write>(
         → output.new ≡ output.old) }
 {
     let questions: Questions = text_in(alloc, InputFile::Questions, &mut inputs.questions)?;
-    let given = given_in(alloc, moment, inputs, bump)?;
+    let given = given_in(alloc, &Span::At(moment), inputs, bump)?;
     answer_all(
         alloc,
         bump,
@@ -85,21 +87,21 @@ fn answer_all<W: Write>(
     questions: &[StoredQuestion],
     output: &mut Counted<W>,
 ) -> Result<Status, Fault>
-    ensures done { IfOk result (λ end. (knowing : Ground moment given.now.held.rrsets given.now.said) × (text : List ℕ)
+    ensures done { IfOk result (λ end. (knowing : Ground (At moment) given.now.held.rrsets given.now.said) × (text : List ℕ)
         × AreAnswers telling.format telling.why knowing.numbers (basis_of given.now.held.rrsets given.now.anchors moment
         knowing.meaning) questions.now end text
         × Appends (W.contents (inner_of output.old)) (W.contents (inner_of output.new)) text) }
-    ensures only { IfErr result (λ fault. IsFaultOf (AreMiscountedIn moment given.now.held.rrsets given.now.said) fault
+    ensures only { IfErr result (λ fault. IsFaultOf (AreMiscountedIn (At moment) given.now.held.rrsets given.now.said) fault
         ⊎ (fault ≡ Fault.WriteFailed)) }
     ensures write { result ≡ Err Fault.WriteFailed
         → failures_of output.old < u64.MAX → failures_of output.old < failures_of output.new }
-    ensures begun { result ≡ Err Fault.WriteFailed → (knowing : Ground moment given.now.held.rrsets given.now.said)
+    ensures begun { result ≡ Err Fault.WriteFailed → (knowing : Ground (At moment) given.now.held.rrsets given.now.said)
         × (count : ℕ) × (end : Status) × (text : List ℕ)
         × AreAnswers telling.format telling.why knowing.numbers (basis_of given.now.held.rrsets given.now.anchors moment
         knowing.meaning) (take count questions.now) end text
         × AppendsBeginning (W.contents (inner_of output.old)) (W.contents (inner_of output.new)) text }
     ensures whole { result ≡ Err Fault.OutOfMemory → (output.new ≡ output.old)
-        ⊎ ((knowing : Ground moment given.now.held.rrsets given.now.said) × (count : ℕ) × (end : Status) × (text : List ℕ)
+        ⊎ ((knowing : Ground (At moment) given.now.held.rrsets given.now.said) × (count : ℕ) × (end : Status) × (text : List ℕ)
         × AreAnswers telling.format telling.why knowing.numbers (basis_of given.now.held.rrsets given.now.anchors moment
         knowing.meaning) (take count questions.now) end text
         × Appends (W.contents (inner_of output.old)) (W.contents (inner_of output.new)) text) }

@@ -1,5 +1,6 @@
 //! The work of `check` and of `explain`: the question and the files are read, and then it is judged.
 ghost use Rattle.std.specs.Prelude.{◌≡◌, ◌⊎◌, IfErr, IfOk, string_bytes};
+ghost use Rattle.dnsv_answers.specs.declared.heading.Moments.TheVariants.{At};
 ghost use Rattle.dnsv_canonical.specs.Rrsets.{IsQuestion};
 ghost use Rattle.dnsv_files.specs.Files.Faults.{OfFailedRead, TellsFaults};
 ghost use Rattle.dnsv_files.specs.Files.{AreTold, Files};
@@ -19,6 +20,7 @@ use crate::work::Outcome;
 use crate::work::given::{Given, given_in};
 use crate::work::judging::{Asked, Telling, judge};
 use crate::work::known::{OpenNumbers, open_case};
+use crate::work::span::Span;
 use bumpalo::Bump;
 use dnsv_files::{Fault, Inputs, Moment};
 use dnsv_names::RecordType;
@@ -70,11 +72,11 @@ fn check_question<R: Read>(
     ensures faults { TellsFaults (IsFirstFaultOfName asked.now.name.now asked.now.rtype.0 asked.now.moment)
         R.remaining inputs.old inputs.new result }
     ensures reached { (files : Files) → AreTold R.remaining inputs.old files
-        → IfErr result (OfFailedRead (IsReachedOfFiles asked.now.moment files)) }
+        → IfErr result (OfFailedRead (IsReachedOfFiles (At asked.now.moment) files)) }
     ensures unwritten { IfErr result (λ fault. fault ≡ Fault.WriteFailed → ⊥) }
     ensures unrefused { IfOk result (λ outcome. outcome.status ≡ Refused → ⊥) }
 {
-    let given = given_in(alloc, asked.moment, inputs, bump)?;
+    let given = given_in(alloc, &Span::At(asked.moment), inputs, bump)?;
     judge_given(alloc, bump, telling, asked, &given)
 }
 
@@ -89,12 +91,12 @@ fn judge_given(
     given: &Given<'_>,
 ) -> Result<Outcome, Fault>
     requires { IsQuestion asked.now.name.now asked.now.rtype.0 }
-    ensures verdict { IfOk result (λ outcome. (knowing : Ground asked.now.moment given.now.held.rrsets given.now.said)
+    ensures verdict { IfOk result (λ outcome. (knowing : Ground (At asked.now.moment) given.now.held.rrsets given.now.said)
         × IsJudged telling.format telling.why knowing.numbers (basis_of given.now.held.rrsets given.now.anchors
         asked.now.moment knowing.meaning) asked.now.name.now asked.now.rtype.0 outcome.status
         (string_bytes outcome.text)) }
-    ensures only { IfErr result (λ told. IsFaultOf (AreMiscountedIn asked.now.moment given.now.held.rrsets
-        given.now.said) told ⊎ ((knowing : Ground asked.now.moment given.now.held.rrsets given.now.said)
+    ensures only { IfErr result (λ told. IsFaultOf (AreMiscountedIn (At asked.now.moment) given.now.held.rrsets
+        given.now.said) told ⊎ ((knowing : Ground (At asked.now.moment) given.now.held.rrsets given.now.said)
         × (error : VerdictError) × IsRefusedFor (basis_of given.now.held.rrsets given.now.anchors asked.now.moment
         knowing.meaning) asked.now.name.now asked.now.rtype.0 error × (told ≡ specs.verdict_fault error))) }
 {

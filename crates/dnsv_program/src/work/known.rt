@@ -2,20 +2,24 @@
 ghost use Rattle.std.specs.Prelude.{◌≡◌, ◌∷◌, ◌++◌, [], ℕ, IfErr, IfOk, OnOk, map};
 ghost use Rattle.std.specs.Option.{option_map};
 ghost use Rattle.dnsv_answers.specs.AnswerFile.{answers_in};
-ghost use Rattle.dnsv_answers.specs.Answered.{IsAnsweredTable};
+ghost use Rattle.dnsv_answers.specs.Answered.{IsAnsweredTableWithin};
+ghost use Rattle.dnsv_answers.specs.declared.heading.Moments.TheVariants.{At};
 ghost use Rattle.dnsv_verdict.specs.Case.{IsCaseOf};
 ghost use Rattle.dnsv_verdict.specs.Verdict.{basis_of};
 ghost use Rattle.dnsv_verifier.specs.declared.answer.Answer.{Answer};
 ghost use Rattle.dnsv_verifier.specs.declared.entry.Entry.{Entry};
 ghost use Rattle.dnsv_files.specs.Files.Answers.{AreTooManyOrFew};
+ghost use Rattle.dnsv_files.specs.Moment.{begin_of, end_of};
 ghost use Rattle.dnsv_files.specs.Told.{IsFaultOf};
 ghost use Rattle.dnsv_program.specs.Work.Judging.{case_of, tells_why};
 ghost use Rattle.dnsv_program.specs.Work.Known.{AreMiscountedIn, IsKnown, numbers_said, open_numbers};
+ghost use Rattle.dnsv_program.specs.Work.Span.{moments_of};
 
 use crate::work::given::Said;
 use crate::work::judging::Judging;
+use crate::work::span::Span;
 use bumpalo::Bump;
-use dnsv_answers::{Answers, SaidAnswer, answered_table};
+use dnsv_answers::{Answers, SaidAnswer, answered_table_within};
 use dnsv_canonical::Capture;
 use dnsv_chain::Anchors;
 use dnsv_files::{Fault, Moment, answers_fault};
@@ -101,10 +105,10 @@ pub fn open_case<'a>(
     said: &Said,
 ) -> Result<Judging<'a>, Fault>
     ensures known { IfOk result (λ judging. (meaning : Entry → Answer)
-        × IsKnown moment held.now.rrsets said.now meaning (numbers_said said.now)
+        × IsKnown (At moment) held.now.rrsets said.now meaning (numbers_said said.now)
         × IsCaseOf (basis_of held.now.rrsets anchors.now moment meaning) (case_of judging)) }
     ensures why { IfOk result (λ judging. tells_why judging ≡ why) }
-    ensures fault { IfErr result (IsFaultOf (AreMiscountedIn moment held.now.rrsets said.now)) }
+    ensures fault { IfErr result (IsFaultOf (AreMiscountedIn (At moment) held.now.rrsets said.now)) }
 {
     match said {
         Said::Statements(statements) => {
@@ -112,25 +116,27 @@ pub fn open_case<'a>(
             Ok(judging)
         }
         Said::Answers(answers) => {
-            let table = table_of(alloc, bump, held, moment, answers)?;
+            let table = table_of(alloc, bump, held, &Span::At(moment), answers)?;
             let judging = Judging::by_table(alloc, bump, why, moment, held, anchors, table)?;
             Ok(judging)
         }
     }
 }
 
-/// The table of the entries with their answers; the fault is that there are more or fewer of these.
-fn table_of<'a>(
+/// The table of the entries that are asked at the moments, with their answers; the fault is that there are more or fewer of
+/// these.
+pub fn table_of<'a>(
     alloc: Global,
     bump: &'a Bump,
     held: &'a Capture<'a>,
-    moment: Moment,
+    span: &Span,
     answers: &Answers,
 ) -> Result<Table<'a>, Fault>
-    ensures table { IfOk result (IsAnsweredTable moment held.now.rrsets (answers_in answers.now)) }
-    ensures fault { IfErr result (IsFaultOf (AreTooManyOrFew moment held.now.rrsets answers.now)) }
+    ensures table { IfOk result (IsAnsweredTableWithin (begin_of (moments_of span.now)) (end_of (moments_of span.now))
+        held.now.rrsets (answers_in answers.now)) }
+    ensures fault { IfErr result (IsFaultOf (AreTooManyOrFew (moments_of span.now) held.now.rrsets answers.now)) }
 {
-    match answered_table(alloc, bump, held, moment.seconds(), answers) {
+    match answered_table_within(alloc, bump, held, span.range(), answers) {
         Ok(table) => Ok(table),
         Err(error) => Err(answers_fault(error)),
     }

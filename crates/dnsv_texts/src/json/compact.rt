@@ -10,30 +10,32 @@ ghost use Rattle.dnsv_texts.specs.declared.format.Format.TheVariants.{Json};
 
 use crate::compact::{push_rrsets, push_signatures};
 use crate::format::Format;
+use crate::json::moments::push_list_of;
 use crate::json::push_octets;
+use dnsv_answers::Moments;
 use dnsv_canonical::{Rrset, canonical_rrset};
 use dnsv_compact::{CompactList, ListedKey, Place, front_of};
 use dnsv_lines::push_comma;
 use dnsv_records::Rrsig;
 use std::alloc::{AllocError, Global};
 
-/// The object with the moment, in seconds since 1970-01-01 00:00:00 UTC, the keys, the RRsets with their signatures, and
-/// the entries.
+/// The object with the moment or the range, the keys, the RRsets with their signatures, and the entries.
 pub fn compact_json(
     alloc: Global,
-    moment: u64,
+    moments: Moments,
     rrsets: &[Rrset<'_>],
     list: &CompactList<'_>,
 ) -> Result<String, AllocError>
     ensures { IfOk result (λ text. (listed : List ListedRrset) × ListsRrsets list.now.todo 1 rrsets.now listed
-        × (string_bytes text ≡ specs.compact_text Json moment (record {
+        × (string_bytes text ≡ specs.compact_text Json moments (record {
           keys = list.now.keys;
           rrsets = listed;
           todo = list.now.todo;
         }))) }
 {
     let mut text = String::new(alloc);
-    write!(text, "{{\"command\":\"list\",\"moment\":{moment},\"keys\":")?;
+    push_list_of(&mut text, moments)?;
+    text.push_str(",\"keys\":")?;
     push_keys(&mut text, list.keys())?;
     text.push_str(",\"rrsets\":[")?;
     push_rrsets(alloc, &mut text, Format::Json, rrsets, list)?;

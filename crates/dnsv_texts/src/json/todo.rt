@@ -4,20 +4,24 @@ ghost use Rattle.dnsv_lines.specs.Json.{array, parted};
 ghost use Rattle.dnsv_texts.specs.Todo as specs;
 ghost use Rattle.dnsv_texts.specs.declared.format.Format.TheVariants.{Json};
 
+use crate::json::moments::push_list_of;
 use crate::json::push_octets;
+use dnsv_answers::Moments;
 use dnsv_lines::push_comma;
 use dnsv_verifier::{Entries, Entry};
 use std::alloc::{AllocError, Global};
 
-/// The object with the moment, in seconds since 1970-01-01 00:00:00 UTC, and the entries.
-pub fn todo_json(alloc: Global, moment: u64, entries: &Entries<'_>) -> Result<String, AllocError>
-    ensures { IfOk result (λ text. string_bytes text ≡ specs.todo_text Json moment entries.now) }
+/// The object with the moment or the range, and the entries.
+pub fn todo_json(
+    alloc: Global,
+    moments: Moments,
+    entries: &Entries<'_>,
+) -> Result<String, AllocError>
+    ensures { IfOk result (λ text. string_bytes text ≡ specs.todo_text Json moments entries.now) }
 {
     let mut text = String::new(alloc);
-    write!(
-        text,
-        "{{\"command\":\"list\",\"moment\":{moment},\"todo\":["
-    )?;
+    push_list_of(&mut text, moments)?;
+    text.push_str(",\"todo\":[")?;
     push_objects(&mut text, entries)?;
     text.push_str("]}\n")?;
     Ok(text)

@@ -29,4 +29,6 @@ returns c =
     c.in_ok-subcommand-2.ensures.shape c.in_ok-list.ensures.1 ∙ ap₂ with_subcommand shown_is (ap (λ (a : App). a.top) c.in_ok-list.ensures.0) in
     let checked_is : app_of c.in_ok-subcommand-3.field-0 ≡ with_subcommand (with_subcommand (with_subcommand bare_app show_app.top) list_app.top) (question_app false).top =
     c.in_ok-subcommand-3.ensures.shape c.in_ok-check.ensures.1 ∙ ap₂ with_subcommand listed_is (ap (λ (a : App). a.top) c.in_ok-check.ensures.0) in
-    IfOk-weaker c.subcommand-4.result _ _ (λ command adds. adds.shape c.in_ok-explain.ensures.1 ∙ ap₂ with_subcommand checked_is (ap (λ (a : App). a.top) c.in_ok-explain.ensures.0)) c.subcommand-4.ensures
+    let explained_is : app_of c.in_ok-subcommand-4.field-0 ≡ with_subcommand (with_subcommand (with_subcommand (with_subcommand bare_app show_app.top) list_app.top) (question_app false).top) (question_app true).top =
+    c.in_ok-subcommand-4.ensures.shape c.in_ok-explain.ensures.1 ∙ ap₂ with_subcommand checked_is (ap (λ (a : App). a.top) c.in_ok-explain.ensures.0) in
+    IfOk-weaker c.subcommand-5.result _ _ (λ command adds. adds.shape c.in_ok-timeline.ensures.1 ∙ ap₂ with_subcommand explained_is (ap (λ (a : App). a.top) c.in_ok-timeline.ensures.0)) c.subcommand-5.ensures

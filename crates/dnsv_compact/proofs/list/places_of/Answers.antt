@@ -13,12 +13,12 @@ place_of-requires-clause-given c =
     (contains_at c.args.entries.now c.loop-place.place c.at.result (omega (arith, c.loop-place-test.true, c.len-place-end.ensures)) c.at.ensures)
 
 pub loop-place-preserved : goal.loop-place-preserved
-loop-place-preserved c = λ moment rrsets are.
-    places_more moment rrsets c.args.keys.now c.args.entries.now c.loop-place.place c.at.result _ _ c.place_of.result
-    (omega (arith, c.loop-place-test.true, c.len-place-end.ensures)) c.at.ensures c.in_ok-push.ensures.items (c.place_of.ensures moment rrsets are)
-    (c.loop-place.invariant moment rrsets are)
+loop-place-preserved c = λ from to rrsets are.
+    places_more from to rrsets c.args.keys.now c.args.entries.now c.loop-place.place c.at.result _ _ c.place_of.result
+    (omega (arith, c.loop-place-test.true, c.len-place-end.ensures)) c.at.ensures c.in_ok-push.ensures.items (c.place_of.ensures from to rrsets are)
+    (c.loop-place.invariant from to rrsets are)
 
 pub returns : goal.returns
-returns c = λ moment rrsets are.
-    places_all moment rrsets c.args.keys.now c.args.entries.now c.loop-place.place c.loop-place.places.items
-    (omega (arith, c.loop-place-test.false, c.len-place-end.ensures)) (c.loop-place.invariant moment rrsets are)
+returns c = λ from to rrsets are.
+    places_all from to rrsets c.args.keys.now c.args.entries.now c.loop-place.place c.loop-place.places.items
+    (omega (arith, c.loop-place-test.false, c.len-place-end.ensures)) (c.loop-place.invariant from to rrsets are)

@@ -7,4 +7,4 @@ use Rattle.dnsv_compact.proofs.list.places_of.Given as goal
 -- the places of the entries so far
 abbrev pub invariant-loop-place : goal.invariant-loop-place
 invariant-loop-place l =
-    (moment : ℕ) (rrsets : List ReceivedRrset) → AreSignedIn moment rrsets l.signed → AreInPlaces moment rrsets l.keys (take l.place l.entries) l.places.items
+    (from to : ℕ) (rrsets : List ReceivedRrset) → AreSignedIn from to rrsets l.signed → AreInPlaces from to rrsets l.keys (take l.place l.entries) l.places.items

@@ -5,4 +5,4 @@ use Rattle.dnsv_compact.proofs.signed.gathered.Given as goal
 
 -- those of the RRsets so far
 abbrev pub invariant-loop-place : goal.invariant-loop-place
-invariant-loop-place l = AddsJust (ComesOfFirst (IsSignedAmong l.moment) l.rrsets l.place) [] l.signed.items
+invariant-loop-place l = AddsJust (ComesOfFirst (IsSignedAmong l.range.from l.range.to) l.rrsets l.place) [] l.signed.items

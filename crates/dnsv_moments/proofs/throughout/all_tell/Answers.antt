@@ -1,6 +1,5 @@
 use Rattle.std.proofs.Common.{refl, sym}
 use Rattle.std.proofs.lemmas.Bool.{false≢true}
-use Rattle.dnsv_timeline_laws.specs.Said.{Said}
 use Rattle.dnsv_moments.proofs.TellingLemmas.{all_tell, more_tell}
 use Rattle.dnsv_moments.proofs.throughout.all_tell.Goals as goal
 
@@ -12,11 +11,11 @@ returns-then-not-tells c = (
 
 pub loop-stretch-preserved : goal.loop-stretch-preserved
 loop-stretch-preserved c =
-    more_tell (λ (said : Said). said.told.kind) c.args.kind c.args.stretches.now c.loop-stretch.stretch-index c.stretch-item.result c.loop-stretch-test.true
+    more_tell c.args.kind c.args.stretches.now c.loop-stretch.stretch-index c.stretch-item.result c.loop-stretch-test.true
     c.stretch-item.is c.loop-stretch.invariant (c.if-not-tells.ensures.0 refl)
 
 pub returns : goal.returns
 returns c = (
-  λ t. all_tell (λ (said : Said). said.told.kind) c.args.kind c.args.stretches.now c.loop-stretch.stretch-index c.loop-stretch-test.false c.loop-stretch.invariant,
+  λ t. all_tell c.args.kind c.args.stretches.now c.loop-stretch.stretch-index c.loop-stretch-test.false c.loop-stretch.invariant,
   λ all. refl,
 )

@@ -29,7 +29,7 @@ returns c = record {
     no_reason_against_evidence = c.evidence_or_one_refusal.ensures.never_both;
   };
   verdicts = record {
-    one_table = c.a_table_is_its_verifier.ensures.one;
+    one_table = c.a_table_is_its_verifier.ensures.within;
     one_list_of_anchors = c.a_text_is_one_list_of_anchors.ensures.anchors;
     one_fault_of_anchors = c.a_text_is_one_list_of_anchors.ensures.fault;
     anchors_apart = c.a_text_is_one_list_of_anchors.ensures.apart;
@@ -37,5 +37,10 @@ returns c = record {
     one_explanation = c.a_report_has_one_explanation.ensures;
     one_refusal = c.a_question_leads_one_way.ensures.refusal;
     verdict_apart = c.a_question_leads_one_way.ensures.not_both;
+  };
+  timelines = record {
+    one_timeline = c.one_thing_is_said_of_a_question.ensures.timeline;
+    one_refusal = c.what_is_refused_throughout.ensures.one;
+    one_text = c.a_timeline_has_one_text.ensures;
   };
 }

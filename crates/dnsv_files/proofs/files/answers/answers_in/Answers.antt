@@ -9,12 +9,12 @@ use Rattle.dnsv_files.proofs.files.answers.answers_in.Goals as goal
 pub returns-in_err-answers-clause-faults : goal.returns-in_err-answers-clause-faults
 returns-in_err-answers-clause-faults g c = λ capture octets framed told.
     let p = err_from_is_err_and c.from_residual.result c.from_residual.ensures.1 in
-    rw (p.1, p.2) (text_before capture c.args.moment (octets_or_none octets) c.in_err-answers.field-0.0 (c.in_err-answers.ensures.faults octets told))
+    rw (p.1, p.2) (text_before capture c.args.moments (octets_or_none octets) c.in_err-answers.field-0.0 (c.in_err-answers.ensures.faults octets told))
 
 pub returns-in_err-test_list-clause-faults : goal.returns-in_err-test_list-clause-faults
 returns-in_err-test_list-clause-faults g c = λ capture octets framed told.
     let p = err_from_is_err_and c.from_residual-in_err-test_list.result c.from_residual-in_err-test_list.ensures.1 in
-    rw (p.1, p.2) (other_before capture c.args.moment (octets_or_none octets) c.in_ok-answers.answers (c.in_ok-answers.ensures.said octets told) c.in_err-test_list.field-0.0
+    rw (p.1, p.2) (other_before capture c.args.moments (octets_or_none octets) c.in_ok-answers.answers (c.in_ok-answers.ensures.said octets told) c.in_err-test_list.field-0.0
     (c.in_err-test_list.ensures.other capture framed))
 
 pub returns-in_err-test_list-clause-reads : goal.returns-in_err-test_list-clause-reads

@@ -1,5 +1,6 @@
 use Rattle.std.proofs.Common.{ℕ, List, inl, inr, refl}
 use Rattle.std.proofs.lemmas.Result.{err_from_is_err_and}
+use Rattle.dnsv_answers.specs.declared.heading.Moments.TheVariants.{At}
 use Rattle.dnsv_verdict.specs.Verdict.{Basis, basis_of}
 use Rattle.dnsv_program.specs.Work.Asking.{AreAnswers}
 use Rattle.dnsv_program.specs.Work.Known.{AreMiscountedIn, Ground, numbers_said}
@@ -17,13 +18,13 @@ returns-in_err-judge-clause-only g c =
 pub returns-in_err-judge-clause-write : goal.returns-in_err-judge-clause-write
 returns-in_err-judge-clause-write g c =
     let p = err_from_is_err_and c.from_residual-in_err-judge.result c.from_residual-in_err-judge.ensures.1 in
-    rw (p.1, p.2) (λ failed. absurd (refused_unwritten (AreMiscountedIn c.args.moment c.args.given.now.held.rrsets c.args.given.now.said) c.in_err-judge.field-0.0
+    rw (p.1, p.2) (λ failed. absurd (refused_unwritten (AreMiscountedIn (At c.args.moment) c.args.given.now.held.rrsets c.args.given.now.said) c.in_err-judge.field-0.0
     c.in_err-judge.ensures.fault (same_fault failed)))
 
 pub returns-in_err-judge-clause-begun : goal.returns-in_err-judge-clause-begun
 returns-in_err-judge-clause-begun g c =
     let p = err_from_is_err_and c.from_residual-in_err-judge.result c.from_residual-in_err-judge.ensures.1 in
-    rw (p.1, p.2) (λ failed. absurd (refused_unwritten (AreMiscountedIn c.args.moment c.args.given.now.held.rrsets c.args.given.now.said) c.in_err-judge.field-0.0
+    rw (p.1, p.2) (λ failed. absurd (refused_unwritten (AreMiscountedIn (At c.args.moment) c.args.given.now.held.rrsets c.args.given.now.said) c.in_err-judge.field-0.0
     c.in_err-judge.ensures.fault (same_fault failed)))
 
 pub returns-clause-done : goal.returns-clause-done
@@ -31,13 +32,13 @@ returns-clause-done g c =
     let given = c.args.given.now in
     let known = c.in_ok-judge.ensures.known in
     let basis : Basis = basis_of given.held.rrsets given.anchors c.args.moment known.0 in
-    let knowing : Ground c.args.moment given.held.rrsets given.said = record { meaning = known.0; numbers = numbers_said given.said; knows = known.1 } in
-    told_done (λ (each : Ground c.args.moment given.held.rrsets given.said) (end : Status) (text : List ℕ). AreAnswers c.args.telling.format c.args.telling.why each.numbers
+    let knowing : Ground (At c.args.moment) given.held.rrsets given.said = record { meaning = known.0; numbers = numbers_said given.said; knows = known.1 } in
+    told_done (λ (each : Ground (At c.args.moment) given.held.rrsets given.said) (end : Status) (text : List ℕ). AreAnswers c.args.telling.format c.args.telling.why each.numbers
     (basis_of given.held.rrsets given.anchors c.args.moment each.meaning) c.args.questions.now end text) knowing _ c.tell_each.result
     (rw c.in_ok-numbers.ensures at (c.tell_each.ensures.done basis known.2 c.rrsets.ensures.value refl))
 
 pub returns-clause-only : goal.returns-clause-only
-returns-clause-only g c = told_only (AreMiscountedIn c.args.moment c.args.given.now.held.rrsets c.args.given.now.said) c.tell_each.result c.tell_each.ensures.only
+returns-clause-only g c = told_only (AreMiscountedIn (At c.args.moment) c.args.given.now.held.rrsets c.args.given.now.said) c.tell_each.result c.tell_each.ensures.only
 
 pub returns-clause-begun : goal.returns-clause-begun
 returns-clause-begun g c = λ failed.

@@ -1,4 +1,5 @@
 use Rattle.std.proofs.lemmas.Result.{err_from_is_err_and}
+use Rattle.dnsv_answers.specs.declared.heading.Moments.TheVariants.{At}
 use Rattle.dnsv_program.specs.Run.{IsReachedByEach}
 use Rattle.dnsv_program.specs.Work.Known.{AreMiscountedIn}
 use Rattle.dnsv_program.proofs.AskingLemmas.Files.{all_asked, all_done, asked_reached, first_begun, first_whole, given_failed, told_behind}
@@ -15,12 +16,12 @@ pub returns-clause-faults : goal.returns-clause-faults
 returns-clause-faults g c =
     all_asked c.text_in.new.reader c.in_ok-questions.questions c.in_ok-questions.ensures.reads c.args.moment c.answer_all.result
     (λ files are. (c.in_ok-questions.questions, c.in_ok-questions.ensures.said files.questions are.questions)) c.in_ok-given.given c.in_ok-given.ensures.faults
-    c.given_in.ensures.questions (AreMiscountedIn c.args.moment c.in_ok-given.given.held.rrsets c.in_ok-given.given.said)
-    (λ files are. none_given c.args.moment files (c.in_ok-given.ensures.given files are)) c.answer_all.ensures.only
+    c.given_in.ensures.questions (AreMiscountedIn (At c.args.moment) c.in_ok-given.given.held.rrsets c.in_ok-given.given.said)
+    (λ files are. none_given (At c.args.moment) files (c.in_ok-given.ensures.given files are)) c.answer_all.ensures.only
 
 pub returns-clause-reached : goal.returns-clause-reached
 returns-clause-reached g c = λ files are.
-    asked_reached (AreMiscountedIn c.args.moment c.in_ok-given.given.held.rrsets c.in_ok-given.given.said) (IsReachedByEach c.args.moment files) c.answer_all.result
+    asked_reached (AreMiscountedIn (At c.args.moment) c.in_ok-given.given.held.rrsets c.in_ok-given.given.said) (IsReachedByEach c.args.moment files) c.answer_all.result
     c.answer_all.ensures.only
 
 pub returns-clause-done : goal.returns-clause-done

@@ -1,4 +1,5 @@
 use Rattle.std.proofs.Common.{inr}
+use Rattle.dnsv_answers.specs.declared.heading.Moments.TheVariants.{At}
 use Rattle.dnsv_program.specs.Run.{IsFirstFaultOfCheck, IsFirstFaultOfName, IsReachedByCheck, IsReachedOfFiles}
 use Rattle.dnsv_files.proofs.FileLemmas.Faults.{TellsFaults-weaker}
 use Rattle.dnsv_program.proofs.ReachedLemmas.{reached_in}
@@ -11,5 +12,5 @@ returns-clause-faults g c =
 
 pub returns-clause-reached : goal.returns-clause-reached
 returns-clause-reached g c = λ files are.
-    reached_in (IsReachedOfFiles c.args.moment files) (IsReachedByCheck c.args.asked.now c.args.rtype.0 c.args.moment files) c.check_question.result
+    reached_in (IsReachedOfFiles (At c.args.moment) files) (IsReachedByCheck c.args.asked.now c.args.rtype.0 c.args.moment files) c.check_question.result
     (λ file holds. ((c.in_ok-name.name, c.in_ok-name.ensures.name, c.in_ok-name.ensures.question), holds)) (c.check_question.ensures.reached files are)

@@ -1,5 +1,6 @@
-use Rattle.std.proofs.Common.{inl}
+use Rattle.std.proofs.Common.{inl, inr}
 use Rattle.std.proofs.lemmas.Result.{err_from_is_err_and}
+use Rattle.dnsv_answers.specs.declared.heading.Moments.TheVariants.{At}
 use Rattle.dnsv_verdict.specs.Verdict.{basis_of}
 use Rattle.dnsv_verdict.specs.Way.{IsRefusedFor}
 use Rattle.dnsv_verdict.specs.declared.error.VerdictError.{VerdictError}
@@ -13,7 +14,7 @@ use Rattle.dnsv_program.proofs.work.checking.check_question.Goals as goal
 pub returns-in_err-given-clause-faults : goal.returns-in_err-given-clause-faults
 returns-in_err-given-clause-faults g c =
     let p = err_from_is_err_and c.from_residual.result c.from_residual.ensures.1 in
-    rw (p.1, p.2) (with_questions (IsFirstFaultOfFiles c.args.asked.now.moment) (IsFirstFaultOfName c.args.asked.now.name.now c.args.asked.now.rtype.0 c.args.asked.now.moment) _
+    rw (p.1, p.2) (with_questions (IsFirstFaultOfFiles (At c.args.asked.now.moment)) (IsFirstFaultOfName c.args.asked.now.name.now c.args.asked.now.rtype.0 c.args.asked.now.moment) _
     (λ files fault holds. inl holds) c.given_in.ensures.questions (beside_passed c.in_err-given.field-0.0 c.in_err-given.ensures.faults))
 
 pub returns-in_err-given-clause-reached : goal.returns-in_err-given-clause-reached
@@ -25,13 +26,14 @@ pub returns-clause-faults : goal.returns-clause-faults
 returns-clause-faults g c =
     let given = c.in_ok-given.given in
     let asked = c.args.asked.now in
-    given_or_refused (AreMiscountedIn asked.moment given.held.rrsets given.said)
-    (λ (knowing : Ground asked.moment given.held.rrsets given.said) (error : VerdictError).
+    given_or_refused (AreMiscountedIn (At asked.moment) given.held.rrsets given.said)
+    (λ (knowing : Ground (At asked.moment) given.held.rrsets given.said) (error : VerdictError).
     IsRefusedFor (basis_of given.held.rrsets given.anchors asked.moment knowing.meaning) asked.name.now asked.rtype.0 error)
-    asked.name.now asked.rtype.0 asked.moment given c.judge_given.result c.in_ok-given.ensures.faults c.given_in.ensures.questions
-    (λ files are. none_given asked.moment files (c.in_ok-given.ensures.given files are))
-    (λ knowing files error are refused. stopped_there asked.name.now asked.rtype.0 asked.moment files
-    (all_given asked.moment files (c.in_ok-given.ensures.given files are.beside) knowing.meaning knowing.numbers knowing.knows) error refused)
+    (IsFirstFaultOfFiles (At asked.moment)) (IsFirstFaultOfName asked.name.now asked.rtype.0 asked.moment) (λ files fault holds. inl holds)
+    given c.judge_given.result c.in_ok-given.ensures.faults c.given_in.ensures.questions
+    (λ files are. none_given (At asked.moment) files (c.in_ok-given.ensures.given files are))
+    (λ knowing files error are refused. inr (stopped_there asked.name.now asked.rtype.0 asked.moment files
+    (all_given (At asked.moment) files (c.in_ok-given.ensures.given files are.beside) knowing.meaning knowing.numbers knowing.knows) error refused))
     c.judge_given.ensures.only
 
 pub returns-clause-text : goal.returns-clause-text
@@ -41,12 +43,12 @@ returns-clause-text g c = λ files are.
 
 pub returns-clause-reached : goal.returns-clause-reached
 returns-clause-reached g c = λ files are.
-    ungiven_read (AreMiscountedIn c.args.asked.now.moment c.in_ok-given.given.held.rrsets c.in_ok-given.given.said) _ (IsReachedOfFiles c.args.asked.now.moment files) c.judge_given.result
+    ungiven_read (AreMiscountedIn (At c.args.asked.now.moment) c.in_ok-given.given.held.rrsets c.in_ok-given.given.said) _ (IsReachedOfFiles (At c.args.asked.now.moment) files) c.judge_given.result
     c.judge_given.ensures.only
 
 pub returns-clause-unwritten : goal.returns-clause-unwritten
 returns-clause-unwritten g c =
-    ungiven_writes (AreMiscountedIn c.args.asked.now.moment c.in_ok-given.given.held.rrsets c.in_ok-given.given.said) _ c.judge_given.result c.judge_given.ensures.only
+    ungiven_writes (AreMiscountedIn (At c.args.asked.now.moment) c.in_ok-given.given.held.rrsets c.in_ok-given.given.said) _ c.judge_given.result c.judge_given.ensures.only
 
 pub returns-clause-unrefused : goal.returns-clause-unrefused
 returns-clause-unrefused g c =

@@ -1,5 +1,6 @@
 use Rattle.std.proofs.Common.{inl, refl}
 use Rattle.std.proofs.lemmas.Result.{err_from_is_err_and}
+use Rattle.dnsv_answers.specs.declared.heading.Moments.TheVariants.{At}
 use Rattle.dnsv_verdict.specs.Verdict.{Basis, basis_of}
 use Rattle.dnsv_program.specs.Work.Known.{AreMiscountedIn, numbers_said}
 use Rattle.dnsv_program.proofs.JudgedLemmas.{refused_by, told_by}
@@ -27,5 +28,5 @@ returns-clause-only c =
     let known = c.in_ok-judging.ensures.known in
     let basis : Basis = basis_of given.held.rrsets given.anchors asked.moment known.0 in
     refused_by asked.name.now asked.rtype.0 asked.moment given.held.rrsets given.anchors given.said
-    (record { meaning = known.0; numbers = numbers_said given.said; knows = known.1 }) (AreMiscountedIn asked.moment given.held.rrsets given.said) c.judge.result
+    (record { meaning = known.0; numbers = numbers_said given.said; knows = known.1 }) (AreMiscountedIn (At asked.moment) given.held.rrsets given.said) c.judge.result
     (c.judge.ensures.only basis known.2)

@@ -1,0 +1,43 @@
+-- What the timeline of a question is over the files, and how a question that has none is refused.
+use Rattle.std.specs.Prelude.{◌≡◌, ℕ, Bool, List}
+use Rattle.dnsv_names.specs.Name.{Labels}
+use Rattle.dnsv_timeline.specs.Range.{IsRange}
+use Rattle.dnsv_timeline.specs.Timeline.{IsTimelineBy}
+use Rattle.dnsv_timeline.specs.declared.stretch.Stretch.{Stretch}
+use Rattle.dnsv_answers.specs.declared.heading.Moments.TheVariants.{Between}
+use Rattle.dnsv_verdict.specs.Verdict.{Basis}
+use Rattle.dnsv_verdict.specs.declared.error.VerdictError.{VerdictError}
+use Rattle.dnsv_texts.specs.declared.format.Format.{Format}
+use Rattle.dnsv_timeline_laws.specs.Said.{IsSaidAt, Said}
+use Rattle.dnsv_moments.specs.Question.{IsRefusedThroughout}
+use Rattle.dnsv_timeline_texts.specs.Text.{IsTimelineText}
+use Rattle.dnsv_files.specs.Files.{Files}
+use Rattle.dnsv_files.specs.Told.{nowhere}
+use Rattle.dnsv_files.specs.declared.status.Fault.{Fault}
+use Rattle.dnsv_files.specs.declared.status.Fault.TheVariants as fault
+use Rattle.dnsv_files.specs.declared.status.Refusal.TheVariants as refusal
+use Rattle.dnsv_program.specs.Work.Checking.{AreInOrder, basis_in, verdict_fault}
+
+-- the range is none, and is refused so, without a place
+abbrev pub IsFaultOfRange : ℕ → ℕ → Fault → Type 0
+IsFaultOfRange from to told = (¬ IsRange from to) × (told ≡ fault.Refused refusal.BadRange nowhere)
+
+-- By what it is judged by at the first moment, the question isn't refused throughout the range that ends there, and the text
+-- is that of its timeline: of what is said of it at each moment of the range.
+pub record IsTimelineBehind (format : Format) (kinds : Bool) (basis : Basis) (name : Labels) (rtype to : ℕ) (text : List ℕ) : Type 0 where
+  pub stretches : List (Stretch Said)
+  pub is_timeline : IsTimelineBy (IsSaidAt format basis name rtype) basis.moment to stretches
+  pub stands : (error : VerdictError) → ¬ IsRefusedThroughout basis basis.moment to name rtype error
+  pub lines : IsTimelineText format kinds basis.rrsets name rtype basis.moment to stretches text
+
+-- the files are in order, and the text is that of the question's timeline by what they say
+pub record IsTimeline (format : Format) (kinds : Bool) (name : Labels) (rtype from to : ℕ) (files : Files) (text : List ℕ) : Type 0 where
+  pub given : AreInOrder (Between from to) files
+  pub timeline : IsTimelineBehind format kinds (basis_in given) name rtype to text
+
+-- The files are in order, and the question is refused by one number at each moment of the range. The refusal has no place.
+pub record IsStoppedThroughout (name : Labels) (rtype from to : ℕ) (files : Files) (told : Fault) : Type 0 where
+  pub given : AreInOrder (Between from to) files
+  pub error : VerdictError
+  pub refused : IsRefusedThroughout (basis_in given) from to name rtype error
+  pub is : told ≡ verdict_fault error
