@@ -100,9 +100,9 @@ def counted(source: str, links: Sequence[str], words: Sequence[str]) -> float:
     """What a C file of this folder, compiled for it, says that it did in a second."""
     with tempfile.TemporaryDirectory() as room:
         program = os.path.join(room, "program")
-        command = ["cc", "-O2", f"-I{TREE / 'library'}", f"{TREE / 'bench' / source}", "-o", program, *links]
+        compiler = ["cc", "-O2", f"-I{TREE / 'library'}", f"{TREE / 'bench' / source}", "-o", program, *links]
         try:
-            subprocess.run(command, capture_output=True, check=True)
+            subprocess.run(compiler, capture_output=True, check=True)
         except (OSError, subprocess.CalledProcessError) as fault:
             raise Lacking(f"{source} doesn't compile here") from fault
         return float(subprocess.run([program, *words], stdout=subprocess.PIPE, check=True).stdout)

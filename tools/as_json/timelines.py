@@ -1,5 +1,5 @@
 """The object of a timeline: its intervals, without what derives them, and the signatures between them."""
-from .fields import Fields, Members
+from .fields import Fields, Members, numbers, signature
 
 STATUSES = {"Insecure": 3, "Pending": 4, "Bogus": 5, "Indeterminate": 6}
 EDGES = ("ends", "begins")
@@ -10,25 +10,16 @@ def timeline(moments: Members, lines: list[list[str]], is_of_kinds: bool) -> Mem
     (_, name, rtype), *others = lines
     asked: Members = {"command": "timeline", "name": name, "type": int(rtype), **moments}
     edges = [edge(line) for line in others if line[0] in EDGES]
-    return asked | {"intervals": [interval(line, is_of_kinds) for line in others if line[0] not in EDGES], "edges": edges}
+    intervals = [interval(line, is_of_kinds) for line in others if line[0] not in EDGES]
+    return asked | {"intervals": intervals, "edges": edges}
 
 
 def edge(fields: Fields) -> Members:
     """ends MOMENT OWNER TYPE rrset R signature S key TAG ALG zone Z from I to E, and the same of one that begins."""
-    word, moment, owner, rtype, _, rrset, _, signature, _, tag, algorithm, _, signer, _, inception, _, expiration = fields
-    return {
-        "edge": word,
-        "moment": int(moment),
-        "owner": owner,
-        "type": int(rtype),
-        "rrset": int(rrset),
-        "signature": int(signature),
-        "tag": int(tag),
-        "algorithm": int(algorithm),
-        "signer": signer,
-        "inception": int(inception),
-        "expiration": int(expiration),
-    }
+    word, moment, *rest = fields
+    said, (_, inception, _, expiration) = signature(rest)
+    times = numbers((inception, expiration), "inception", "expiration")
+    return {"edge": word, "moment": int(moment), **said, **times}
 
 
 def interval(fields: Fields, is_of_kinds: bool) -> Members:
@@ -45,8 +36,8 @@ def carried(verdict: str, fields: Fields) -> Members:
     """The aliases, and what stands behind them."""
     aliases: list[Members] = []
     while fields[:1] == ["alias"]:
-        _, name, _, rrset, _, signature, *fields = fields
-        aliases.append({"name": name, "rrset": int(rrset), "signature": int(signature)})
+        _, name, _, rrset, _, number, *fields = fields
+        aliases.append({"name": name, **numbers((rrset, number), "rrset", "signature")})
     said: Members = {"aliases": aliases}
     if verdict in ("SecureNoName", "SecureNoData"):
         pairs = zip(fields[1::3], fields[2::3])

@@ -23,6 +23,10 @@ loads nothing.
 With --warn lines ODD say what is odd of what is proved, with the RFC that says so: an opinion that changes no verdict.
 The manual page has its kinds, by the words of the column odd, which --fail-on takes.
 
+With --from and --to, or --timeline, a line is printed for each interval in which a verdict stands, from its first to
+its last moment; between them the signatures that end (ENDS) and begin (BEGINS) there, and below what is proved now what
+ends next (NEXT). --timeline takes all moments from the first time in the signatures of each capture to the last.
+
 What isn't verified of a capture within --budget and --budget-octets stays Unknown, so that a verdict is Pending that
 hangs on it. A line on the standard error says so, and how to give more. With --skew another says what a verdict is by a
 clock that is so many seconds late, or ahead, where it's another one.
@@ -105,7 +109,8 @@ def text_of(options: argparse.Namespace, has_captures: bool, common: Common) -> 
 def timeline_text(options: argparse.Namespace, has_captures: bool, now: int) -> Text:
     if options.jsonl or options.tsv:
         return rows_text(timelines.json_line if options.jsonl else timelines.tsv_line)
-    return (timelines.TimelineSums if options.every else timelines.TimelineLines)(has_captures, now, paths_of(options)).text
+    lines = timelines.TimelineSums if options.every else timelines.TimelineLines
+    return lines(has_captures, now, paths_of(options)).text
 
 
 def table_text(options: argparse.Namespace) -> Optional[Text]:
@@ -172,7 +177,8 @@ def common_of(options: argparse.Namespace, written: Iterable[int] = ()) -> Commo
     keys, macs = (read(path[0]) if path else None for path in (options.keys, options.macs))
     budget = Budget(options.budget, options.budget_octets, options.budget_questions)
     anchors = anchors_of(once(options.anchors), around(moments, options.skew))
-    return Common(anchors, keys, macs, moments, budget, bool(options.html), options.skew, wish_of(options), span_of(options))
+    wishes = wish_of(options), span_of(options)
+    return Common(anchors, keys, macs, moments, budget, bool(options.html), options.skew, *wishes)
 
 
 def judge_tasks(

@@ -80,15 +80,16 @@ def shown(value: Any) -> Any:
 def page_of(entries: Sequence[Entry], captures: Sequence[Tuple[str, List[str]]]) -> str:
     """The page: its entries, and the records of each capture, a line each, by the capture's name."""
     verdicts = verdicts_of(entries)
-    return environment_of(template_text).get_template(PAGE).render(
+    page: str = template_of(PAGE, template_text).render(
         title=title_of(entries), verdicts=verdicts, captures=listed(captures), has_contents=len(entries) >= MANY
     )
+    return page
 
 
-def environment_of(text_of: Callable[[str], str]) -> Any:
-    """That of templates which are found by their names: whatever they print is escaped."""
+def template_of(name: str, text_of: Callable[[str], str]) -> Any:
+    """A template by its name, and those that it includes: whatever they print is escaped."""
     jinja = library()
-    return jinja.Environment(
+    environment = jinja.Environment(
         loader=jinja.FunctionLoader(text_of),
         autoescape=True,
         finalize=shown,
@@ -97,6 +98,7 @@ def environment_of(text_of: Callable[[str], str]) -> Any:
         lstrip_blocks=True,
         keep_trailing_newline=True,
     )
+    return environment.get_template(name)
 
 
 def listed(captures: Sequence[Tuple[str, List[str]]]) -> List[Tuple[str, Any]]:

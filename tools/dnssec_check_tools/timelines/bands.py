@@ -1,5 +1,5 @@
 """A timeline as a band, a piece of it for each interval: as long as that lasts, but never too short to be seen."""
-from typing import List, NamedTuple, Optional, Sequence
+from typing import Dict, List, NamedTuple, Optional, Sequence
 
 from ..asking.moments import moment_text
 
@@ -35,7 +35,7 @@ class Piece(NamedTuple):
 
 
 class Mark(NamedTuple):
-    """A moment as it's drawn: its place, the end of the text that is there, and the text."""
+    """A moment as it's drawn: its place, which end of its text is there, and the text."""
 
     left: float
     anchor: str
@@ -69,22 +69,25 @@ def place_of(moment: int, stays: Sequence[Stay], pieces: Sequence[Piece]) -> Opt
     return None
 
 
-def band_of(about: str, stays: Sequence[Stay], marks: Sequence[Mark]) -> Band:
-    """The band of stays that follow one another; the marks have moments for places."""
+def band_of(about: str, stays: Sequence[Stay], moments: Dict[str, int]) -> Band:
+    """The band of stays that follow one another, with moments that are marked by their names, where it has them."""
     pieces: List[Piece] = []
     left = 0.0
     for stay, width in zip(stays, widths_of(stays)):
         kind, letter = KINDS[kind_of(stay.word)]
         shown = letter if width >= LETTER_LEAST else ""
-        pieces.append(Piece(round(left, 2), round(width, 2), kind, shown, spoken(stay)))
+        front = round(left, 2)
         left += width
-    drawn = []
-    for mark in marks:
-        place = place_of(int(mark.left), stays, pieces)
-        if place is not None:
-            anchor = "start" if place < WIDTH / 10 else "end" if place > WIDTH * 9 / 10 else "middle"
-            drawn.append(Mark(round(place, 2), anchor, mark.text))
-    return Band(pieces, drawn, f"{about}: " + "; ".join(piece.title for piece in pieces))
+        pieces.append(Piece(front, round(round(left, 2) - front, 2), kind, shown, spoken(stay)))
+    places = [(place_of(moment, stays, pieces), name) for name, moment in moments.items()]
+    marks = [mark_at(place, name) for place, name in places if place is not None]
+    return Band(pieces, marks, f"{about}: " + "; ".join(piece.title for piece in pieces))
+
+
+def mark_at(place: float, name: str) -> Mark:
+    """Its text stays within the band."""
+    anchor = "start" if place < WIDTH / 10 else "end" if place > WIDTH * 9 / 10 else "middle"
+    return Mark(round(place, 2), anchor, name)
 
 
 def spoken(stay: Stay) -> str:

@@ -27,7 +27,13 @@ def next_end(timeline: Timeline, now: int, view: View) -> Optional[Next]:
     first = min(each.moment for each in ends)
     behind = timeline.at(first + 1)
     whose = list(dict.fromkeys(each.whose for each in ends if each.moment == first))
-    return Next(first, whose, behind.word if behind else None, bool(behind and said(behind) == said(interval)))
+    return Next(first, whose, behind.word if behind else None, is_same(behind, interval, view))
+
+
+def is_same(behind: Optional[Interval], interval: Interval, view: View) -> bool:
+    """Whether the same is said."""
+    target = view.evidence.target
+    return behind is not None and said(behind, target) == said(interval, target)
 
 
 def ends_of(interval: Interval, now: int, view: View) -> List[End]:

@@ -6,7 +6,7 @@ from typing import Dict, List, NamedTuple, Optional, Set, Tuple
 from ..asked import Time
 from ..asking.questions import Question, Questions
 from ..judging.answers import ANSWERS, KEPT, Answered, Answers, answered, cut_note
-from ..judging.every import NOTHING
+from ..judging.every import NOTHING, has_too_many
 from ..judging.work import Common, Judged, Row, Rows, View, as_one, of_fault, opened, without_verdicts
 from ..program import SECURE, Files, Program, Told, Unlisted
 from ..started import nameless
@@ -35,7 +35,7 @@ def judged(octets: bytes, questions: Questions, common: Common, program: Program
     with contextlib.ExitStack() as stack:
         files = opened(stack, octets, common)
         files["anchors"] = stack.enter_context(nameless(common.anchors[now])).fileno()
-        case = Case(view, files, common, program, wish.of(octets, now))
+        case = Case(view, files, common, program, span_of(octets, wish, now))
         try:
             verified = case.verified()
         except Unlisted as fault:
@@ -45,6 +45,11 @@ def judged(octets: bytes, questions: Questions, common: Common, program: Program
         rows = case.rows(asked or [NOTHING], now, wish.is_verbose)
     is_refused = questions is None and all(row.stretch is None for row in rows)
     return Judged(as_one(rows, bool(asked)) if is_refused else rows, case.notes())
+
+
+def span_of(octets: bytes, wish: Wish, now: int) -> Range:
+    """The range of a capture; of one that is refused by its number of records, none of which is read, now alone."""
+    return wish.of(b"" if has_too_many(octets) else octets, now)
 
 
 class Case:
@@ -74,7 +79,7 @@ class Case:
         left = Time(self.budget.questions)
         asking = Asking(self.program, self.files, self.span, left, self.budget.octets)
         found = [found_of(question, asking.told(question)) for question in asked]
-        shown = {each.question: each.timeline.shown(is_verbose) for each in found if each.timeline}
+        shown = {each.question: each.timeline.shown(is_verbose, self.target) for each in found if each.timeline}
         explained = self.explained(shown, left)
         rows: List[Row] = []
         for each in found:
@@ -87,6 +92,10 @@ class Case:
                 stretch = Stretch(interval.last, interval.edges, interval.has(now), None)
                 rows.append(row._replace(stretch=stretch._replace(next=following if stretch.has_now else None)))
         return rows
+
+    def target(self, rrset: int) -> Optional[str]:
+        """The name that an alias leads to."""
+        return self.view.evidence.target(rrset)
 
     def row(self, question: Question, interval: Interval, why: Optional[Row]) -> Row:
         """That of an interval, by what its first moment is explained by, or where nothing has to be, or could be."""

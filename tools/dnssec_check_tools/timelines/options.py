@@ -19,8 +19,10 @@ WITHOUT = {
 
 
 def add_timeline(parser: argparse.ArgumentParser) -> None:
-    parser.add_argument("--from", dest="first", action="append", metavar="MOMENT", help="judge all moments from this..")
-    parser.add_argument("--to", dest="last", action="append", metavar="MOMENT", help="..to this one; --at is then `now`")
+    parser.add_argument(
+        "--from", dest="first", action="append", metavar="MOMENT", help="judge all moments from this on"
+    )
+    parser.add_argument("--to", dest="last", action="append", metavar="MOMENT", help="to this one; --at is what is now")
     parser.add_argument(
         "--timeline", action="store_true", help="judge all moments that the signatures of each capture span"
     )

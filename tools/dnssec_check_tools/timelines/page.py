@@ -2,21 +2,21 @@
 import os
 import stat
 from importlib import resources
-from typing import Any, Dict, List, NamedTuple, Optional, Tuple
+from typing import Any, Dict, List, NamedTuple, Optional
 
 from ..asking.moments import moment_text
-from ..explaining.page import TEMPLATES, environment_of, library, listed
+from ..explaining.page import TEMPLATES, library, listed, template_of
 from ..explaining.page import template_text as others_text
 from ..explaining.said import Said
-from ..judging.records import lines_of
-from ..judging.text import asked_text, reasons_of
+from ..judging.page import Page
+from ..judging.text import asked_text
 from ..judging.work import Row
-from .bands import Band, Mark, Stay, band_of, kind_of
+from .bands import Band, Stay, band_of, kind_of
 from .pieces import Stretch
 from .sentences import edges, following
-from .text import TimelineLines, by_question
+from .text import TimelineLines, by_question, failing
 
-PAGE, MANY = "timelines.html", 20
+TEMPLATE, MANY = "timelines.html", 20  # questions, from which on a page has its contents in front
 HEAD = "Timelines of DNSSEC"
 NOW, WRITTEN = "now", "file written"
 
@@ -43,20 +43,20 @@ class Told(NamedTuple):
     stages: List[Stage]
 
 
-class TimelinePage:
-    """What is judged, in its order, and the records of the captures."""
+class TimelinePage(Page):
+    """The page of what is judged at all moments of ranges."""
+
+    needs = (library,)
 
     def __init__(self, paths: Dict[str, str], now: int) -> None:
-        library()  # what is missing is told before anything is judged
+        super().__init__(paths)
         self.now = now
         self.lines = TimelineLines(False, now, paths)
         self.told: List[Told] = []
         self.written: Dict[str, int] = {}
-        self.records: Dict[int, Tuple[str, List[str]]] = {}
 
     def read(self, number: int, path: str, octets: bytes) -> None:
-        """The capture with this number."""
-        self.records[number] = path, list(lines_of(octets))
+        super().read(number, path, octets)
         moment = written_at(path)
         if moment is not None:
             self.written[path] = moment
@@ -72,15 +72,13 @@ class TimelinePage:
         if not spans:
             return Told(path, question, self.lines.said(path, rows[0]), None, [])
         stays = [Stay(row.moment, stretch.last, row.word) for row, stretch in spans]
-        marks = [Mark(self.now, "", NOW)]
-        if path in self.written:
-            marks.append(Mark(self.written[path], "", WRITTEN))
+        marks = {NOW: self.now, **({WRITTEN: self.written[path]} if path in self.written else {})}
         said = f"from {moment_text(stays[0].first)} to {moment_text(stays[-1].last)}"
         stages = [self.stage(path, row, stretch) for row, stretch in spans]
         return Told(path, question, said, band_of(question, stays, marks), stages)
 
     def stage(self, path: str, row: Row, stretch: Stretch) -> Stage:
-        behind = [*reasons_of(row), *([following(stretch.next, self.now)] if stretch.next else [])]
+        behind = [*failing(row), *([following(stretch.next, self.now)] if stretch.next else [])]
         said = self.lines.said(path, row)
         kind = kind_of(row.word).lower()
         before = edges(stretch.edges, self.now)
@@ -88,8 +86,7 @@ class TimelinePage:
 
     def octets(self) -> bytes:
         captures = [self.records[number] for number in sorted(self.records)]
-        page = environment_of(template_text).get_template(PAGE)
-        text: str = page.render(
+        text: str = template_of(TEMPLATE, template_text).render(
             title=title_of(self.told),
             told=self.told,
             captures=listed(captures),

@@ -1,11 +1,12 @@
 """A timeline as the program tells it: its intervals, and which signatures end and begin between them."""
-from typing import Any, Dict, Iterator, List, NamedTuple, Optional, Tuple
+from typing import Any, Callable, Dict, Iterator, List, NamedTuple, Optional, Tuple
 
 from ..program import Json
 
 REFUSED = "refused"
 ENDS = "ends"
 Edge = Dict[str, Any]  # as the program has it
+Target = Callable[[int], Optional[str]]  # the name that an alias leads to, by its RRset
 
 
 class Next(NamedTuple):
@@ -66,16 +67,16 @@ class Timeline:
         """The interval that has the moment, None where none has."""
         return next((each for each in self.intervals if each.has(moment)), None)
 
-    def shown(self, is_verbose: bool) -> List[Interval]:
+    def shown(self, is_verbose: bool, target: Target) -> List[Interval]:
         """The intervals, those as one that differ in nothing but what carries the verdict, unless all are told."""
-        return self.intervals if is_verbose else list(joined(self.intervals))
+        return self.intervals if is_verbose else list(joined(self.intervals, target))
 
 
-def joined(intervals: List[Interval]) -> Iterator[Interval]:
+def joined(intervals: List[Interval], target: Target) -> Iterator[Interval]:
     """Neighbours that say the same as one, with what ends and begins in front of the first."""
     whole: Optional[Interval] = None
     for each in intervals:
-        if whole and said(whole) == said(each):
+        if whole and said(whole, target) == said(each, target):
             whole = Interval({**whole.value, "to": each.last}, whole.edges)
             continue
         if whole:
@@ -85,9 +86,9 @@ def joined(intervals: List[Interval]) -> Iterator[Interval]:
         yield whole
 
 
-def said(interval: Interval) -> Any:
+def said(interval: Interval, target: Target) -> Any:
     """What is said of a verdict without what carries it: its kind, the number of a refusal, the unsigned cut, and
-    the names of the aliases on the way."""
+    the aliases on the way with the names that they lead to."""
     value = interval.value
-    names = [each["name"] for each in value.get("aliases", ())]
-    return interval.word, value.get(REFUSED), value.get("cut"), names
+    way = [(each["name"], target(each["rrset"])) for each in value.get("aliases", ())]
+    return interval.word, value.get(REFUSED), value.get("cut"), way

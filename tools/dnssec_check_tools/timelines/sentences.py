@@ -3,7 +3,7 @@ from typing import List
 
 from ..explaining.said import Said
 from ..explaining.signatures import about, by
-from ..explaining.values import ahead, all_of, date, owned
+from ..explaining.values import all_of, date, distance, owned
 from .pieces import ENDS, Edge, Next
 from .spans import window
 
@@ -29,8 +29,12 @@ def edges(lines: List[Edge], now: int) -> List[Said]:
 
 def following(told: Next, now: int) -> Said:
     """Whose signatures end first of those that carry the verdict, and what comes then."""
-    names = all_of(owned(*each) for each in told.whose)
-    first = f"signed until {ahead(told.moment - now, now)}, which is the first end ahead"
+    names = [owned(*each) for each in told.whose]
+    front = "its signature ends" if len(names) == 1 else "their signatures end"
+    return Said(NEXT, all_of(names), f"{front} {on(told.moment, now)} (in {distance(told.moment - now)}){then(told)}")
+
+
+def then(told: Next) -> str:
     if told.then is None:
-        return Said(NEXT, names, first)
-    return Said(NEXT, names, f"{first}; " + ("others take over" if told.is_taken_over else f"then: {told.then}"))
+        return ""
+    return ", and others take over" if told.is_taken_over else f", and then it is {told.then}"

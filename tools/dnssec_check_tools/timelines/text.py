@@ -6,6 +6,8 @@ from typing import Any, Dict, Iterator, List, Tuple
 from ..asking.faults import escaped
 from ..asking.kinds import mnemonic_of
 from ..asking.moments import moment_text
+from ..explaining.said import Said
+from ..explaining.sentences import verdict
 from ..explaining.values import counted
 from ..judging.colours import coloured
 from ..judging.numbers import fault_text
@@ -21,12 +23,14 @@ from ..judging.text import (
     why_fields,
 )
 from ..judging.work import Row
-from ..explaining.sentences import verdict
 from ..program import PENDING, SECURE, Json
 from .pieces import Edge
 from .sentences import edges, following
 
-COLUMNS = ("capture", "from", "to", "name", "type", "status", "verdict", "evidence", "edges", "next", "reason", "ede", "reasons")
+COLUMNS = (
+    *("capture", "from", "to", "name", "type", "status", "verdict", "evidence", "edges", "next"),
+    *("reason", "ede", "reasons"),
+)
 NOBODY = "Pending on signatures that could not be verified here"
 
 
@@ -49,12 +53,17 @@ class TimelineLines(Lines):
 
     def behind(self, row: Row) -> List[Any]:
         told = row.stretch.next if row.stretch else None
-        return [*reasons_of(row), *([following(told, self.now)] if told else [])]
+        return [*failing(row), *([following(told, self.now)] if told else [])]
 
     def said(self, capture: str, row: Row) -> str:
         if row.stretch is None or "number" in row.evidence:
             return f"{row.word} " + fault_text(row.evidence, {**self.paths, "capture": capture})
         return "; ".join([verdict_text(row), *aliases_texts(row.evidence)])
+
+
+def failing(row: Row) -> List[Said]:
+    """The sentences that say why the verdict isn't secure, but for those on the clock of who asks."""
+    return [each for each in reasons_of(row) if each.about != moment_text(row.moment)]
 
 
 class TimelineSums(TimelineLines):
