@@ -82,7 +82,8 @@ class InProcess(unittest.TestCase):
 
     def test_lists_are_those_of_the_examples(self):
         for example in examples():
-            if "--compact" not in example.words or example.is_json or "statements" in example.files or not is_small(example):
+            is_list = "--compact" in example.words and "--moment" in example.words
+            if not is_list or example.is_json or "statements" in example.files or not is_small(example):
                 continue
             with self.subTest(example.name), opened(example.files) as files:
                 moment = int(example.words[example.words.index("--moment") + 1])

@@ -21,7 +21,7 @@ SANITIZED = ("-fsanitize=address,undefined", "-fno-sanitize-recover=all", "-fno-
 OPTIONS = {"ASAN_OPTIONS": "detect_stack_use_after_return=1:strict_string_checks=1:exitcode=99"}
 THREADS = 8
 TEXTS = ("anchors", "verified", "keys", "macs", "questions")
-SECONDS = 60  # that a call of gigabytes may take: it copies 2^30 octets at most, and no machine is so slow
+SECONDS = 120  # that a call of gigabytes may take: it copies 2^30 octets at most
 
 
 def has_sanitizer():
@@ -63,7 +63,7 @@ class Sanitized(unittest.TestCase):
 
 @unittest.skipUnless(SHARED.exists() and shutil.which("cc"), "needs the library that `make library` builds, and cc")
 class Gigabytes(unittest.TestCase):
-    """By the library as it is built: the sanitizer would keep each block twice."""
+    """By the library as it is built: the sanitizer copies a block that grows, and keeps the old one for a while."""
 
     def test_texts_of_gigabytes_are_too_long(self):
         with tempfile.TemporaryDirectory() as room:
