@@ -7,7 +7,7 @@ import random
 from typing import Iterable
 
 from dnssec_check_tools.capturing.frames import framed, frames_of
-from dnssec_check_tools.judging.evidence import Evidence
+from dnssec_check_tools.judging.evidence import Evidence, rdata_of_signature
 from wire import A, DNSKEY, QUESTION, RRSIG, ZONE, anchor, key_tag, label, record, response, rrsig_of, zone_key
 
 from .shape import Shape
@@ -48,9 +48,16 @@ def transfer(messages: int) -> Shape:
     """So many messages of the transfer of a signed zone, whose signatures all have one inception and one expiration, as
     those of each zone above it have; an address is asked for, over all of these and some time besides."""
     octets = framed(frames_of(TRANSFER.read_bytes())[0][:messages])
-    pairs = sum(len(rrset.signatures) for rrset in Evidence(octets).rrsets)  # each by one key
     files = {"capture": [octets], "anchors": [ROOT_KEY]}
-    return Shape(files, asked("host-0001.big.test.", A, OF_TRANSFER), pairs, 0, listed=OF_TRANSFER)
+    return Shape(files, asked("host-0001.big.test.", A, OF_TRANSFER), signed(octets), 0, listed=OF_TRANSFER)
+
+
+def signed(octets: bytes) -> int:
+    """How many signatures there are, each by one key; those that stand in several messages count once."""
+    evidence = Evidence(octets)
+    placed = ((message, each) for message, of in zip(evidence.messages, evidence.placed) for each in of)
+    made = ((each.rrset, rdata_of_signature(message, each.record)) for message, each in placed if each.signature)
+    return len({(rrset.owner, rrset.kind, rdata) for rrset, rdata in made if rrset})
 
 
 def bystanders(signatures: int) -> Shape:
