@@ -1,5 +1,5 @@
 //! Files of answers.
-ghost use Rattle.std.specs.Prelude.{◌≡◌, ◌⊎◌, ◌∷◌, Err, List, ℕ, length, IfErr, IfOk, OnErr, OnOk};
+ghost use Rattle.std.specs.Prelude.{◌≡◌, ◌⊎◌, ◌∷◌, Err, List, ℕ, IfErr, IfOk, OnOk};
 ghost use Rattle.dnsv_names.specs.Lines.{HasLines, NumberedLine};
 ghost use Rattle.dnsv_answers.specs.AnswerFile.{AnswersContents, AreAnswersOf, AreMiscounted, AreOf, AreOfOther, AreSoMany, BeginsWithHeading, IsFaultOf, IsFirstNoAnswer, SayAnswers};
 ghost use Rattle.dnsv_answers.specs.declared.error.AnswersError.{AnswersError};

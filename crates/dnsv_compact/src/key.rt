@@ -1,5 +1,5 @@
 //! The keys of entries.
-ghost use Rattle.std.specs.Prelude.{◌≡◌, ◌↔◌, ◌<◌, Contains, IfOk, MatchOption, length, map};
+ghost use Rattle.std.specs.Prelude.{◌≡◌, ◌<◌, Contains, IfOk, map};
 ghost use Rattle.std.specs.List.Sorted.{IsStrictlySortedBy};
 ghost use Rattle.dnsv_compact.specs.CompactList.{AreKeysOf, key_cmp, key_of_entry};
 ghost use Rattle.dnsv_compact.specs.declared.key.ListedKey.{ListedKey};

@@ -1,21 +1,12 @@
--- The steps in which the object of a list is written, up to what it lists.
+-- The steps in which the object of a list is written.
 use Rattle.std.proofs.Common.{◌≡◌, true, false, List, [], ◌∷◌, ◌++◌, ℕ, refl, sym, ap, ◌∙◌, append_assoc, codes}
-use Rattle.std.proofs.lemmas.List.{append-nil}
-use Rattle.dnsv_lines.specs.Json.{array, member, object, parted, quoted}
+use Rattle.dnsv_lines.specs.Json.{array, member, parted, quoted}
 use Rattle.dnsv_lines.proofs.JsonLemmas.{parted_behind}
 use Rattle.dnsv_texts.specs.Json.{object_line}
 
 -- the member for the subcommand
 abbrev pub of_list : List ℕ
 of_list = member (codes "command") (quoted (codes "list"))
-
-pub at_written : (s s1 m : List ℕ) → s1 ≡ s ++ (codes "{\"command\":\"list\",\"moment\":" ++ m)
-    → s1 ≡ s ++ (codes "{" ++ parted true (of_list ∷ member (codes "moment") m ∷ []))
-at_written s s1 m is1 = is1 ∙ ap (λ t. s ++ (codes "{\"command\":\"list\",\"moment\":" ++ t)) (sym (append-nil m))
-
-pub between_written : (s s1 f l : List ℕ) → s1 ≡ s ++ (codes "{\"command\":\"list\",\"from\":" ++ (f ++ (codes ",\"to\":" ++ l)))
-    → s1 ≡ s ++ (codes "{" ++ parted true (of_list ∷ member (codes "from") f ∷ member (codes "to") l ∷ []))
-between_written s s1 f l is1 = is1 ∙ ap (λ t. s ++ (codes "{\"command\":\"list\",\"from\":" ++ (f ++ (codes ",\"to\":" ++ t)))) (sym (append-nil l))
 
 -- the object is that of these members and of those behind them
 pub with_members : (moments others : List (List ℕ))

@@ -1,5 +1,5 @@
 //! The JSON of `check` and of `explain`: a question's verdict, what carries it, and why it stands.
-ghost use Rattle.std.specs.Prelude.{◌≡◌, ◌++◌, ◌∷◌, [], Some, false, true, codes, is_some, map, IfOk, OnOk, string_bytes};
+ghost use Rattle.std.specs.Prelude.{◌≡◌, ◌++◌, ◌∷◌, [], Some, false, true, codes, map, IfOk, OnOk, string_bytes};
 ghost use Rattle.std.specs.Option.{option_map};
 ghost use Rattle.dnsv_lines.specs.Json.{array, parted, still_first};
 ghost use Rattle.dnsv_texts.specs.Checking as specs;
