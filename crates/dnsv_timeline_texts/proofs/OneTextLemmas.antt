@@ -1,13 +1,11 @@
 -- A timeline has one text.
 use Rattle.std.proofs.Common.{◌≡◌, ◌∙◌, ℕ, Bool, List, [], ◌∷◌, inl, inr, sym, ap, refl, subst}
 use Rattle.dnsv_names.specs.Name.{Labels}
-use Rattle.dnsv_records.specs.declared.rrsig.Rrsig.{Rrsig}
 use Rattle.dnsv_canonical.specs.Rrsets.{ReceivedRrset}
 use Rattle.dnsv_canonical.specs.declared.number.SignatureNumber.{SignatureNumber}
 use Rattle.dnsv_lines.specs.declared.line.fault.signature.ShownSignature.{ShownSignature}
 use Rattle.dnsv_timeline.specs.Borders.{borders_of}
 use Rattle.dnsv_timeline.specs.declared.borders.Border.{Border}
-use Rattle.dnsv_timeline.specs.declared.borders.DatedSignature.{DatedSignature}
 use Rattle.dnsv_timeline.specs.declared.stretch.Stretch.{Stretch}
 use Rattle.dnsv_texts.specs.declared.format.Format.{Format}
 use Rattle.dnsv_derivations.proofs.lemmas.one.TrustedLemmas.{one_signature_at}
@@ -62,7 +60,7 @@ module _ (rrsets : List ReceivedRrset) where
       one_going_on kinds (longer piece stretch) stretches a b x.1 y.1
   one_going_on kinds piece (stretch ∷ stretches) a b (inl x) (inr y) = absurd (y.0 x.0)
   one_going_on kinds piece (stretch ∷ stretches) a b (inr x) (inl y) = absurd (x.0 y.0)
-  one_going_on kinds piece (stretch ∷ stretches) a b (inr (apart, borders, shown, others, on, is)) (inr (_, edges, told, rest, goes, same)) =
+  one_going_on kinds piece (stretch ∷ stretches) a b (inr (apart, (borders, shown, (others, on, is)))) (inr (_, (edges, told, (rest, goes, same)))) =
       let one : borders ≡ edges = one_borders piece.last.by stretch.said.by stretch.from borders edges shown told in
       let On : List ShownBorder → Type 0 = λ each. GoOn rrsets kinds (begun each stretch) stretches others in
       let behind : others ≡ rest = one_going_on kinds (begun edges stretch) stretches others rest (subst On one on) goes in
