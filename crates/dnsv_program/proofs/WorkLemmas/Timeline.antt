@@ -1,6 +1,6 @@
 -- The timeline of a question over files that were all taken.
 use Rattle.std.proofs.Common.{◌≡◌, ◌⊎◌, ℕ, Bool, List, Option, inl, inr, refl, subst, sym, ⊎_elim}
-use Rattle.std.specs.Prelude.{Err, IfOk, IsErrOf, Ok, Result}
+use Rattle.std.specs.Prelude.{Err, IfErr, IfOk, IsErrOf, Ok, Result}
 use Rattle.dnsv_names.specs.Name.{Labels}
 use Rattle.dnsv_canonical.specs.Rrsets.{IsQuestion, ReceivedRrset}
 use Rattle.dnsv_timeline.specs.declared.stretch.Stretch.{Stretch}
@@ -24,13 +24,13 @@ use Rattle.dnsv_files.specs.declared.status.InputFile.{InputFile}
 use Rattle.dnsv_files.specs.declared.status.Place.{Place}
 use Rattle.dnsv_files.specs.declared.status.Refusal.{Refusal}
 use Rattle.dnsv_files.specs.declared.status.Refusal.TheVariants as refusal
-use Rattle.dnsv_files.specs.Files.Faults.{OfFailedRead, TellsFaults}
+use Rattle.dnsv_files.specs.Files.Faults.{OfFailedRead, OfOctets, TellsFaults}
 use Rattle.dnsv_files.specs.Files.{Files, given_failures}
 use Rattle.dnsv_files.specs.Told.{IsFaultOf, nowhere}
 use Rattle.dnsv_files.proofs.FileLemmas.Faults.{reads_of_none, reads_untouched, same_fault}
 use Rattle.dnsv_program.specs.Question.{Spells}
 use Rattle.dnsv_program.specs.Run.{IsFaultOfQuestion, IsTimelineRefused}
-use Rattle.dnsv_program.specs.Work.Checking.{AreReadFrom, verdict_fault}
+use Rattle.dnsv_program.specs.Work.Checking.{AreReadFrom, basis_in, verdict_fault}
 use Rattle.dnsv_program.specs.Work.Known.{Ground}
 use Rattle.dnsv_program.specs.Work.Timeline.{IsFaultOfRange, IsStoppedThroughout, IsTimeline, IsTimelineBehind}
 use Rattle.dnsv_program.specs.declared.work.given.Said as given

@@ -1,3 +1,4 @@
+use Rattle.std.proofs.Common.{subst, sym}
 use Rattle.dnsv_files.specs.Moment.{begin_of, end_of}
 use Rattle.dnsv_program.specs.Work.Span.{moments_of}
 use Rattle.dnsv_program.proofs.WorkLemmas.Listing.{unknown_asked}

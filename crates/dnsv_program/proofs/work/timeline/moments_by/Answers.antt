@@ -1,3 +1,4 @@
+use Rattle.std.proofs.Common.{refl}
 use Rattle.std.proofs.lemmas.Result.{err_from_is_err_and}
 use Rattle.dnsv_answers.specs.AnswerFile.{answers_in}
 use Rattle.dnsv_answers.specs.declared.heading.Moments.TheVariants.{Between}
