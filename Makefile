@@ -70,8 +70,8 @@ test-tools:
 
 # The commands of the pages, against what the pages show, with the program and the tools as they are installed.
 # CAPTURING.md and BREAKS.md need root, and the packages that they name; `check` runs the others. So does the table of
-# incidents in BREAKS.md, of which `check` makes three where root has what they need. LIBRARY.md runs over the library that
-# is built and not installed.
+# incidents in BREAKS.md, of which `check` makes three where root has what they need. LIBRARY.md and NOTEBOOK.md run over
+# the library that is built and not installed.
 pages: | $(program)
 	tools/pages --installed docs/CAPTURING.md
 	tools/pages --installed docs/BREAKS.md
@@ -84,7 +84,7 @@ pages: | $(program)
 	tools/pages --installed docs/VERDICTS.md
 	tools/pages --installed docs/COMPACT.md
 	tools/pages --installed docs/EXPLANATION.md
-	if test -e $(shared); then tools/pages docs/LIBRARY.md; fi
+	if test -e $(shared); then tools/pages docs/LIBRARY.md && tools/pages docs/NOTEBOOK.md; fi
 
 # The pictures that README.md shows, from the examples; needs chromium, fonts-liberation and pngquant besides what the page
 # of `dnssec_check-judge --html` needs, and no program.
@@ -133,11 +133,15 @@ library: $(made)/libdnssec_check.a $(shared)
 $(calls):
 	cd crates/dnssec_check_c && rt lib
 
-# One object, in which only the calls of the header are seen.
-$(made)/dnssec_check.o: library/calls.c library/dnssec_check.h library/symbols $(calls)
+# What is proved, as one object; a test has calls.c over it that was compiled otherwise.
+$(made)/proved.o: $(calls)
 	install -d $(made)
+	$(LD) -r -o $@ --whole-archive $(calls) --no-whole-archive $(kit)c/liblibc_c.a
+
+# One object, in which only the calls of the header are seen.
+$(made)/dnssec_check.o: library/calls.c library/dnssec_check.h library/symbols $(made)/proved.o
 	$(CC) -std=c99 -O2 -fPIC -Wall -Wextra -Werror -DDNSSEC_CHECK_VERSION='"$(version)"' -c library/calls.c -o $(made)/calls.o
-	$(LD) -r -o $@ $(made)/calls.o --whole-archive $(calls) --no-whole-archive $(kit)c/liblibc_c.a
+	$(LD) -r -o $@ $(made)/calls.o $(made)/proved.o
 	objcopy --keep-global-symbols=library/symbols $@
 
 $(made)/libdnssec_check.a: $(made)/dnssec_check.o

@@ -1,8 +1,9 @@
 #!/usr/bin/env python3
-"""Measures how many captures are judged in a second of a processor: in process, by the library from Python, and by
-starting the program for each; and by dnspython, where it's there. The capture is that of examples/bind-www-a, which has
-a signature for each of six RRsets. The time is that which the processes had of a processor. It needs the library (make
-library), the built program (make) and PYTHONPATH=tools:library/python.
+"""Measures how many captures are judged in a second of a processor: in process, by the library from C and from Python,
+and by starting the program for each; and by getdns (Debian's libgetdns-dev) and dnspython, where they are there. The
+capture is that of examples/bind-www-a, which has a signature for each of six RRsets. The time is that which the
+processes had of a processor. It needs the library (make library), the built program (make), cc and
+PYTHONPATH=tools:library/python.
 
 exit status: 0, all is measured; 1, a run failed; 2, the command line is wrong; 130, it was interrupted.
 """
@@ -11,8 +12,10 @@ from __future__ import annotations
 
 import os
 import pathlib
+import subprocess
+import tempfile
 import time
-from typing import Callable, List, Sequence
+from typing import Callable, List, Sequence, Tuple
 
 import dnssec_check
 from measure_shapes import PROGRAM
@@ -24,9 +27,8 @@ from dnssec_check_tools.started import Process
 TREE = pathlib.Path(__file__).resolve().parent.parent
 FOLDER = TREE / "examples" / "bind-www-a"
 MOMENT, NAME, KIND = 1795348800, "www.bind.test.", "A"
-CAPTURE, ANCHORS, STATEMENTS = (
-    path.read_bytes() for path in (FOLDER / "capture", TREE / "examples" / "anchors", FOLDER / "statements")
-)
+PATHS = (FOLDER / "capture", TREE / "examples" / "anchors", FOLDER / "statements")
+CAPTURE, ANCHORS, STATEMENTS = (path.read_bytes() for path in PATHS)
 
 
 def seconds() -> float:
@@ -90,7 +92,40 @@ def by_dnspython() -> None:
     dnssec.validate(found[asked], signed[asked], {at: keys[at]}, now=MOMENT)
 
 
-WAYS: List[tuple[str, Callable[[], None]]] = [
+class Lacking(Exception):
+    """What a way needs isn't there."""
+
+
+def counted(source: str, links: Sequence[str], words: Sequence[str]) -> float:
+    """What a C file of this folder, compiled for it, says that it did in a second."""
+    with tempfile.TemporaryDirectory() as room:
+        program = os.path.join(room, "program")
+        compiler = ["cc", "-O2", f"-I{TREE / 'library'}", f"{TREE / 'bench' / source}", "-o", program, *links]
+        try:
+            subprocess.run(compiler, capture_output=True, check=True)
+        except (OSError, subprocess.CalledProcessError) as fault:
+            raise Lacking(f"{source} doesn't compile here") from fault
+        return float(subprocess.run([program, *words], stdout=subprocess.PIPE, check=True).stdout)
+
+
+def by_library_from_c(least: float) -> float:
+    archive = str(TREE / "out" / "library" / "libdnssec_check.a")
+    asked = [str(MOMENT), NAME, "1", str(least)]
+    return counted("by_library.c", [archive], [*map(str, PATHS), *asked])
+
+
+def by_getdns(least: float) -> float:
+    """Each signature is verified once, from the root's anchor down; the answer is asked for, and no denial."""
+    anchors = [line.split(" ", 2) for line in ANCHORS.decode().splitlines() if line.startswith("DS ")]
+    anchor = f"{anchors[0][1]} 3600 IN DS {anchors[0][2]}"
+    return counted("by_getdns.c", ["-lgetdns"], [str(PATHS[0]), anchor, str(MOMENT), str(least)])
+
+
+IN_C: List[Tuple[str, Callable[[float], float]]] = [
+    ("the library, from C, by statements", by_library_from_c),
+    ("getdns' `getdns_validate_dnssec2`, from C", by_getdns),
+]
+WAYS: List[Tuple[str, Callable[[], None]]] = [
     ("the library, from Python, by statements", by_library),
     ("the program, started for each, by statements", by_program),
     ("the library, from Python, with `dnssec_check.verify`", by_library_and_verifier),
@@ -102,6 +137,11 @@ def main(words: Sequence[str]) -> int:
     parser = command.parser_of(__doc__)
     parser.add_argument("--seconds", type=float, default=3.0, help="of a processor, for each row")
     least = parser.parse_args(words).seconds
+    for way, count in IN_C:
+        try:
+            print(f"| {way} | {count(least):,.0f} |", flush=True)
+        except Lacking as fault:
+            print(f"| {way} | {fault} |", flush=True)
     for way, judge in WAYS:
         try:
             print(f"| {way} | {a_second(judge, least):,.0f} |", flush=True)

@@ -1,11 +1,12 @@
 #!/usr/bin/env python3
 """Measures the built program on requests that are made to cost much for what they weigh.
 
-Each is made at a size and at four times as much, and what is printed are the rows of the table in
-docs/PERFORMANCE.md. Without a shape all are measured; with sizes, the shape at these. Instructions are counted by
-valgrind's callgrind, a growth is their number by that of the row above, and peak memory and processor time are those
-that GNU time tells. It needs the built program (make), valgrind, GNU time and PYTHONPATH=tools. The largest rows take
-a GiB of memory, and all together some minutes of processor time.
+Each is made at a size and at four times as much, and what is printed are the rows of the tables in docs/STRANGERS.md
+and of the one on timelines in docs/PERFORMANCE.md. Without a shape all are measured; with a beginning, as
+`timeline-`, all shapes whose names begin so; with sizes, the shape at these. Instructions are counted by valgrind's
+callgrind, a growth is their number by that of the row above, and peak memory and processor time are those that GNU
+time tells. It needs the built program (make), valgrind, GNU time and PYTHONPATH=tools. The largest rows take a GiB of
+memory, and all together some minutes of processor time.
 
 exit status: 0, all is measured; 1, a run failed; 2, the command line is wrong; 130, it was interrupted.
 """
@@ -44,7 +45,7 @@ def write_files(shape: Shape, room: pathlib.Path) -> None:
         with open(room / option, "wb") as file:
             file.writelines(pieces)
     if shape.answered_from is not None:
-        words = [str(PROGRAM), "list", "--capture", str(room / "capture"), "--moment", "1500"]
+        words = [str(PROGRAM), "list", "--capture", str(room / "capture"), *shape.listed]
         todo = subprocess.run(words, check=True, stdout=subprocess.PIPE).stdout.splitlines(keepends=True)
         asked = [line for line in todo[shape.answered_from :] if shape.answered_by in line]
         good = [line.replace(b"todo", b"good", 1) for line in asked]
@@ -99,10 +100,13 @@ def measure(name: str, sizes: Iterable[int]) -> None:
 
 def main(words: list[str]) -> int:
     parser = command.parser_of(__doc__)
-    parser.add_argument("shape", metavar="SHAPE", nargs="?", choices=SHAPES, help=", ".join(SHAPES))
+    parser.add_argument("shape", metavar="SHAPE", nargs="?", default="", help=", ".join(SHAPES))
     parser.add_argument("sizes", metavar="SIZE", type=int, nargs="*", help="sizes in place of the usual two")
     options = parser.parse_args(words)
-    for name in [options.shape] if options.shape else SHAPES:
+    named = [options.shape] if options.shape in SHAPES else [name for name in SHAPES if name.startswith(options.shape)]
+    if not named:
+        parser.error(f"there is no shape {options.shape}")
+    for name in named:
         _, size = SHAPES[name]
         measure(name, options.sizes or (size, GROWTH * size))
     return 0

@@ -25,6 +25,11 @@ struct options {
 uint32_t dnssec_check_c_show(const void *, size_t, void *, size_t, dnssec_check_outcome *);
 uint32_t dnssec_check_c_list(const void *, size_t, const void *, size_t, const struct options *, uint32_t, void *, size_t,
                              dnssec_check_outcome *);
+uint32_t dnssec_check_c_list_range(const void *, size_t, const void *, size_t, const struct options *, uint64_t, uint64_t,
+                                   uint32_t, void *, size_t, dnssec_check_outcome *);
+uint32_t dnssec_check_c_timeline(const void *, size_t, const void *, size_t, const void *, size_t, const struct options *,
+                                 uint64_t, uint64_t, const void *, size_t, uint32_t, uint32_t, void *, size_t,
+                                 dnssec_check_outcome *);
 uint32_t dnssec_check_c_check(const void *, size_t, const void *, size_t, const void *, size_t, const void *, size_t,
                               const void *, size_t, const struct options *, const void *, size_t, uint32_t, void *, size_t,
                               dnssec_check_outcome *);
@@ -86,6 +91,28 @@ int dnssec_check_list(const dnssec_check_case *given, uint32_t listing, uint32_t
     struct options options = options_of(given, format, false);
     return (int)dnssec_check_c_list(capture.data, capture.length, verified.data, verified.length, &options, listing,
                                     to.buffer, to.room, to.outcome);
+}
+
+int dnssec_check_list_range(const dnssec_check_case *given, uint64_t from, uint64_t to, uint32_t listing, uint32_t format,
+                            void *buffer, size_t room, dnssec_check_outcome *outcome) {
+    struct place place;
+    if (!has_place(&place, buffer, room, outcome) || !is_case(given)) return DNSSEC_CHECK_NULL;
+    dnssec_check_octets capture = in_memory(&given->capture), verified = in_memory(&given->verified);
+    struct options options = options_of(given, format, false);
+    return (int)dnssec_check_c_list_range(capture.data, capture.length, verified.data, verified.length, &options, from, to,
+                                          listing, place.buffer, place.room, place.outcome);
+}
+
+int dnssec_check_timeline(const dnssec_check_case *given, uint64_t from, uint64_t to, const char *name, uint32_t type,
+                          uint32_t detail, uint32_t format, void *buffer, size_t room, dnssec_check_outcome *outcome) {
+    struct place place;
+    if (!has_place(&place, buffer, room, outcome) || !is_case(given) || name == NULL) return DNSSEC_CHECK_NULL;
+    dnssec_check_octets capture = in_memory(&given->capture), anchors = in_memory(&given->anchors);
+    dnssec_check_octets verified = in_memory(&given->verified);
+    struct options options = options_of(given, format, false);
+    return (int)dnssec_check_c_timeline(capture.data, capture.length, anchors.data, anchors.length, verified.data,
+                                        verified.length, &options, from, to, name, strlen(name), type, detail, place.buffer,
+                                        place.room, place.outcome);
 }
 
 static int judge(const dnssec_check_case *given, const char *name, uint32_t type, const dnssec_check_octets *questions,

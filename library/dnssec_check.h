@@ -26,7 +26,7 @@ extern "C" {
 enum dnssec_check_status {
     DNSSEC_CHECK_DONE = 0,          /* the text is written; of a question: its answer, or its absence, is secure */
     DNSSEC_CHECK_FAILED = 1,        /* memory is wanting (number 90), or octets are too many (211) */
-    DNSSEC_CHECK_MISUSED = 2,       /* a number names nothing, or the name isn't UTF-8 */
+    DNSSEC_CHECK_MISUSED = 2,       /* a number names nothing, the name isn't UTF-8, or keys are given that aren't taken */
     DNSSEC_CHECK_INSECURE = 3,      /* the name may lie in a zone that isn't signed */
     DNSSEC_CHECK_PENDING = 4,       /* that depends on signatures that are still to be verified */
     DNSSEC_CHECK_BOGUS = 5,         /* nothing is proved at or below a trust anchor */
@@ -51,11 +51,17 @@ enum dnssec_check_listing {
     DNSSEC_CHECK_ALL = 2      /* the signed octets of every signature */
 };
 
+/* What an interval of a timeline has. */
+enum dnssec_check_detail {
+    DNSSEC_CHECK_WORDS = 0, /* its verdict with what carries that */
+    DNSSEC_CHECK_KINDS = 1  /* the kind of its verdict alone, so that neighbours of one kind are one interval */
+};
+
 /* What octets say of signatures that were verified. */
 enum dnssec_check_verified {
     DNSSEC_CHECK_NOTHING = 0,    /* nothing; the octets aren't looked at */
     DNSSEC_CHECK_STATEMENTS = 1, /* lines `good ALG KEY DATA SIG` or `bad ALG KEY DATA SIG`, in hex */
-    DNSSEC_CHECK_ANSWERS = 2     /* answers by the numbers of a list; of no use to dnssec_check_list */
+    DNSSEC_CHECK_ANSWERS = 2     /* answers by the numbers of a compact list; of no use where something is listed */
 };
 
 /* What octets are too long. */
@@ -102,6 +108,12 @@ int dnssec_check_show(const dnssec_check_octets *capture, void *buffer, size_t r
 int dnssec_check_list(const dnssec_check_case *given, uint32_t listing, uint32_t format, void *buffer, size_t room,
                       dnssec_check_outcome *outcome);
 
+/* Lists the signatures that a verifier still has to check for the moments from `from` to `to`, each once, where `listing` is
+   DNSSEC_CHECK_OPEN or DNSSEC_CHECK_COMPACT. The case counts as above, but for its moment. A range that is turned, or in
+   which moments lie 2^32 seconds or more apart, is refused by number 821. */
+int dnssec_check_list_range(const dnssec_check_case *given, uint64_t from, uint64_t to, uint32_t listing, uint32_t format,
+                            void *buffer, size_t room, dnssec_check_outcome *outcome);
+
 /* Says what the case proves of a name, which ends with a dot, and a type. */
 int dnssec_check_check(const dnssec_check_case *given, const char *name, uint32_t type, uint32_t format, void *buffer,
                        size_t room, dnssec_check_outcome *outcome);
@@ -109,6 +121,14 @@ int dnssec_check_check(const dnssec_check_case *given, const char *name, uint32_
 /* Says the same, and then why it stands or fails. */
 int dnssec_check_explain(const dnssec_check_case *given, const char *name, uint32_t type, uint32_t format, void *buffer,
                          size_t room, dnssec_check_outcome *outcome);
+
+/* Says what the case proves of a name and a type at each moment from `from` to `to`, as intervals of moments, with the
+   signatures that end or begin between them; `detail` is of enum dnssec_check_detail. The moment of the case doesn't count.
+   Answers by number are those of the compact list of just this range. Keys aren't taken, since a message that is signed by
+   one opens within minutes only: where they are given, it answers DNSSEC_CHECK_MISUSED. A range is refused as above. The
+   status is 0, whatever the verdicts are. */
+int dnssec_check_timeline(const dnssec_check_case *given, uint64_t from, uint64_t to, const char *name, uint32_t type,
+                          uint32_t detail, uint32_t format, void *buffer, size_t room, dnssec_check_outcome *outcome);
 
 /* Says what the case proves of each question of a text of lines `NAME TYPE`, one behind the other: the case is judged once,
    and the status is the greatest of all. */

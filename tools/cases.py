@@ -11,7 +11,7 @@ from dataclasses import dataclass
 EXAMPLES = pathlib.Path(__file__).resolve().parent.parent / "examples"
 LINE = re.compile(r"(\d+) (\S+(?: \S+)*)")
 FILES = ("--capture", "--anchors", "--statements", "--answers", "--keys", "--macs", "--questions")
-FORMS = ("--all", "--compact")
+FORMS = ("--all", "--compact", "--kinds")
 
 
 class WrongLine(ValueError):

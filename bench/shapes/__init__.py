@@ -1,6 +1,6 @@
 """Requests that strangers may bring about, each made to cost much for what it weighs. Each is made at a size, as large
 as one likes, and the bench measures it at the size named here and at four times as much."""
-from . import denials, derivations, files, keys, signatures
+from . import denials, derivations, files, keys, signatures, timelines
 
 SHAPES = {
     "long-data": (signatures.long_data, 24),
@@ -19,6 +19,9 @@ SHAPES = {
     "question-hashes": (denials.question_hashes, 4),
     "aliases": (denials.aliases, 8),
     "alias-hashes": (denials.alias_hashes, 3),
+    "timeline-transfer": (timelines.transfer, 15),
+    "timeline-bystanders": (timelines.bystanders, 250),
+    "timeline-ends": (timelines.ends, 756),
     "key-file": (files.key_file, 4_000),
     "statements": (files.statements, 250_000),
     "scattered": (files.scattered, 62_500),

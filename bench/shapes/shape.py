@@ -27,3 +27,4 @@ class Shape:
     # The statements say `good` of each line that `list` prints from this place on; without it there are none.
     answered_from: Optional[int] = None
     answered_by: bytes = b""  # and of those alone that have these octets
+    listed: tuple[str, ...] = ("--moment", "1500")  # for which moment, or which range

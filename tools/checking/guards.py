@@ -84,6 +84,12 @@ def of_page(page: str, *titles: str, packages: tuple[str, ...] = OF_TOOLS) -> Gu
     return Guard(page, ("tools/pages", "--installed", page, *titles), packages=packages, built=(PROGRAM,))
 
 
+def of_library(page: str, *packages: str) -> Guard:
+    """A page over the library that is built and not installed."""
+    needed = (*packages, "python3-cryptography")
+    return Guard(page, ("tools/pages", page), packages=needed, only_with=(LIBRARY,))
+
+
 def of_loans(crate: str) -> Guard:
     return Guard(f"does-not-compile/{crate}", ("tools/does-not-compile", crate), kit=("rattle",))
 
@@ -116,11 +122,7 @@ def guards() -> list[Guard]:
         of_page("docs/EXPLANATION.md"),
         of_page("docs/AUDITING.md", packages=(*OF_TOOLS, "parallel")),
         of_page("docs/ODD.md"),
-        Guard(
-            "docs/LIBRARY.md",
-            ("tools/pages", "docs/LIBRARY.md"),
-            packages=("gcc", "libc6-dev", "python3-cryptography"),
-            only_with=(LIBRARY,),
-        ),
+        of_library("docs/LIBRARY.md", "gcc", "libc6-dev"),
+        of_library("docs/NOTEBOOK.md", "python3-matplotlib"),
         of_page("examples/README.md"),
     ]

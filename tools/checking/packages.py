@@ -53,6 +53,7 @@ PACKAGES = (
     Package("python3-dnspython", module="dns"),
     Package("python3-jinja2", module="jinja2"),
     Package("python3-jsonschema", module="jsonschema"),
+    Package("python3-matplotlib", module="matplotlib"),
     Package("python3-protobuf", module="google.protobuf"),
     Package("python3-rich", module="rich"),
     Package("python3-zstandard", module="zstandard"),

@@ -1,10 +1,12 @@
 # Completions of fish for dnssec_check and its tools: words and options, the types of TYPES in the manual page, and else
 # the names of files.
 
-set -l commands show list check explain
+set -l commands show list check explain timeline
 set -l begun "__fish_seen_subcommand_from $commands"
-set -l asking "__fish_seen_subcommand_from check explain"
-set -l listing "__fish_seen_subcommand_from list check explain"
+set -l judging "__fish_seen_subcommand_from check explain"
+set -l asking "__fish_seen_subcommand_from check explain timeline"
+set -l listing "__fish_seen_subcommand_from list check explain timeline"
+set -l ranging "__fish_seen_subcommand_from list timeline"
 
 function __dnssec_check_types
     printf '%s\n' 1\tA 2\tNS 5\tCNAME 6\tSOA 12\tPTR 15\tMX 16\tTXT 28\tAAAA 33\tSRV 39\tDNAME 43\tDS 44\tSSHFP \
@@ -15,10 +17,13 @@ complete -c dnssec_check -n "not $begun" -f -a show -d 'the captured messages'
 complete -c dnssec_check -n "not $begun" -f -a list -d 'the signatures to be checked'
 complete -c dnssec_check -n "not $begun" -f -a check -d 'what the messages prove'
 complete -c dnssec_check -n "not $begun" -f -a explain -d 'the same, and why it stands'
+complete -c dnssec_check -n "not $begun" -f -a timeline -d 'the same at all moments of a range'
 complete -c dnssec_check -n "not $begun" -l version -d 'print the version'
 complete -c dnssec_check -l help -d 'print help'
 complete -c dnssec_check -n $begun -l capture -r -d 'the captured messages'
-complete -c dnssec_check -n $listing -l moment -x -a '(date +%s)' -d 'seconds since 1970'
+complete -c dnssec_check -n '__fish_seen_subcommand_from list check explain' -l moment -x -a '(date +%s)' -d 'seconds since 1970'
+complete -c dnssec_check -n $ranging -l from -x -a '(date +%s)' -d 'the first moment'
+complete -c dnssec_check -n $ranging -l to -x -a '(date +%s)' -d 'the last moment'
 complete -c dnssec_check -n $listing -l statements -r -d 'what was checked'
 complete -c dnssec_check -n $listing -l json -d 'one JSON object instead of lines'
 complete -c dnssec_check -n '__fish_seen_subcommand_from list' -l all -d 'what every signature signs'
@@ -26,10 +31,11 @@ complete -c dnssec_check -n '__fish_seen_subcommand_from list' -l compact -d 'ea
 complete -c dnssec_check -n $asking -l anchors -r -d 'the trust anchors'
 complete -c dnssec_check -n $asking -l name -x -d 'the name, with its last dot'
 complete -c dnssec_check -n $asking -l type -x -ka '(__dnssec_check_types)' -d 'the number of the type'
-complete -c dnssec_check -n $asking -l questions -r -d 'many questions, NAME N a line'
+complete -c dnssec_check -n '__fish_seen_subcommand_from timeline' -l kinds -d 'the kinds of verdicts alone'
+complete -c dnssec_check -n $judging -l questions -r -d 'many questions, NAME N a line'
 complete -c dnssec_check -n $asking -l answers -r -d 'what was checked, by number'
-complete -c dnssec_check -n $asking -l keys -r -d 'keys of TSIG'
-complete -c dnssec_check -n $asking -l macs -r -d 'MACs of the requests'
+complete -c dnssec_check -n $judging -l keys -r -d 'keys of TSIG'
+complete -c dnssec_check -n $judging -l macs -r -d 'MACs of the requests'
 
 for name in capture verify judge
     complete -c dnssec_check-$name -l help -d 'print help'
@@ -54,9 +60,15 @@ complete -c dnssec_check-verify -l from-check -d "pass over lines whose first wo
 complete -c dnssec_check-verify -l compact -d 'answer a compact list by number'
 complete -c dnssec_check-verify -l capture -r -d 'what the compact list is of'
 complete -c dnssec_check-verify -l moment -x -a '(date +%s)' -d 'that of the list'
+complete -c dnssec_check-verify -l from -x -a '(date +%s)' -d 'the first of its range'
+complete -c dnssec_check-verify -l to -x -a '(date +%s)' -d 'the last of its range'
 complete -c dnssec_check-verify -l budget -x -d 'seconds of a processor'
 
 complete -c dnssec_check-judge -l at -x -a 'now (date -u +%Y-%m-%dT%H:%M:%SZ)' -d 'when the signatures are to be in time'
+complete -c dnssec_check-judge -l from -x -a 'now (date -u +%Y-%m-%dT%H:%M:%SZ)' -d 'all moments from this on'
+complete -c dnssec_check-judge -l to -x -a 'now (date -u +%Y-%m-%dT%H:%M:%SZ)' -d 'to this one'
+complete -c dnssec_check-judge -l timeline -d 'all moments that signatures span'
+complete -c dnssec_check-judge -l verbose -d 'where other signatures take over, too'
 complete -c dnssec_check-judge -l skew -x -d 'say what differs so long around'
 complete -c dnssec_check-judge -l anchors -r -d 'the trust anchors'
 complete -c dnssec_check-judge -l keys -r -d 'keys of TSIG'

@@ -2,12 +2,15 @@
 
 A call can't be ended, as a program can. So the program is asked of a capture from which much can be listed, and where
 no answers are given, without which each verdict may list it again.
+
+`asked_by` gives what stands in for the program where moments are asked for one by one. Over time `listed_range` and
+`timeline` stand in for two runs: they take the program that is asked, and answer None where it has to be run.
 """
 import functools
 import importlib
 import io
 import os
-from typing import Any, Callable, Generator, Iterator, Optional
+from typing import Any, Callable, Generator, Iterator, Optional, Tuple
 
 from .asked import Asked, Memory, Time
 from .asking.questions import Question
@@ -16,6 +19,7 @@ from .listed import LISTS_LITTLE, Listed
 from .program import EXPLAIN, FAILED, NAME_MOST, REFUSED, Files, Manner, Program, Run, program_of
 
 CALLS = "dnssec_check.calls"
+Moments = Tuple[int, int]  # the first and the last of a range
 ANSWERS, QUESTIONS = "answers", "questions"
 # Of one call: behind it the time is looked at, and the text of all of them is in memory.
 QUESTIONS_OF_A_CALL = 16
@@ -74,6 +78,30 @@ class InProcess(Program):
         given, why = given_of(calls, manner, files), manner.subcommand == EXPLAIN
         text = octets_of(files[QUESTIONS])
         return AskedHere(text, lambda some: told(calls, lambda: calls.judged_each(given, some, calls.JSON, why)), left)
+
+
+def listed_range(program: Program, capture: int, span: Moments, most: int) -> Optional[Listed]:
+    """The compact list that a verifier has to answer for the moments of a range, of which so many octets are read."""
+    calls = calls_of_library() if isinstance(program, InProcess) else None
+    if calls is None or size_of(capture) > LISTS_LITTLE:
+        return None
+    given, within = calls.Given(octets_of(capture)), calls.Interval(*span)
+    listing = (calls.COMPACT, calls.LINES)
+    return ListedHere(lambda: told(calls, lambda: calls.listed_range(given, within, *listing)), capture, most)
+
+
+def timeline(program: Program, files: Files, span: Moments, question: Question) -> Optional[Run]:
+    """What is said of a question over a range, as an object of JSON."""
+    calls = calls_for(files) if isinstance(program, InProcess) else None
+    if calls is None:
+        return None
+    name = os.fsencode(question.name[:NAME_MOST])
+    given = calls.Given(**{option: octets_of(number) for option, number in files.items()})
+    asked = (calls.Interval(*span), name, question.kind, calls.WORDS, calls.JSON)
+    try:
+        return told(calls, lambda: calls.timeline(given, *asked))
+    except ValueError:  # the program says what is wrong of the words
+        return None
 
 
 def calls_for(files: Files) -> Any:

@@ -23,6 +23,10 @@ loads nothing.
 With --warn lines ODD say what is odd of what is proved, with the RFC that says so: an opinion that changes no verdict.
 The manual page has its kinds, by the words of the column odd, which --fail-on takes.
 
+With --from and --to, or --timeline, a line is printed for each interval in which a verdict stands, from its first to
+its last moment; between them the signatures that end (ENDS) and begin (BEGINS) there, and below what is proved now what
+ends next (NEXT). --timeline takes all moments from the first time in the signatures of each capture to the last.
+
 What isn't verified of a capture within --budget and --budget-octets stays Unknown, so that a verdict is Pending that
 hangs on it. A line on the standard error says so, and how to give more. With --skew another says what a verdict is by a
 clock that is so many seconds late, or ahead, where it's another one.
@@ -79,6 +83,9 @@ from .program import FAILED, FROM_BEST, REFUSED, WRONG
 from .resuming.rows import JSONL, TSV
 from .resuming.table import Kept, Table
 from .started import processors
+from .timelines import text as timelines
+from .timelines.options import span_of
+from .timelines.page import TimelinePage
 from .verifying.verifier import Budget
 from .zones.audit import audit_of
 from .zones.told import ZoneText
@@ -90,10 +97,20 @@ def paths_of(options: argparse.Namespace) -> Dict[str, str]:
     return {name: path for name, path in paths.items() if path}
 
 
-def text_of(options: argparse.Namespace, has_captures: bool, has_moments: bool) -> Text:
+def text_of(options: argparse.Namespace, has_captures: bool, common: Common) -> Text:
+    if common.span:
+        return timeline_text(options, has_captures, common.moments[0])
+    has_moments = len(common.moments) > 1
     lines = (Sums if options.every else Lines)(has_captures, has_moments, paths_of(options))
     lines.is_odd_told, lines.failing = options.warn, options.fail_on or frozenset()
     return table_text(options) or lines.text
+
+
+def timeline_text(options: argparse.Namespace, has_captures: bool, now: int) -> Text:
+    if options.jsonl or options.tsv:
+        return rows_text(timelines.json_line if options.jsonl else timelines.tsv_line)
+    lines = timelines.TimelineSums if options.every else timelines.TimelineLines
+    return lines(has_captures, now, paths_of(options)).text
 
 
 def table_text(options: argparse.Namespace) -> Optional[Text]:
@@ -119,8 +136,8 @@ def judge(options: argparse.Namespace) -> int:
         raise WrongLine("--macs is of one capture, and there are more")
     resumed = resumed_of(options)
     common = common_of(options, resumed.moments if resumed else [])
-    page = Page(paths_of(options)) if options.html else None
-    text = text_of(options, len(asked) > 1, len(common.moments) > 1)
+    page = page_of(options, common) if options.html else None
+    text = text_of(options, len(asked) > 1, common)
     report = Report(text, [path for path, _ in asked], page)
     kept = resumed.all_kept(asked, common.moments) if resumed else {}
     tasks = tasks_of(asked, page, bool(options.scheduler), kept)
@@ -128,6 +145,10 @@ def judge(options: argparse.Namespace) -> int:
     if page:
         write(once(options.html), page.octets())
     return report.worst
+
+
+def page_of(options: argparse.Namespace, common: Common) -> Page:
+    return TimelinePage(paths_of(options), common.moments[0]) if common.span else Page(paths_of(options))
 
 
 def audit(options: argparse.Namespace) -> int:
@@ -156,7 +177,8 @@ def common_of(options: argparse.Namespace, written: Iterable[int] = ()) -> Commo
     keys, macs = (read(path[0]) if path else None for path in (options.keys, options.macs))
     budget = Budget(options.budget, options.budget_octets, options.budget_questions)
     anchors = anchors_of(once(options.anchors), around(moments, options.skew))
-    return Common(anchors, keys, macs, moments, budget, bool(options.html), options.skew, wish_of(options))
+    wishes = wish_of(options), span_of(options)
+    return Common(anchors, keys, macs, moments, budget, bool(options.html), options.skew, *wishes)
 
 
 def judge_tasks(
@@ -164,7 +186,7 @@ def judge_tasks(
 ) -> None:
     count = len(report.paths) - len(kept)
     if options.tsv:
-        write("-", (tsv_head() + "\n").encode())
+        write("-", ((timelines.tsv_head if common.span else tsv_head)() + "\n").encode())
     for number, each in kept.items():
         report.copy(number, each.octets, each.worst)
     with progress(count) as advance, closing(results_of(tasks, common, options, count)) as results:

@@ -8,6 +8,7 @@ from .judging.cluster import WAIT_SECONDS
 from .judging.skew import skew_of
 from .odd.options import add_odd
 from .program import NAME
+from .timelines.options import add_timeline, fault_of_timeline
 from .verifying.verifier import add_budget, add_budget_octets, add_budget_questions
 from .zones.audit import port
 
@@ -31,6 +32,7 @@ def command_line(text: Optional[str]) -> argparse.ArgumentParser:
         help="`now`, seconds since 1970, 2026-11-22T12:00:00Z, or a day, 2026-11-22, for 0:00 in UTC; once for each "
         "moment; now by default",
     )
+    add_timeline(parser)
     parser.add_argument("--skew", type=skew_of, default=0, metavar="SECONDS", help="say what differs so long around it")
     parser.add_argument(
         "--anchors",
@@ -111,7 +113,7 @@ def fault_of(options: argparse.Namespace) -> Optional[str]:
         return "--zone goes without --every, --keys and --html"
     if options.resume:
         return fault_of_resume(options)
-    return None
+    return fault_of_timeline(options)
 
 
 def fault_of_resume(options: argparse.Namespace) -> Optional[str]:
@@ -119,7 +121,7 @@ def fault_of_resume(options: argparse.Namespace) -> Optional[str]:
         return "--resume goes with --tsv or --jsonl, as which the table was written"
     if options.zone or options.html:
         return "--resume goes without --zone and --html, which need all that was judged"
-    return None
+    return fault_of_timeline(options)
 
 
 def once(values: Optional[List[Any]]) -> Any:

@@ -26,6 +26,7 @@ class Listed:
         self.octets, self.is_cut = 0, False
         self.status: Optional[int] = None  # of the program, where it came to its end within the limits
         self.errors = ""
+        self.seconds = 0.0  # of a processor
 
     def lines(self) -> Generator[str, None, None]:
         """The lines, to be asked for once; closed before its end it ends the program."""
@@ -35,6 +36,7 @@ class Listed:
                     back.close()
                     yield from self.read(output)
                     peak = 0 if self.is_cut else peak_of(process)
+            self.seconds = process.seconds
             self.errors = content_of(errors).decode("utf-8", "replace")
         is_full = self.is_limited and peak > self.most  # else the memory is lacking for another reason
         self.is_cut = self.is_cut or (is_full and self.errors.startswith(NO_MEMORY))

@@ -26,7 +26,7 @@ SECURE, INSECURE, PENDING, BOGUS, INDETERMINATE, REFUSED, FAILED, WRONG = 0, 3, 
 ODD = 8  # of a verdict that is secure, where something odd of it is to fail
 VERDICTS = (SECURE, INSECURE, PENDING, BOGUS, INDETERMINATE)
 FROM_BEST = (SECURE, ODD, *VERDICTS[1:], REFUSED, FAILED)
-LIST, CHECK, EXPLAIN = "list", "check", "explain"
+LIST, CHECK, EXPLAIN, TIMELINE = "list", "check", "explain", "timeline"
 
 MORE_TIME, MORE_OCTETS = "--budget-questions SECONDS gives more", "--budget-octets OCTETS gives more"
 # What the program takes of memory at most for an octet of a file; what it takes for a capture is a part of the rest.

@@ -7,7 +7,8 @@ is the standard input.
 
 With --compact the FILE is the list of `dnssec_check list --compact` for the CAPTURE at the MOMENT. Then the standard
 output has a file of answers for `--answers`: a line `of DIGEST MOMENT`, DIGEST being the SHA-256 of the capture, and a
-line for each entry of the list in its order, `good` or `bad`, and `-` for what else would be left out.
+line for each entry of the list in its order, `good` or `bad`, and `-` for what else would be left out. With --from and
+--to in place of --moment the list is that of the range, and the line is `of DIGEST FROM TO`.
 
 ALG is a DNSSEC algorithm in decimal. KEY is the key field of a DNSKEY record, without flags, protocol and
 algorithm; DATA the signed octets; SIG the signature field of an RRSIG record: each in hex, `-` for no octets.
@@ -105,10 +106,15 @@ def statements_to(options: argparse.Namespace) -> Tuple[str, bool]:
 def answers_to(options: argparse.Namespace) -> Tuple[str, bool]:
     """The file of answers to a compact list, and whether all of its entries are answered."""
     (path,) = options.files
-    heading = compact.heading(compact.digest_of_capture(read(options.capture)), options.moment)
+    heading = compact.heading(compact.digest_of_capture(read(options.capture)), *moments_of(options))
     entries = list(compact.entries_of(lines_of(path), lambda number: place_in(path, number)))
     said = list(each_said(entries, Verifier(options.budget, Kept()).answer_to))
     return heading + "".join(f"{each or OPEN}\n" for each in said), None not in said
+
+
+def moments_of(options: argparse.Namespace) -> List[int]:
+    """The moment of the list, or the first and the last of its range, as they are given."""
+    return [each for each in (options.moment, options.first, options.last) if each is not None]
 
 
 def options_of(words: List[str]) -> argparse.Namespace:
@@ -120,6 +126,10 @@ def options_of(words: List[str]) -> argparse.Namespace:
     parser.add_argument("--compact", action="store_true", help="answer a compact list by number")
     parser.add_argument("--capture", metavar="CAPTURE", help="what the compact list is of")
     parser.add_argument("--moment", type=moment, metavar="MOMENT", help="that of the list, in seconds since 1970")
+    parser.add_argument(
+        "--from", dest="first", type=moment, metavar="MOMENT", help="the first of the range of the list"
+    )
+    parser.add_argument("--to", dest="last", type=moment, metavar="MOMENT", help="the last of it")
     add_budget(parser, "of all lines")
     options = parser.parse_args(words)
     fault = fault_of(options)
@@ -130,9 +140,12 @@ def options_of(words: List[str]) -> argparse.Namespace:
 
 def fault_of(options: argparse.Namespace) -> Optional[str]:
     """What is wrong with the options together."""
-    given = [options.capture is not None, options.moment is not None]
+    has_range = options.first is not None and options.last is not None
+    given = [options.capture is not None, options.moment is not None or has_range]
+    if (options.first is None) != (options.last is None) or (has_range and options.moment is not None):
+        return "--compact takes --moment, or both of --from and --to"
     if not all(given) if options.compact else any(given):
-        return "--compact, --capture and --moment go together"
+        return "--compact, --capture and --moment go together, or --from and --to in its place"
     if options.compact and (options.from_check or len(options.files) > 1):
         return "--compact takes one FILE, and no --from-check"
     read_here = [*options.files, *([options.capture] if options.compact else [])]

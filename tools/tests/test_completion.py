@@ -78,7 +78,7 @@ def options_of(path, *words):
 @unittest.skipUnless(shutil.which("bash"), "needs bash")
 class Bash(unittest.TestCase):
     def test_subcommands_and_options(self):
-        self.assertEqual(offered("dnssec_check", ""), ["show", "list", "check", "explain", "--help", "--version"])
+        self.assertEqual(offered("dnssec_check", ""), ["show", "list", "check", "explain", "timeline", "--help", "--version"])
         self.assertEqual(offered("dnssec_check", "ch"), ["check"])
         self.assertEqual(offered("dnssec_check", "show", "--c"), ["--capture"])
         self.assertEqual(offered("dnssec_check", "check", "--capture", "x", "--ma"), ["--macs"])
@@ -95,7 +95,10 @@ class Bash(unittest.TestCase):
     def test_moments(self):
         moment, = offered("dnssec_check", "list", "--moment", "")
         self.assertRegex(moment, r"^\d{10,}$")
-        self.assertEqual(offered("dnssec_check-judge", "--at", "n"), ["now"])
+        for option in ("--at", "--from", "--to"):
+            self.assertEqual(offered("dnssec_check-judge", option, "n"), ["now"])
+        for words in (("dnssec_check", "timeline"), ("dnssec_check", "list"), ("dnssec_check-verify",)):
+            self.assertRegex(offered(*words, "--from", "")[0], r"^\d{10,}$")
 
     def test_files_and_names_are_left_to_bash(self):
         for words in (["dnssec_check", "show", "--capture", ""], ["dnssec_check", "check", "--name", ""],
@@ -110,7 +113,7 @@ class Bash(unittest.TestCase):
 
     @unittest.skipUnless(PROGRAM.exists(), "needs the built program")
     def test_every_option_of_the_program_is_offered(self):
-        for name in ("show", "list", "check", "explain"):
+        for name in ("show", "list", "check", "explain", "timeline"):
             with self.subTest(name):
                 self.assertEqual(set(offered("dnssec_check", name, "--")), options_of(PROGRAM, name))
 
@@ -122,7 +125,7 @@ class Others:
         raise NotImplementedError
 
     def test_subcommands_and_options(self):
-        self.assertLessEqual({"show", "list", "check", "explain"}, set(self.by("dnssec_check", "")))
+        self.assertLessEqual({"show", "list", "check", "explain", "timeline"}, set(self.by("dnssec_check", "")))
         for words, wanted in ((("dnssec_check", "ch"), ["check"]), (("dnssec_check", "show", "--c"), ["--capture"]),
                               (("dnssec_check", "check", "--capture", "x", "--ma"), ["--macs"]),
                               (("dnssec_check-capture", "--p"), ["--pcap", "--port"]), (("dnssec_check-verify", "--v"), ["--version"])):
@@ -136,6 +139,8 @@ class Others:
         moment, = self.by("dnssec_check", "list", "--moment", "")
         self.assertRegex(moment, r"^\d{10,}$")
         self.assertEqual(self.by("dnssec_check-judge", "--at", "n"), ["now"])
+        self.assertEqual(self.by("dnssec_check-judge", "--to", "n"), ["now"])
+        self.assertRegex(self.by("dnssec_check", "timeline", "--to", "")[0], r"^\d{10,}$")
         self.assertRegex(self.by("dnssec_check-judge", "--at", "2")[0], r"^\d{4}-\d\d-\d\dT\d\d:\d\d:\d\dZ$")
 
     def test_files_are_offered_where_an_option_takes_one(self):
@@ -151,7 +156,7 @@ class Others:
 
     @unittest.skipUnless(PROGRAM.exists(), "needs the built program")
     def test_every_option_of_the_program_is_offered(self):
-        for name in ("show", "list", "check", "explain"):
+        for name in ("show", "list", "check", "explain", "timeline"):
             with self.subTest(name):
                 self.assertEqual(set(self.by("dnssec_check", name, "--")), options_of(PROGRAM, name))
 

@@ -1,4 +1,5 @@
 """Tests of `--json`: what the program writes on the examples says the same as its lines, by the schema."""
+import functools
 import json
 import unittest
 
@@ -13,10 +14,27 @@ except ImportError:
 SCHEMA = TOOLS.parent / "docs" / "schema.json"
 
 
+@functools.lru_cache(None)
+def validator():
+    return jsonschema.Draft7Validator(json.loads(SCHEMA.read_text()))
+
+
 def in_lines():
-    """The examples of `list`, `check` and `explain` that print a text in lines."""
+    """The examples of `list`, `check`, `explain` and `timeline` that print a text in lines."""
     return [each for each in examples()
-            if each.output and each.words[0] in ("list", "check", "explain") and not each.is_json]
+            if each.output and each.words[0] in ("list", "check", "explain", "timeline") and not each.is_json]
+
+
+def without_by(text):
+    """An object of a timeline without what derives its intervals, which no line says."""
+    value = json.loads(text)
+    for interval in value["intervals"]:
+        interval.pop("by", None)
+    return json.dumps(value, separators=(",", ":")) + "\n"
+
+
+def comparable(example, text):
+    return without_by(text) if example.words[0] == "timeline" else text
 
 
 class Json(unittest.TestCase):
@@ -27,7 +45,7 @@ class Json(unittest.TestCase):
         """It is one line of ASCII without spaces, which the schema takes."""
         self.assertRegex(line, r"\A[!-~]+\n\Z")
         if jsonschema is not None:
-            jsonschema.Draft7Validator(json.loads(SCHEMA.read_text())).validate(json.loads(line))
+            validator().validate(json.loads(line))
 
     def assert_all_valid(self, example, text):
         """So is each line of what is told of many questions, and all of what is told of one."""
@@ -42,8 +60,20 @@ class Json(unittest.TestCase):
             with self.subTest(example.name):
                 lines, text = there[example.name.removesuffix(".json")], example.output.decode()
                 self.assertEqual((example.status, example.words), (lines.status, (*lines.words, "--json")))
-                self.assertEqual(text, self.as_json(lines.words, lines.output.decode()))
+                self.assertEqual(comparable(example, text), self.as_json(lines.words, lines.output.decode()))
                 self.assert_all_valid(example, text)
+
+    def test_what_ends_and_begins_derives_the_intervals_beside_it(self):
+        timelines = [example for example in examples() if example.name.endswith("/timeline.json")]
+        self.assertGreater(len(timelines), 40)
+        for example in timelines:
+            with self.subTest(example.name):
+                value = json.loads(example.output)
+                by = {each[side]: [(one["rrset"], one["signature"]) for one in each["by"]]
+                      for each in value["intervals"] for side in ("from", "to")}
+                self.assertTrue(all(sorted(set(each)) == each for each in by.values()))
+                for edge in value["edges"]:
+                    self.assertIn((edge["rrset"], edge["signature"]), by[edge["moment"]])
 
     def test_the_tool_says_one_example(self):
         wanted, = [example.output for example in examples() if example.name == "bind-www-a/explain.json"]
@@ -133,7 +163,8 @@ key b. rrset 3 record 2 tag 29000 algorithm 13 flags 257 signature 1 ds 2 1
             with self.subTest(example.name):
                 status, output, errors = run_program(PROGRAM, *example.words, "--json", folder=example.folder)
                 self.assertEqual((status, errors), (example.status, ""))
-                self.assertEqual(output.decode(), self.as_json(example.words, example.output.decode()))
+                wanted = self.as_json(example.words, example.output.decode())
+                self.assertEqual(comparable(example, output.decode()), wanted)
                 self.assert_all_valid(example, output.decode())
 
     @unittest.skipUnless(PROGRAM.exists(), "needs the built program")

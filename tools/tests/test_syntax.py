@@ -35,9 +35,9 @@ PARTS = {
     "dnssec_check_tools/capture.py": {"command", "capturing", "outputs"},
     "dnssec_check_tools/judge.py": {
         *("command", "asking", "in_process", "judge_options", "judging", "odd", "outputs", "program", "resuming"),
-        *("started", "verifying", "zones"),
+        *("started", "timelines", "verifying", "zones"),
     },
-    "dnssec_check_tools/judge_options.py": {"command", "asking", "judging", "odd", "program", "verifying", "zones"},
+    "dnssec_check_tools/judge_options.py": {"command", "asking", "judging", "odd", "program", "timelines", "verifying", "zones"},
     "dnssec_check_tools/command.py": {"outputs"},
     "dnssec_check_tools/program.py": {"asked", "asking", "listed", "started"},
     "dnssec_check_tools/in_process.py": {"asked", "asking", "command", "listed", "program"},
@@ -53,7 +53,12 @@ PARTS = {
     "dnssec_check_tools/explaining/page.py": {"asking", "jinja2", "markupsafe"},
     "dnssec_check_tools/explaining/picture.py": {"asking", "started"},
     "dnssec_check_tools/wire.py": {"dns"},
-    "dnssec_check_tools/judging": {"asked", "asking", "capturing", "explaining", "odd", "program", "started", "verifying", "dns"},
+    "dnssec_check_tools/judging": {
+        *("asked", "asking", "capturing", "explaining", "listed", "odd", "program", "started", "timelines", "verifying", "dns"),
+    },
+    "dnssec_check_tools/timelines": {
+        *("asked", "asking", "capturing", "explaining", "judging", "listed", "program", "started", "verifying"),
+    },
     "dnssec_check_tools/resuming": {"asking", "judging", "program"},
     "dnssec_check_tools/odd": {"capturing", "explaining", "judging", "zones"},
     "dnssec_check_tools/zones": {"asking", "capturing", "command", "dns", "explaining", "judging", "odd", "program"},

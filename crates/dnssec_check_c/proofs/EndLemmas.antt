@@ -1,9 +1,10 @@
 -- How a run over octets ends a call.
-use Rattle.std.proofs.Common.{◌≡◌, ℕ, List, [], ◌++◌, inl, inr, refl, subst, ap, ◌∙◌}
+use Rattle.std.proofs.Common.{◌≡◌, ℕ, List, [], ◌++◌, inl, inr, refl, subst, sym, ap, ◌∙◌, string_bytes}
 use Rattle.std.specs.Prelude.{Err, Result}
 use Rattle.dnsv_files.specs.Files.{Files}
 use Rattle.dnsv_files.specs.Files.Faults.{OfFailedRead, OfOctets}
-use Rattle.dnsv_program.specs.Run.{AsksRefused, IsFirstFault, IsReached, IsTextAskedFor}
+use Rattle.dnsv_program.specs.Run.{AsksRefused, IsFaultOfQuestion, IsFirstFault, IsReached, IsTextAskedFor, IsTimelineRefused}
+use Rattle.dnsv_program.specs.Work.Timeline.{IsFaultOfRange}
 use Rattle.dnsv_commands.specs.declared.request.Asking.TheVariants as asking
 use Rattle.dnsv_commands.specs.declared.request.Request.{Request}
 use Rattle.dnsv_commands.specs.declared.request.Request.TheVariants as request
@@ -35,23 +36,31 @@ fault_ends asked files (fault.OpenFailed file) first reached opened tells = absu
 fault_ends asked files (fault.Refused why place) first reached opened tells = inr (inl (fault.Refused why place, first, tells))
 
 -- a question is refused by a refusal, which is told as it is
+question_alone : (asked : List ℕ) (rtype : ℕ) (refused : Fault) → IsFaultOfQuestion asked rtype refused → in_memory refused ≡ refused
+question_alone asked rtype fault.OutOfMemory is = absurd is
+question_alone asked rtype fault.WriteFailed is = absurd is
+question_alone asked rtype (fault.ReadFailed file) is = absurd is
+question_alone asked rtype (fault.TooLong file) is = absurd is
+question_alone asked rtype (fault.OpenFailed file) is = absurd is
+question_alone asked rtype (fault.Refused reason place) is = refl
+
+-- so is a range
+range_alone : (from to : ℕ) (refused : Fault) → IsFaultOfRange from to refused → in_memory refused ≡ refused
+range_alone from to refused is = ap in_memory is.1 ∙ sym is.1
+
+timeline_alone : (asked : List ℕ) (rtype from to : ℕ) (refused : Fault) → IsTimelineRefused asked rtype from to refused → in_memory refused ≡ refused
+timeline_alone asked rtype from to refused (inl is) = question_alone asked rtype refused is
+timeline_alone asked rtype from to refused (inr (name, spells, question, is)) = range_alone from to refused is
+
 refused_alone : (asked : Request) (refused : Fault) → AsksRefused asked refused → in_memory refused ≡ refused
 refused_alone (request.Show capture) refused is = absurd is
 refused_alone (request.List capture moment statements lists form) refused is = absurd is
-refused_alone (request.ListRange capture from to statements listed form) refused is = absurd is
-refused_alone (request.Timeline capture anchors from to asked rtype knows kinds form) fault.OutOfMemory is = absurd is
-refused_alone (request.Timeline capture anchors from to asked rtype knows kinds form) fault.WriteFailed is = absurd is
-refused_alone (request.Timeline capture anchors from to asked rtype knows kinds form) (fault.ReadFailed file) is = absurd is
-refused_alone (request.Timeline capture anchors from to asked rtype knows kinds form) (fault.TooLong file) is = absurd is
-refused_alone (request.Timeline capture anchors from to asked rtype knows kinds form) (fault.OpenFailed file) is = absurd is
-refused_alone (request.Timeline capture anchors from to asked rtype knows kinds form) (fault.Refused reason place) is = refl
+refused_alone (request.ListRange capture from to statements listed form) refused is = range_alone from to refused is
+refused_alone (request.Timeline capture anchors from to asked rtype knows kinds form) refused is =
+    timeline_alone (string_bytes asked) rtype.0 from to refused is
 refused_alone (request.Check capture anchors moment (asking.Each questions) knows keys macs form why) refused is = absurd is
-refused_alone (request.Check capture anchors moment (asking.One name rtype) knows keys macs form why) fault.OutOfMemory is = absurd is
-refused_alone (request.Check capture anchors moment (asking.One name rtype) knows keys macs form why) fault.WriteFailed is = absurd is
-refused_alone (request.Check capture anchors moment (asking.One name rtype) knows keys macs form why) (fault.ReadFailed file) is = absurd is
-refused_alone (request.Check capture anchors moment (asking.One name rtype) knows keys macs form why) (fault.TooLong file) is = absurd is
-refused_alone (request.Check capture anchors moment (asking.One name rtype) knows keys macs form why) (fault.OpenFailed file) is = absurd is
-refused_alone (request.Check capture anchors moment (asking.One name rtype) knows keys macs form why) (fault.Refused reason place) is = refl
+refused_alone (request.Check capture anchors moment (asking.One name rtype) knows keys macs form why) refused is =
+    question_alone (string_bytes name) rtype.0 refused is
 
 -- so a question that is refused is told
 pub question_told : (asked : Request) (failed : Fault) {told : Outcome}

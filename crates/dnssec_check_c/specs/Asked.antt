@@ -1,11 +1,12 @@
 -- What the numbers of a call ask of its octets, as the request of the program that says the same.
-use Rattle.std.specs.Prelude.{◌≡◌, ◌≤◌, ◌<◌, ◌^◌, ◌==◌, ◌&&◌, ⊤, Bool, ℕ, List, IsUtf8, string_bytes, Option, Some, None}
+use Rattle.std.specs.Prelude.{◌≡◌, ◌≤◌, ◌<◌, ◌^◌, ◌==◌, ◌&&◌, ⊤, Bool, true, false, ℕ, List, IsUtf8, string_bytes, Option, Some, None}
 use Rattle.dnsv_texts.specs.declared.format.Format.{Format}
 use Rattle.dnsv_texts.specs.declared.format.Format.TheVariants as format
 use Rattle.dnsv_files.specs.Moment.{IsMoment}
 use Rattle.dnsv_files.specs.Files.{Files}
 use Rattle.dnsv_commands.specs.declared.request.Asking.{Asking}
 use Rattle.dnsv_commands.specs.declared.request.Asking.TheVariants as asking
+use Rattle.dnsv_commands.specs.declared.request.Form.{Form}
 use Rattle.dnsv_commands.specs.declared.request.Form.TheVariants as form
 use Rattle.dnsv_commands.specs.declared.request.Known.{Known}
 use Rattle.dnsv_commands.specs.declared.request.Known.TheVariants as known
@@ -22,10 +23,18 @@ abbrev pub IsFormat : Format → ℕ → Type 0
 IsFormat format.Lines number = number ≡ 0
 IsFormat format.Json number = number ≡ 1
 
+abbrev pub IsForm : Form → ℕ → Type 0
+IsForm form.Whole number = number ≡ 0
+IsForm form.Compact number = number ≡ 1
+
 abbrev pub IsListing : Listing → ℕ → Type 0
-IsListing (listing.Todo form.Whole) number = number ≡ 0
-IsListing (listing.Todo form.Compact) number = number ≡ 1
+IsListing (listing.Todo each) number = IsForm each number
 IsListing listing.All number = number ≡ 2
+
+-- whether a timeline has the kinds of verdicts alone
+abbrev pub IsDetail : Bool → ℕ → Type 0
+IsDetail false number = number ≡ 0
+IsDetail true number = number ≡ 1
 
 -- what was verified are statements, or nothing, or answers
 abbrev pub IsKnown : Known → ℕ → Type 0
@@ -36,6 +45,14 @@ IsKnown (known.Answers path) number = number ≡ 2
 pub record IsManner (options : Options) (moment : ℕ) (form : Format) : Type 0 where
   pub at : moment ≡ options.moment
   pub bound : IsMoment options.moment
+  pub written : IsFormat form options.format
+
+-- The numbers name the first and the last moment of a range, and the options this format.
+pub record IsSpan (options : Options) (from to first last : ℕ) (form : Format) : Type 0 where
+  pub begins : first ≡ from
+  pub ends : last ≡ to
+  pub begins_bound : IsMoment from
+  pub ends_bound : IsMoment to
   pub written : IsFormat form options.format
 
 -- ---- requests
@@ -54,6 +71,24 @@ AsksToList options listed (request.List capture moment statements lists form) =
 AsksToList options listed (request.ListRange capture from to statements each form) = ⊥
 AsksToList options listed (request.Timeline capture anchors from to spelled rtype knows kinds form) = ⊥
 AsksToList options listed (request.Check capture anchors moment asked knows keys macs form why) = ⊥
+
+abbrev pub AsksToListRange : Options → ℕ → ℕ → ℕ → Request → Type 0
+AsksToListRange options from to listed (request.Show capture) = ⊥
+AsksToListRange options from to listed (request.List capture moment statements lists form) = ⊥
+AsksToListRange options from to listed (request.ListRange capture first last statements each form) =
+    IsForm each listed × (options.verified ≤ 1) × IsSpan options from to first last form
+AsksToListRange options from to listed (request.Timeline capture anchors first last spelled rtype knows kinds form) = ⊥
+AsksToListRange options from to listed (request.Check capture anchors moment asked knows keys macs form why) = ⊥
+
+-- one question at each moment of a range: no keys are given
+abbrev pub AsksOverTime : Options → ℕ → ℕ → List ℕ → ℕ → ℕ → Request → Type 0
+AsksOverTime options from to name rtype detail (request.Show capture) = ⊥
+AsksOverTime options from to name rtype detail (request.List capture moment statements lists form) = ⊥
+AsksOverTime options from to name rtype detail (request.ListRange capture first last statements listed form) = ⊥
+AsksOverTime options from to name rtype detail (request.Timeline capture anchors first last asked number knows kinds form) =
+    IsUtf8 name × (string_bytes asked ≡ name) × (rtype < 2 ^ 16) × (number.0 ≡ rtype) × IsKnown knows options.verified
+    × IsDetail kinds detail × (options.has_keys ≡ false) × IsSpan options from to first last form
+AsksOverTime options from to name rtype detail (request.Check capture anchors moment asked knows keys macs form why) = ⊥
 
 -- one question: of a name, whose text is UTF-8, and a type
 abbrev pub AsksOne : Options → List ℕ → ℕ → Request → Type 0
@@ -112,4 +147,15 @@ judged_files options capture anchors verified keys macs questions = record {
   keys = given_octets keys options.has_keys;
   macs = given_octets macs (options.has_keys && options.has_macs);
   questions = questions;
+}
+
+abbrev pub timeline_files : Options → List ℕ → List ℕ → List ℕ → Files
+timeline_files options capture anchors verified = record {
+  capture = capture;
+  anchors = Some anchors;
+  statements = given_octets verified (options.verified == 1);
+  answers = given_octets verified (options.verified == 2);
+  keys = None;
+  macs = None;
+  questions = None;
 }

@@ -1,9 +1,10 @@
 //! The exports. C gives each slice as a pointer, which is never null, and a length.
 ghost use Rattle.std.specs.Prelude.{None, Some};
-ghost use Rattle.dnssec_check_c.specs.Asked.{AsksEach, AsksOne, AsksToList, AsksToShow, judged_files, listed_files, shown_files};
+ghost use Rattle.dnssec_check_c.specs.Asked.{AsksEach, AsksOne, AsksOverTime, AsksToList, AsksToListRange, AsksToShow};
+ghost use Rattle.dnssec_check_c.specs.Asked.{judged_files, listed_files, shown_files, timeline_files};
 ghost use Rattle.dnssec_check_c.specs.Ends.{CallEnds};
 
-use crate::calls::{check, check_each, list, show};
+use crate::calls::{check, check_each, list, list_range, show, timeline};
 use crate::options::Options;
 use crate::outcome::Outcome;
 use std::alloc::Global;
@@ -37,6 +38,54 @@ pub extern "C" fn dnssec_check_c_list(
         buffer.old buffer.new outcome.new result }
 {
     list(alloc, capture, verified, options, listed, buffer, outcome)
+}
+
+/// Lists the signatures that a verifier still has to check for the moments of a range, in the form that `listed` names: 0 is
+/// each with its octets, 1 with each octet once.
+#[unsafe(no_mangle)]
+pub extern "C" fn dnssec_check_c_list_range(
+    alloc: Global,
+    capture: &[u8],
+    verified: &[u8],
+    options: &Options,
+    from: u64,
+    to: u64,
+    listed: u32,
+    buffer: &mut [u8],
+    outcome: &mut Outcome,
+) -> u32
+    ensures { CallEnds (AsksToListRange options.now from to listed) (listed_files options.now capture.now verified.now)
+        buffer.old buffer.new outcome.new result }
+{
+    list_range(
+        alloc, capture, verified, options, from, to, listed, buffer, outcome,
+    )
+}
+
+/// Says what the capture proves of a question at each moment of a range, where no keys are given: with what carries each
+/// verdict where `detail` is 0, and by its kind alone where it is 1.
+#[unsafe(no_mangle)]
+pub extern "C" fn dnssec_check_c_timeline(
+    alloc: Global,
+    capture: &[u8],
+    anchors: &[u8],
+    verified: &[u8],
+    options: &Options,
+    from: u64,
+    to: u64,
+    name: &[u8],
+    rtype: u32,
+    detail: u32,
+    buffer: &mut [u8],
+    outcome: &mut Outcome,
+) -> u32
+    ensures { CallEnds (AsksOverTime options.now from to name.now rtype detail)
+        (timeline_files options.now capture.now anchors.now verified.now)
+        buffer.old buffer.new outcome.new result }
+{
+    timeline(
+        alloc, capture, anchors, verified, options, from, to, name, rtype, detail, buffer, outcome,
+    )
 }
 
 /// Says what the capture proves of a question.

@@ -2,7 +2,7 @@
 ghost use Rattle.std.specs.Prelude.{◌≡◌, None, Some};
 ghost use Rattle.std.specs.Option.{option_map};
 ghost use Rattle.dnsv_files.specs.Files.{AreTold, IsToldBy};
-ghost use Rattle.dnssec_check_c.specs.Asked.{judged_files, listed_files, shown_files};
+ghost use Rattle.dnssec_check_c.specs.Asked.{judged_files, listed_files, shown_files, timeline_files};
 ghost use Rattle.dnssec_check_c.specs.Octets.{files_of, given_octets};
 
 use crate::options::Options;
@@ -73,6 +73,26 @@ impl<'a> Octets<'a> {
             keys: given(keys, options.has_keys),
             macs: given(macs, options.reads_macs()),
             questions,
+        }
+    }
+
+    /// Those by which a question is judged at each moment of a range.
+    pub fn over_time(
+        options: &Options,
+        capture: &'a [u8],
+        anchors: &'a [u8],
+        verified: &'a [u8],
+    ) -> Octets<'a>
+        ensures { files_of result ≡ timeline_files options.now capture.now anchors.now verified.now }
+    {
+        Octets {
+            capture,
+            anchors: Some(anchors),
+            statements: given(verified, options.has_statements()),
+            answers: given(verified, options.has_answers()),
+            keys: None,
+            macs: None,
+            questions: None,
         }
     }
 

@@ -1,9 +1,10 @@
 //! How a call asks.
-ghost use Rattle.std.specs.Prelude.{◌≡◌, ◌<◌, ◌≤◌, ◌^◌, ◌==◌, ◌&&◌, MatchOption, ℕ};
+ghost use Rattle.std.specs.Prelude.{◌≡◌, ◌<◌, ◌≤◌, ◌^◌, ◌==◌, ◌&&◌, MatchOption, Bool, false, ℕ};
 ghost use Rattle.dnsv_texts.specs.declared.format.Format.{Format};
+ghost use Rattle.dnsv_commands.specs.declared.request.Form.{Form};
 ghost use Rattle.dnsv_commands.specs.declared.request.Known.{Known};
 ghost use Rattle.dnsv_commands.specs.declared.request.Listing.{Listing};
-ghost use Rattle.dnssec_check_c.specs.Asked.{IsFormat, IsKnown, IsListing, IsManner};
+ghost use Rattle.dnssec_check_c.specs.Asked.{IsDetail, IsForm, IsFormat, IsKnown, IsListing, IsManner, IsSpan};
 
 use dnsv_files::Moment;
 use dnsv_names::RecordType;
@@ -15,7 +16,7 @@ use std::alloc::Global;
 #[repr(C)]
 #[derive(Clone, Copy)]
 pub struct Options {
-    /// The moment in seconds since 1970, up to 2^48 - 1.
+    /// The moment in seconds since 1970, up to 2^48 - 1. A range counts in its place where one is given.
     pub moment: u64,
     /// What it says of signatures that were verified: 0 is nothing, 1 statements, 2 answers by number.
     pub verified: u32,
@@ -33,6 +34,14 @@ pub struct Options {
 #[derive(Clone, Copy)]
 pub struct Manner {
     pub moment: Moment,
+    pub format: Format,
+}
+
+/// The first and the last moment of a range, and how a text is written.
+#[derive(Clone, Copy)]
+pub struct Span {
+    pub from: Moment,
+    pub to: Moment,
     pub format: Format,
 }
 
@@ -61,6 +70,47 @@ impl Options {
             return None;
         }
         self.manner()
+    }
+
+    /// What the numbers name of a range, where each names something.
+    fn span(&self, from: u64, to: u64) -> Option<Span>
+        ensures { MatchOption result ((first last : ℕ) (form : Format) → IsSpan self.now from to first last form → ⊥)
+            (λ span. IsSpan self.now from to span.from span.to span.format) }
+    {
+        let Some(from) = Moment::new(from) else {
+            return None;
+        };
+        let Some(to) = Moment::new(to) else {
+            return None;
+        };
+        let Some(format) = format_of(self.format) else {
+            return None;
+        };
+        Some(Span { from, to, format })
+    }
+
+    /// The same of a list, which takes no answers.
+    pub fn list_span(&self, from: u64, to: u64) -> Option<Span>
+        ensures { MatchOption result ((first last : ℕ) (form : Format) → self.now.verified ≤ 1
+            → IsSpan self.now from to first last form → ⊥)
+            (λ span. (self.now.verified ≤ 1) × IsSpan self.now from to span.from span.to span.format) }
+    {
+        if self.verified >= 2 {
+            return None;
+        }
+        self.span(from, to)
+    }
+
+    /// The same of a timeline, which takes no keys.
+    pub fn timeline_span(&self, from: u64, to: u64) -> Option<Span>
+        ensures { MatchOption result ((first last : ℕ) (form : Format) → self.now.has_keys ≡ false
+            → IsSpan self.now from to first last form → ⊥)
+            (λ span. (self.now.has_keys ≡ false) × IsSpan self.now from to span.from span.to span.format) }
+    {
+        if self.has_keys {
+            return None;
+        }
+        self.span(from, to)
     }
 
     /// By what it is known which signatures are good, where the number names it.
@@ -126,6 +176,28 @@ pub fn listing_of(number: u32) -> Option<Listing>
         0 => Some(Listing::Todo(Form::Whole)),
         1 => Some(Listing::Todo(Form::Compact)),
         2 => Some(Listing::All),
+        _ => None,
+    }
+}
+
+/// How entries are listed.
+pub fn form_of(number: u32) -> Option<Form>
+    ensures { MatchOption result ((form : Form) → IsForm form number → ⊥) (λ form. IsForm form number) }
+{
+    match number {
+        0 => Some(Form::Whole),
+        1 => Some(Form::Compact),
+        _ => None,
+    }
+}
+
+/// Whether a timeline has the kinds of verdicts alone.
+pub fn kinds_of(number: u32) -> Option<bool>
+    ensures { MatchOption result ((kinds : Bool) → IsDetail kinds number → ⊥) (λ kinds. IsDetail kinds number) }
+{
+    match number {
+        0 => Some(false),
+        1 => Some(true),
         _ => None,
     }
 }

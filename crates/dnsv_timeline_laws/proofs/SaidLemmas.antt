@@ -18,7 +18,7 @@ use Rattle.dnsv_verdict.specs.declared.link.Link.{Link}
 use Rattle.dnsv_verdict.specs.declared.verdict.Verdict.{Verdict}
 use Rattle.dnsv_timeline.specs.Dates.{AreTimesOf, times_of}
 use Rattle.dnsv_timeline.proofs.OneTimeline.{one_by}
-use Rattle.dnsv_timeline.specs.Timeline.{DependsOn, IsTimelineBy}
+use Rattle.dnsv_timeline.specs.Timeline.{AreSameValid, DependsOn, IsTimelineBy}
 use Rattle.dnsv_timeline.specs.declared.stretch.Stretch.{Stretch}
 use Rattle.dnsv_timeline.specs.declared.times.Times.{Times}
 use Rattle.dnsv_timeline_laws.proofs.MomentLemmas.{refused_to, same_by_times, verdict_of_to}

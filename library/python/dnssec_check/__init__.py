@@ -7,24 +7,30 @@ Traceback (most recent call last):
 dnssec_check.faults.Refused: refused 601 line 1
 """
 from .calls import version
-from .case import Case, Verifier
+from .case import Case, Verifier, timeline
 from .faults import Fault, Misused, OutOfMemory, Refused, Unavailable
+from .timelines import Carrying, Edge, Timeline, VerdictInterval
 from .verdict import Alias, Denying, Interval, Unverified, Verdict
 from .verifying import verify
 
 __all__ = [
     "Alias",
+    "Carrying",
     "Case",
     "Denying",
+    "Edge",
     "Fault",
     "Interval",
     "Misused",
     "OutOfMemory",
     "Refused",
+    "Timeline",
     "Unavailable",
     "Unverified",
     "Verdict",
+    "VerdictInterval",
     "Verifier",
+    "timeline",
     "verify",
     "version",
 ]

@@ -9,12 +9,14 @@ import pathlib
 from typing import Any, Callable, List, NamedTuple, Optional, Tuple
 
 from .faults import Fault, Misused, OutOfMemory, Refused, Unavailable
+from .verdict import Interval
 
 NAME, PATH = "libdnssec_check.so.1", "DNSSEC_CHECK_LIBRARY"
 FAILED, MISUSED, REFUSED, NULL, ROOM = 1, 2, 7, 9, 10
 NO_MEMORY = 90
 LINES, JSON = 0, 1
 OPEN, COMPACT, ALL = 0, 1, 2
+WORDS, KINDS = 0, 1
 NOTHING, STATEMENTS, ANSWERS = 0, 1, 2
 ROOM_FIRST = 1 << 16
 VERIFIED = 3
@@ -81,9 +83,12 @@ def library() -> ctypes.CDLL:
 LIBRARY = library()
 _PLACE: List[Any] = [ctypes.c_void_p, ctypes.c_size_t, ctypes.POINTER(Outcome)]
 _CASE, _OCTETS, _NUMBER = ctypes.POINTER(CaseOctets), ctypes.POINTER(Octets), ctypes.c_uint32
+_RANGE: List[Any] = [ctypes.c_uint64, ctypes.c_uint64]
 LIBRARY.dnssec_check_version.restype = ctypes.c_char_p
 LIBRARY.dnssec_check_show.argtypes = [_OCTETS, *_PLACE]
 LIBRARY.dnssec_check_list.argtypes = [_CASE, _NUMBER, _NUMBER, *_PLACE]
+LIBRARY.dnssec_check_list_range.argtypes = [_CASE, *_RANGE, _NUMBER, _NUMBER, *_PLACE]
+LIBRARY.dnssec_check_timeline.argtypes = [_CASE, *_RANGE, ctypes.c_char_p, _NUMBER, _NUMBER, _NUMBER, *_PLACE]
 LIBRARY.dnssec_check_check.argtypes = [_CASE, ctypes.c_char_p, _NUMBER, _NUMBER, *_PLACE]
 LIBRARY.dnssec_check_explain.argtypes = LIBRARY.dnssec_check_check.argtypes
 LIBRARY.dnssec_check_check_each.argtypes = [_CASE, _OCTETS, _NUMBER, *_PLACE]
@@ -99,18 +104,26 @@ def maybe(octets: Optional[bytes]) -> "Optional[ctypes._Pointer[Octets]]":
 
 
 def case_of(given: Given) -> CaseOctets:
-    if not 0 <= given.moment < 1 << 64:
-        raise Misused("a moment is a number of seconds from 0 to 2^48 - 1")
     form, verified = verified_of(given)
     return CaseOctets(
         octets_of(given.capture),
         octets_of(given.anchors),
         octets_of(verified),
         form,
-        given.moment,
+        moment_of(given.moment),
         maybe(given.keys),
         maybe(given.macs),
     )
+
+
+def moment_of(seconds: int) -> int:
+    if not 0 <= seconds < 1 << 64:
+        raise Misused("a moment is a number of seconds from 0 to 2^48 - 1")
+    return seconds
+
+
+def range_of(span: Interval) -> Tuple[int, int]:
+    return moment_of(span.first), moment_of(span.last)
 
 
 def verified_of(given: Given) -> Tuple[int, bytes]:
@@ -140,14 +153,32 @@ def listed(given: Given, listing: int, form: int) -> Answer:
     return answer(lambda *place: LIBRARY.dnssec_check_list(ctypes.byref(case), listing, form, *place), given)
 
 
-def judged(given: Given, name: bytes, kind: int, form: int, why: bool) -> Answer:
+def listed_range(given: Given, span: Interval, listing: int, form: int) -> Answer:
+    case, moments = case_of(given), range_of(span)
+    call = LIBRARY.dnssec_check_list_range
+    return answer(lambda *place: call(ctypes.byref(case), *moments, listing, form, *place), given)
+
+
+def timeline(given: Given, span: Interval, name: bytes, kind: int, detail: int, form: int) -> Answer:
+    if given.keys is not None:
+        raise Misused("a timeline takes no keys: a message that is signed by one opens within minutes only")
+    case, moments, asked = case_of(given), range_of(span), question_of(name, kind)
+    call = LIBRARY.dnssec_check_timeline
+    return answer(lambda *place: call(ctypes.byref(case), *moments, *asked, detail, form, *place), given)
+
+
+def question_of(name: bytes, kind: int) -> Tuple[bytes, int]:
     if b"\0" in name:
         raise Misused("a name has an octet 0, which is written `\\000`")
     if not 0 <= kind < 1 << 16:
         raise Misused("a type is a number from 0 to 65535")
+    return name, kind
+
+
+def judged(given: Given, name: bytes, kind: int, form: int, why: bool) -> Answer:
     call = LIBRARY.dnssec_check_explain if why else LIBRARY.dnssec_check_check
-    case = case_of(given)
-    return answer(lambda *place: call(ctypes.byref(case), name, kind, form, *place), given)
+    case, asked = case_of(given), question_of(name, kind)
+    return answer(lambda *place: call(ctypes.byref(case), *asked, form, *place), given)
 
 
 def judged_each(given: Given, questions: bytes, form: int, why: bool) -> Answer:

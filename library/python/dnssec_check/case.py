@@ -3,8 +3,9 @@ from typing import Callable, Dict, Iterable, List, Optional, Tuple, Union
 
 from . import calls
 from .faults import Misused
+from .timelines import Timeline, timeline_of
 from .types import type_number
-from .verdict import Json, Unverified, Verdict, unverified_of, verdict_of
+from .verdict import Interval, Json, Unverified, Verdict, unverified_of, verdict_of
 
 Verifier = Callable[[int, bytes, bytes, bytes], Optional[bool]]
 Kind = Union[str, int]
@@ -60,25 +61,50 @@ class Case:
         answer = calls.judged_each(self.given, octets_of(text), calls.JSON, explain)
         return [verdict_of(line) for line in answer.text.splitlines()]
 
-    def todo(self) -> List[Unverified]:
-        """The signatures that a verifier still has to check; by answers nothing is told of these.
+    def timeline(self, name: str, kind: Kind = "A", *, first: int, last: int, kinds: bool = False) -> Timeline:
+        """The verdict on a question at each moment from the first to the last, whichever the case is of, and what ends
+        or begins where it changes. With `kinds` neighbours of one kind are one interval. The verifier is asked once for
+        all moments; answers are those to the list of just this range; and a case with keys has no timeline.
 
-        >>> Case(b"", b"", at=0).todo()
-        []
+        >>> found = Case(b"", b"", at=0).timeline("www.example.com", "A", first=10, last=19)
+        >>> [(each.first, each.last, each.verdict) for each in found]
+        [(10, 19, 'Indeterminate')]
         """
-        listed = json_of(calls.listed(self.given._replace(answers=None), calls.OPEN, calls.JSON))
-        return [unverified_of(entry) for entry in listed["todo"]]
+        span, asked = Interval(first, last), octets_of(absolute(name))
+        self._ask(lambda: self.todo(first=first, last=last))
+        detail = calls.KINDS if kinds else calls.WORDS
+        return timeline_of(calls.timeline(self.given, span, asked, type_number(kind), detail, calls.JSON).text)
+
+    def todo(self, *, first: Optional[int] = None, last: Optional[int] = None) -> List[Unverified]:
+        """The signatures that a verifier still has to check at the moment, or at those from the first to the last; by
+        answers nothing is told of these.
+
+        >>> Case(b"", b"", at=0).todo(), Case(b"", b"", at=0).todo(first=10, last=19)
+        ([], [])
+        """
+        if (first is None) != (last is None):
+            raise Misused("a range has a first moment and a last one")
+        given = self.given._replace(answers=None)
+        if first is None or last is None:
+            listed = calls.listed(given, calls.OPEN, calls.JSON)
+        else:
+            listed = calls.listed_range(given, Interval(first, last), calls.OPEN, calls.JSON)
+        return [unverified_of(entry) for entry in json_of(listed)["todo"]]
 
     def verify(self) -> None:
         """Asks the verifier of each signature that counts, and keeps what it says. Judging does so by itself."""
-        if self._is_verified or self.verifier is None:
+        if not self._is_verified:
+            self._ask(self.todo)
+            self._is_verified = True
+
+    def _ask(self, todo: Callable[[], List[Unverified]]) -> None:
+        """Asks the verifier of those that it wasn't asked of before, and keeps what it says."""
+        if self.verifier is None:
             return
-        for entry in self.todo():
-            if entry not in self._known:
-                self._known[entry] = self.verifier(*entry)
-        said = "".join(statement_of(entry, is_good) for entry, is_good in self._known.items() if is_good is not None)
-        self.given = self.given._replace(statements=(self.given.statements or b"") + said.encode("ascii"))
-        self._is_verified = True
+        fresh = {entry: self.verifier(*entry) for entry in dict.fromkeys(todo()) if entry not in self._known}
+        self._known.update(fresh)
+        said = "".join(statement_of(entry, is_good) for entry, is_good in fresh.items() if is_good is not None)
+        self.given = self.given._replace(statements=lines_of(self.given.statements or b"") + said.encode("ascii"))
 
     def messages(self) -> str:
         """Every message with its question and records, as the program shows them.
@@ -102,6 +128,15 @@ def maybe(text: Optional[Text]) -> Optional[bytes]:
     return None if text is None else octets_of(text)
 
 
+def lines_of(text: bytes) -> bytes:
+    """The text with the end of its last line.
+
+    >>> lines_of(b""), lines_of(b"# none"), lines_of(b"# none\\n")
+    (b'', b'# none\\n', b'# none\\n')
+    """
+    return text if text.endswith(b"\n") or not text else text + b"\n"
+
+
 def absolute(name: str) -> str:
     """The name with its last dot, which a backslash before it would make an octet of a label.
 
@@ -120,6 +155,28 @@ def line_of(name: str, kind: int) -> str:
 def statement_of(entry: Unverified, is_good: bool) -> str:
     fields = (part.hex() or "-" for part in (entry.key, entry.data, entry.signature))
     return " ".join(["good" if is_good else "bad", str(entry.algorithm), *fields]) + "\n"
+
+
+def timeline(
+    capture: bytes,
+    anchors: Text,
+    name: str,
+    kind: Kind = "A",
+    *,
+    first: int,
+    last: int,
+    kinds: bool = False,
+    statements: Optional[Text] = None,
+    answers: Optional[Text] = None,
+    verifier: Optional[Verifier] = None,
+) -> Timeline:
+    """What a capture proves of a question at each moment from the first to the last, as `Case.timeline` says it.
+
+    >>> timeline(b"", "DS . 1 8 2 " + "00" * 32, "www.example.com", "AAAA", first=10, last=19).at(12).verdict
+    'Bogus'
+    """
+    case = Case(capture, anchors, at=first, statements=statements, answers=answers, verifier=verifier)
+    return case.timeline(name, kind, first=first, last=last, kinds=kinds)
 
 
 def json_of(answer: calls.Answer) -> Json:

@@ -11,17 +11,18 @@ DATE = re.compile(r"(.+)(Z|[+-]\d\d:?\d\d)", re.ASCII | re.IGNORECASE)
 DAY = re.compile(r"\d{4}-\d\d-\d\d", re.ASCII)
 
 
-def seconds_of(text: str) -> int:
-    """The seconds since 1970 of `now`, a number of seconds, a day or an ISO date with Z or an offset."""
+def seconds_of(text: str, option: str = "--at") -> int:
+    """The seconds since 1970 of `now`, a number of seconds, a day or an ISO date with Z or an offset, as an option has
+    it."""
     if text == "now":
         return int(time.time())
     try:
         number = int(text) if text.isascii() and text.isdigit() and len(text) <= 15 else of_date(with_time(text))
     except ValueError as fault:
         others = "`now`, a day, as 2026-11-22, and seconds since 1970 are moments too"
-        raise WrongLine(f"--at: {fault}; {others}") from fault
+        raise WrongLine(f"{option}: {fault}; {others}") from fault
     if not 0 <= number <= MOMENT_MOST:
-        raise WrongLine(f"--at: {text!r} isn't from 0 to {MOMENT_MOST} seconds since 1970")
+        raise WrongLine(f"{option}: {text!r} isn't from 0 to {MOMENT_MOST} seconds since 1970")
     return number
 
 

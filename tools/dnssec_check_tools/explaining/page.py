@@ -2,7 +2,7 @@
 strangers wrote is text in it."""
 from dataclasses import dataclass
 from importlib import resources
-from typing import Any, List, Optional, Sequence, Tuple
+from typing import Any, Callable, List, Optional, Sequence, Tuple
 
 from ..asking.faults import escaped, lacking
 from ..asking.moments import moment_text
@@ -79,9 +79,18 @@ def shown(value: Any) -> Any:
 
 def page_of(entries: Sequence[Entry], captures: Sequence[Tuple[str, List[str]]]) -> str:
     """The page: its entries, and the records of each capture, a line each, by the capture's name."""
+    verdicts = verdicts_of(entries)
+    page: str = template_of(PAGE, template_text).render(
+        title=title_of(entries), verdicts=verdicts, captures=listed(captures), has_contents=len(entries) >= MANY
+    )
+    return page
+
+
+def template_of(name: str, text_of: Callable[[str], str]) -> Any:
+    """A template by its name, and those that it includes: whatever they print is escaped."""
     jinja = library()
     environment = jinja.Environment(
-        loader=jinja.FunctionLoader(template_text),
+        loader=jinja.FunctionLoader(text_of),
         autoescape=True,
         finalize=shown,
         undefined=jinja.StrictUndefined,
@@ -89,11 +98,12 @@ def page_of(entries: Sequence[Entry], captures: Sequence[Tuple[str, List[str]]])
         lstrip_blocks=True,
         keep_trailing_newline=True,
     )
-    listed = [(name, markup("\n").join(map(shown, lines))) for name, lines in captures]
-    verdicts = verdicts_of(entries)
-    return environment.get_template(PAGE).render(
-        title=title_of(entries), verdicts=verdicts, captures=listed, has_contents=len(entries) >= MANY
-    )
+    return environment.get_template(name)
+
+
+def listed(captures: Sequence[Tuple[str, List[str]]]) -> List[Tuple[str, Any]]:
+    """The records of each capture as one text."""
+    return [(name, markup("\n").join(map(shown, lines))) for name, lines in captures]
 
 
 def title_of(entries: Sequence[Entry]) -> str:

@@ -2,6 +2,7 @@
 import contextlib
 from typing import Dict, Iterable, Iterator, List, NamedTuple, Set
 
+from ..listed import Listed
 from ..program import LIST, NAME, Program, Unlisted, refuse_unlisted
 from ..verifying.compact import Entry, digest_of_capture, entries_of, heading
 from ..verifying.entries import Lacking, Refusal
@@ -45,6 +46,17 @@ class Answers:
                     self.reasons[str(why)] = self.reasons.get(str(why), 0) + 1
                 yield OPEN
 
+    def to_all(self, listed: Listed) -> List[str]:
+        """Those to what is listed. Unlisted where the program failed, or lists what it never does."""
+        try:
+            with contextlib.closing(listed.lines()) as lines:
+                said = list(self.to(entries_of(lines, line_of_list)))
+        except Refusal as why:
+            raise Unlisted(f"- {why}") from why
+        if not listed.is_cut:
+            refuse_unlisted(listed)
+        return said
+
     def notes(self) -> List[str]:
         return [f"{count} signatures aren't verified: {why}" for why, count in self.reasons.items()]
 
@@ -58,15 +70,10 @@ def answers_on(
     digest = digest_of_capture(octets)
     for moment in moments:
         listed = program.listed(capture, moment, budget.octets)
-        try:
-            with contextlib.closing(listed.lines()) as lines:
-                said = list(answers.to(entries_of(lines, line_of_list)))
-        except Refusal as why:
-            raise Unlisted(f"- {why}") from why
+        said = answers.to_all(listed)
         if listed.is_cut:
             notes.append(cut_note(budget, listed.octets))
             break
-        refuse_unlisted(listed)
         if listed.status == 0:
             found[moment] = answered(heading(digest, moment), said)
     return Verified(found, answers.notes() + notes)

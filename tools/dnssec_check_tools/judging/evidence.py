@@ -17,6 +17,7 @@ from ..capturing.messages import (
 from ..capturing.octets import Incomplete, number_at
 from ..explaining.keys import Key as KeyThere
 from ..explaining.keys import Keys, bits_of
+from ..timelines.spans import Times, times_at
 
 CLASS_IN = 1
 # The types below 128 that form no RRset: 0, the legacy ones, OPT and RRSIG; those of 128 to 255 don't either.
@@ -38,6 +39,7 @@ class Rrset:
     def __init__(self, number: int, owner: Labels, kind: int) -> None:
         self.number, self.owner, self.kind = number, owner, kind
         self.signatures: List[Signature] = []
+        self.times: List[Times] = []  # of each signature
         self.targets: List[Optional[str]] = []
 
 
@@ -144,6 +146,7 @@ class Evidence:
             key = rrset.number, rdata_of_signature(octets, record)
             if key not in seen:
                 rrset.signatures.append(signature_of(octets, record))
+                rrset.times.append(times_at(octets, record.front))
                 seen[key] = len(rrset.signatures)
             return unplaced._replace(rrset=rrset, signature=seen[key])
         except (Incomplete, IndexError):
@@ -156,6 +159,13 @@ class Evidence:
         except IndexError:
             return None
         return name_text(found.signer), found.tag
+
+    def times(self, rrset: int, signature: int) -> Optional[Times]:
+        """When the signature begins and ends; None where the capture has no such signature."""
+        try:
+            return self.rrsets[rrset - 1].times[signature - 1]
+        except IndexError:
+            return None
 
     def target(self, rrset: int) -> Optional[str]:
         targets = self.rrsets[rrset - 1].targets if rrset <= len(self.rrsets) else []

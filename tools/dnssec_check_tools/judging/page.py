@@ -1,5 +1,6 @@
 """The page of HTML that --html writes."""
-from typing import Dict, List, Tuple
+from typing import Any, Callable, Dict, List, Tuple
+
 from ..explaining.page import Entry, library, page_of
 from ..explaining.picture import program
 
@@ -11,8 +12,10 @@ from .work import Row
 class Page:
     """What is judged, in its order, and the records of the captures."""
 
+    needs: Tuple[Callable[[], Any], ...] = (library, program)
+
     def __init__(self, paths: Dict[str, str]) -> None:
-        for needed in (library, program):  # what is missing is told before anything is judged
+        for needed in self.needs:  # what is missing is told before anything is judged
             needed()
         self.lines = Lines(False, False, paths)
         self.entries: List[Entry] = []

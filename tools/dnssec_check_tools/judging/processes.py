@@ -32,7 +32,7 @@ def do(common: Common, program: Program, shares: int, thing: Thing) -> Any:
     """What a process makes of a capture or a share."""
     if isinstance(thing, Share):
         return rows_of_share(common, program, thing)
-    if shares < 2:
+    if shares < 2 or common.span:
         return answer(common, program, thing)
     return guarded(functools.partial(judged_or_prepared, common, program, thing), thing.questions, common)
 

@@ -5,6 +5,7 @@ from ..asking.captures import Unmade, octets_of
 from ..asking.faults import Failure
 from ..asking.questions import Questions
 from ..program import REFUSED, Program
+from ..timelines.judged import judged as timelines
 
 from .skew import folded, widened
 from .work import Common, Judged, judged, without_verdicts
@@ -63,6 +64,8 @@ def judged_task(task: Task, common: Common, program: Program) -> Judged:
         octets = read_now(task)
     except (OSError, Unmade) as fault:
         return of_unread(task, fault, common)
+    if common.span:
+        return timelines(octets, task.questions, common, program)
     return folded(judged(octets, task.questions, widened(common), program), common)
 
 

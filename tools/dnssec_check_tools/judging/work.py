@@ -15,6 +15,8 @@ from ..odd.found import Oddities, Wish
 from ..odd.kinds import Odd
 from ..program import EXPLAIN, FAILED, ODD, PENDING, SECURE, Json, Program, Told, Unlisted
 from ..started import nameless
+from ..timelines.pieces import Stretch
+from ..timelines.spans import Wish as Span
 from ..verifying.verifier import Budget
 
 from .answers import ANSWERS, Answered, answers_on
@@ -39,6 +41,7 @@ class Common(NamedTuple):
     is_page: bool = False
     skew: int = 0
     wish: Optional[Wish] = None  # what is odd, where that is to be looked for
+    span: Optional[Span] = None  # where timelines are asked for; the one moment is then the one that is now
 
 
 class Row(NamedTuple):
@@ -56,6 +59,7 @@ class Row(NamedTuple):
     keys: Optional[Keys] = None
     odd: Optional[Tuple[Odd, ...]] = None  # None where nobody looked
     is_failing: bool = False  # for something odd, though it's secure
+    stretch: Optional[Stretch] = None  # of a timeline: the moment is the first of those that have the verdict
 
     def told(self) -> Optional[Explanation]:
         return Explanation(self.explained, self.replies, self.keys) if self.explained else None
@@ -209,10 +213,7 @@ class View:
     def row(self, moment: int, question: Question, told: Told) -> Row:
         if told.value is None:
             return Row(moment, question, told.status, told.word, of_fault(told.said), None)
-        aliases = told.value["aliases"]
-        signers = signers_of(told.value)
-        evidence = {"aliases": [self.of_alias(each, signers) for each in aliases]} if aliases else {}
-        evidence.update(self.evidence_of(told.value, signers))
+        evidence = self.evidence_with_aliases(told.value, signers_of(told.value))
         odd = self.oddities.of(lambda: self.evidence, Explanation(told.value)) if self.oddities else None
         if told.status == SECURE and not self.is_whole:
             told.value["why"] = [line for line in told.value["why"] if line["line"] == HOLDS]
@@ -220,6 +221,10 @@ class View:
         keys = self.keys if self.is_whole or told.word in FAILING else None
         is_failing = bool(self.oddities and self.oddities.is_failing(odd or ()))
         return Row(moment, question, told.status, told.word, evidence, told.value, replies, keys, odd, is_failing)
+
+    def evidence_with_aliases(self, value: Json, signers: Signers) -> Json:
+        aliases = [self.of_alias(each, signers) for each in value["aliases"]]
+        return {**({"aliases": aliases} if aliases else {}), **self.evidence_of(value, signers)}
 
     def evidence_of(self, value: Json, signers: Signers) -> Json:
         """What carries the verdict, besides the aliases."""

@@ -209,6 +209,7 @@ def digest_of_capture(octets: bytes) -> str:
     return hashlib.sha256(octets).hexdigest()
 
 
-def heading(digest: str, moment: int) -> str:
-    """The first line of a file of answers: those to the list of the capture with this digest, at this moment."""
-    return f"of {digest} {moment}\n"
+def heading(digest: str, *moments: int) -> str:
+    """The first line of a file of answers: those to the list of the capture with this digest, at this moment, or for
+    the range from one to another."""
+    return " ".join(["of", digest, *map(str, moments)]) + "\n"

@@ -26,6 +26,9 @@ SMALL = {
     "question-hashes": (2, "Bogus a.a.a0. 1"),
     "aliases": (2, f"Bogus 0.{'a.' * 126} 1"),
     "alias-hashes": (2, "Bogus 0.a. 1"),
+    "timeline-transfer": (6, "timeline host-0001.big.test. 1"),
+    "timeline-bystanders": (40, "timeline www.bench.example. 1"),
+    "timeline-ends": (40, "timeline www.bench.example. 1"),
     "key-file": (10, "Indeterminate www.bench.example. 1"),
     "statements": (10, "Indeterminate www.bench.example. 1"),
     "scattered": (10, "Indeterminate www.bench.example. 1"),
@@ -72,7 +75,7 @@ class Answers(unittest.TestCase):
     def test_what_is_to_check_are_its_pairs(self):
         for name in set(SHAPES) - {"frames"}:
             shape, room = self.made(name)
-            words = [PROGRAM, "list", "--capture", room / "capture", "--moment", "1500"]
+            words = [PROGRAM, "list", "--capture", room / "capture", *shape.listed]
             self.assertEqual(measure_shapes.run(words)[0].count("todo "), shape.pairs, name)
 
 

@@ -6,14 +6,15 @@ from collections import namedtuple
 from dnssec_check_tools.capturing.frames import frames_of
 from dnssec_check_tools.capturing.messages import (TYPE_DNSKEY, TYPE_DS, TYPE_RRSIG, end_of_name, is_message, lower, name_at, name_text,
                                 records_of)
+from dnssec_check_tools.timelines.spans import times_of
 from dnssec_check_tools.verifying import rsa
-from shapes import SHAPES, denials, files, keys, signatures
+from shapes import SHAPES, denials, files, keys, signatures, timelines
 from wire import key_tag
 
 A, CNAME, TXT, NSEC, NSEC3 = 1, 5, 16, 47, 50
 OF_MESSAGES = ("long-data", "pairs", "exponents", "digests", "alike", "key-sets", "key-sets-apart",
                "key-sets-aliases", "key-anchors", "keys-to-check", "expanded-nsec", "expanded-nsec3", "hashes", "question-hashes", "aliases",
-               "alias-hashes")
+               "alias-hashes", "timeline-transfer", "timeline-bystanders", "timeline-ends")
 
 Record = namedtuple("Record", "owner rtype rdata")
 
@@ -53,6 +54,31 @@ class Captures(unittest.TestCase):
         for name in set(SHAPES) - set(OF_MESSAGES) - {"frames"}:
             self.assertEqual(SHAPES[name][0](1).files["capture"], [], name)
         self.assertEqual(frames_of(capture_of(files.frames(1_000))), ([b"\x00"] * 1_000, 3_000))
+
+
+class Timelines(unittest.TestCase):
+    """How many moments there are at which a signature begins or ends."""
+
+    def changes(self, shape):
+        times = times_of(capture_of(shape))
+        return len({first for first, _ in times} | {last + 1 for _, last in times}), len(times)
+
+    def test_of_the_transfer_few_are(self):
+        self.assertEqual(self.changes(timelines.transfer(60))[0], 6)
+
+    def test_of_bystanders_each_has_times_of_its_own(self):
+        count, signatures_there = self.changes(timelines.bystanders(1000))
+        self.assertEqual(signatures_there, 1000)
+        self.assertGreater(count, 1900)
+        www = [each for records in messages_of(timelines.bystanders(1000)) for each in records
+               if each.rtype == TYPE_RRSIG and name_text(each.owner) == "www.bench.example."]
+        self.assertEqual(len(www), timelines.USED)
+
+    def test_of_ends_all_are_over_one_name(self):
+        shape = timelines.ends(3024)
+        self.assertEqual(self.changes(shape), (3024 + 3, 3024 + 1))
+        owners = {name_text(each.owner) for each in of_type(messages_of(shape), A)}
+        self.assertEqual((owners, len(of_type(messages_of(shape), A))), ({"www.bench.example."}, 189))
 
 
 class Signatures(unittest.TestCase):

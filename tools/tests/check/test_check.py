@@ -128,7 +128,7 @@ class Guards(unittest.TestCase):
     def test_the_library_is_the_one_thing_without_which_a_guard_is_left_out(self):
         """For the gate builds none; whatever else isn't built, its guards fail."""
         found = {guard.name: guard.only_with for guard in guards.guards() if guard.only_with}
-        self.assertEqual(found, dict.fromkeys(("tests/library", "docs/LIBRARY.md"), (guards.LIBRARY,)))
+        self.assertEqual(found, dict.fromkeys(("tests/library", "docs/LIBRARY.md", "docs/NOTEBOOK.md"), (guards.LIBRARY,)))
         self.assertNotIn(guards.LIBRARY, {path for guard in guards.guards() for path in guard.built})
 
     def test_each_target_of_fuzz_is_there(self):

@@ -1,17 +1,23 @@
 /* Asks the library as an example asks the program:
 
-       asked SUBCOMMAND LISTING FORMAT MOMENT NAME TYPE CAPTURE ANCHORS STATEMENTS ANSWERS KEYS MACS QUESTIONS
+       asked SUBCOMMAND FORM FORMAT MOMENT FROM TO NAME TYPE CAPTURE ANCHORS STATEMENTS ANSWERS KEYS MACS QUESTIONS
 
-   where `-` is a file that isn't given. Writes the text and the fault as the program does, and ends with its status. The first call
-   has too little room for any text. */
+   where `-` is a moment or a file that isn't given, and FORM what a list or a timeline has. Writes the text and the fault as the
+   program does, and ends with its status. The first call has too little room for any text. */
 #include <dnssec_check.h>
 #include <stdio.h>
 #include <stdlib.h>
 #include <string.h>
 
+enum { COMMAND = 1, FORM, FORMAT, MOMENT, FROM, TO, NAME, TYPE, CAPTURE, ANCHORS, STATEMENTS, ANSWERS, KEYS, MACS, QUESTIONS, COUNT };
+
+static int is_given(const char *word) { return strcmp(word, "-") != 0; }
+
+static uint32_t number(const char *word) { return (uint32_t)strtoul(word, NULL, 10); }
+
 static dnssec_check_octets all_of(const char *path) {
     dnssec_check_octets octets = {NULL, 0};
-    FILE *file = strcmp(path, "-") == 0 ? NULL : fopen(path, "rb");
+    FILE *file = is_given(path) ? fopen(path, "rb") : NULL;
     if (file == NULL) return octets;
     fseek(file, 0, SEEK_END);
     octets.length = (size_t)ftell(file);
@@ -24,12 +30,15 @@ static dnssec_check_octets all_of(const char *path) {
 }
 
 static int call(char **words, const dnssec_check_case *given, void *text, size_t room, dnssec_check_outcome *told) {
-    const char *command = words[1], *name = words[5];
-    uint32_t listing = (uint32_t)atoi(words[2]), format = (uint32_t)atoi(words[3]), type = (uint32_t)atoi(words[6]);
-    dnssec_check_octets questions = all_of(words[13]);
-    int is_many = strcmp(words[13], "-") != 0, is_why = strcmp(command, "explain") == 0;
+    const char *command = words[COMMAND], *name = words[NAME];
+    uint32_t form = number(words[FORM]), format = number(words[FORMAT]), type = number(words[TYPE]);
+    uint64_t from = strtoull(words[FROM], NULL, 10), to = strtoull(words[TO], NULL, 10);
+    dnssec_check_octets questions = all_of(words[QUESTIONS]);
+    int is_many = is_given(words[QUESTIONS]), is_why = strcmp(command, "explain") == 0;
     if (strcmp(command, "show") == 0) return dnssec_check_show(&given->capture, text, room, told);
-    if (strcmp(command, "list") == 0) return dnssec_check_list(given, listing, format, text, room, told);
+    if (strcmp(command, "timeline") == 0) return dnssec_check_timeline(given, from, to, name, type, form, format, text, room, told);
+    if (strcmp(command, "list") == 0 && is_given(words[FROM])) return dnssec_check_list_range(given, from, to, form, format, text, room, told);
+    if (strcmp(command, "list") == 0) return dnssec_check_list(given, form, format, text, room, told);
     if (is_many && is_why) return dnssec_check_explain_each(given, &questions, format, text, room, told);
     if (is_many) return dnssec_check_check_each(given, &questions, format, text, room, told);
     return (is_why ? dnssec_check_explain : dnssec_check_check)(given, name, type, format, text, room, told);
@@ -46,17 +55,17 @@ static void say(int status, const dnssec_check_outcome *told, int has_answers) {
 }
 
 int main(int count, char **words) {
-    if (count != 14) return 98;
-    dnssec_check_octets keys = all_of(words[11]), macs = all_of(words[12]);
-    int has_statements = strcmp(words[9], "-") != 0, has_answers = strcmp(words[10], "-") != 0;
+    if (count != COUNT) return 98;
+    dnssec_check_octets keys = all_of(words[KEYS]), macs = all_of(words[MACS]);
+    int has_statements = is_given(words[STATEMENTS]), has_answers = is_given(words[ANSWERS]);
     dnssec_check_case given = {0};
-    given.capture = all_of(words[7]);
-    given.anchors = all_of(words[8]);
-    given.verified = all_of(has_answers ? words[10] : words[9]);
+    given.capture = all_of(words[CAPTURE]);
+    given.anchors = all_of(words[ANCHORS]);
+    given.verified = all_of(words[has_answers ? ANSWERS : STATEMENTS]);
     given.verified_form = has_answers ? DNSSEC_CHECK_ANSWERS : has_statements ? DNSSEC_CHECK_STATEMENTS : DNSSEC_CHECK_NOTHING;
-    given.moment = strtoull(words[4], NULL, 10);
-    given.keys = strcmp(words[11], "-") == 0 ? NULL : &keys;
-    given.macs = strcmp(words[12], "-") == 0 ? NULL : &macs;
+    given.moment = is_given(words[MOMENT]) ? strtoull(words[MOMENT], NULL, 10) : UINT64_MAX;
+    given.keys = is_given(words[KEYS]) ? &keys : NULL;
+    given.macs = is_given(words[MACS]) ? &macs : NULL;
 
     dnssec_check_outcome told;
     int status = call(words, &given, NULL, 0, &told);

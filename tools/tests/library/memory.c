@@ -30,6 +30,7 @@ void __wrap_free(void *block) {
     __real_free(block);
 }
 
+enum { FROM = 1790000000, TO = 1806000000, KINDS = 6 };
 static unsigned char files[3][1 << 16], text[1 << 20];
 
 static int asked(int kind, const dnssec_check_case *given, dnssec_check_outcome *told) {
@@ -38,6 +39,8 @@ static int asked(int kind, const dnssec_check_case *given, dnssec_check_outcome 
     case 0: return dnssec_check_show(&given->capture, text, sizeof text, told);
     case 1: return dnssec_check_list(given, DNSSEC_CHECK_COMPACT, DNSSEC_CHECK_JSON, text, sizeof text, told);
     case 2: return dnssec_check_explain(given, "www.bind.test.", 1, DNSSEC_CHECK_LINES, text, sizeof text, told);
+    case 3: return dnssec_check_list_range(given, FROM, TO, DNSSEC_CHECK_OPEN, DNSSEC_CHECK_JSON, text, sizeof text, told);
+    case 4: return dnssec_check_timeline(given, FROM, TO, "www.bind.test.", 1, 0, DNSSEC_CHECK_JSON, text, sizeof text, told);
     default: return dnssec_check_check_each(given, &questions, DNSSEC_CHECK_JSON, text, sizeof text, told);
     }
 }
@@ -57,7 +60,7 @@ int main(int count, char **words) {
     }
     given.verified_form = DNSSEC_CHECK_STATEMENTS;
     given.moment = 1795348800;
-    for (int kind = 0; kind < 4; kind++) {
+    for (int kind = 0; kind < KINDS; kind++) {
         long before = held;
         for (long first = 0;; first++) {
             memset(text, 7, sizeof text);

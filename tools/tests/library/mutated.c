@@ -9,7 +9,7 @@
 #include <stdlib.h>
 #include <string.h>
 
-enum { FILES = 3, MOST = 1 << 16 };
+enum { FILES = 3, MOST = 1 << 16, KINDS = 8, FROM = 1790000000, TO = 1806000000 };
 static unsigned char files[FILES][MOST];
 static size_t lengths[FILES];
 static long calls;
@@ -30,13 +30,16 @@ static size_t changed(unsigned char *to, int file, uint64_t *seed) {
 
 static int call(int kind, const dnssec_check_case *given, uint64_t form, void *text, size_t room, dnssec_check_outcome *told) {
     static const dnssec_check_octets questions = {"www.bind.test. 1\nnosuch.bind.test. 28\n. 46\n", 43};
-    uint32_t format = form & 1, listing = (form >> 1) % 4;
+    uint32_t format = form & 1, listing = (form >> 1) % 4, detail = (form >> 3) % 8 == 0 ? 2 : (form >> 6) & 1;
+    uint64_t from = FROM + (form >> 7) % (TO - FROM), to = form % 16 == 0 ? form >> 15 : from + (form >> 32) % (TO - FROM);
     switch (kind) {
     case 0: return dnssec_check_show(&given->capture, text, room, told);
     case 1: return dnssec_check_list(given, listing, format, text, room, told);
     case 2: return dnssec_check_check(given, "www.bind.test.", 1, format, text, room, told);
     case 3: return dnssec_check_explain(given, "nosuch.bind.test.", 28, format, text, room, told);
     case 4: return dnssec_check_check_each(given, &questions, format, text, room, told);
+    case 5: return dnssec_check_list_range(given, from, to, listing, format, text, room, told);
+    case 6: return dnssec_check_timeline(given, from, to, "www.bind.test.", 1, detail, format, text, room, told);
     default: return dnssec_check_explain_each(given, &questions, format, text, room, told);
     }
 }
@@ -65,7 +68,7 @@ static void *work(void *number) {
     size_t most = 1 << 20;
     unsigned char *changes = malloc(FILES * MOST), *text = malloc(most);
     size_t failed = changes == NULL || text == NULL ? 4 : 0;
-    for (long done = 0; done < calls && failed == 0; done++) failed = (size_t)one(&seed, changes, text, most, (int)(done % 6));
+    for (long done = 0; done < calls && failed == 0; done++) failed = (size_t)one(&seed, changes, text, most, (int)(done % KINDS));
     free(changes);
     free(text);
     return (void *)failed;

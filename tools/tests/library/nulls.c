@@ -2,9 +2,11 @@
 #include <dnssec_check.h>
 #include <string.h>
 
+#define LAST (((uint64_t)1 << 48) - 1)
 #define IS(told, wanted) do { if ((told) != (wanted)) return __LINE__; } while (0)
 
 int main(void) {
+    static const char timeline[] = "timeline a. 1\n3 9 Indeterminate\n";
     static const unsigned char query[] = {0, 12, 0, 1, 0, 0, 0, 0, 0, 0, 0, 0, 0, 0};
     dnssec_check_octets none = {NULL, 0}, lost = {NULL, 1}, huge = {query, (size_t)-1}, one = {query, sizeof query};
     dnssec_check_outcome told;
@@ -54,6 +56,50 @@ int main(void) {
     IS(dnssec_check_check(&given, "a.", 1, DNSSEC_CHECK_LINES, text, sizeof text, &told), DNSSEC_CHECK_REFUSED);
     IS(told.number, 401);
     IS(told.message, 1);
+
+    given.verified_form = DNSSEC_CHECK_NOTHING;
+    given.capture = none;
+    given.moment = UINT64_MAX;
+    IS(dnssec_check_timeline(&given, 3, 9, "a.", 1, DNSSEC_CHECK_WORDS, DNSSEC_CHECK_LINES, NULL, 0, &told), DNSSEC_CHECK_ROOM);
+    IS(told.length, sizeof timeline - 1);
+    memcpy(text, kept, sizeof text);
+    IS(dnssec_check_timeline(&given, 3, 9, "a.", 1, DNSSEC_CHECK_KINDS, DNSSEC_CHECK_LINES, text, sizeof text, &told), DNSSEC_CHECK_DONE);
+    IS(memcmp(text, timeline, sizeof timeline - 1), 0);
+    IS(memcmp(text + sizeof timeline - 1, kept, sizeof text - (sizeof timeline - 1)), 0);
+    IS(dnssec_check_timeline(NULL, 3, 9, "a.", 1, 0, 0, text, sizeof text, &told), DNSSEC_CHECK_NULL);
+    IS(dnssec_check_timeline(&given, 3, 9, NULL, 1, 0, 0, text, sizeof text, &told), DNSSEC_CHECK_NULL);
+    IS(dnssec_check_timeline(&given, 3, 9, "a.", 1, 0, 0, NULL, 1, &told), DNSSEC_CHECK_NULL);
+    IS(dnssec_check_timeline(&given, 3, 9, "a.", 65536, 0, 0, text, sizeof text, &told), DNSSEC_CHECK_MISUSED);
+    IS(dnssec_check_timeline(&given, 3, 9, "a.", 1, 2, 0, text, sizeof text, &told), DNSSEC_CHECK_MISUSED);
+    IS(dnssec_check_timeline(&given, 3, 9, "a.", 1, 0, 2, text, sizeof text, &told), DNSSEC_CHECK_MISUSED);
+    IS(dnssec_check_timeline(&given, 3, 9, "\xff.", 1, 0, 0, text, sizeof text, &told), DNSSEC_CHECK_MISUSED);
+    IS(dnssec_check_timeline(&given, 3, (uint64_t)1 << 48, "a.", 1, 0, 0, text, sizeof text, &told), DNSSEC_CHECK_MISUSED);
+    IS(dnssec_check_timeline(&given, (uint64_t)1 << 48, 3, "a.", 1, 0, 0, text, sizeof text, &told), DNSSEC_CHECK_MISUSED);
+    IS(dnssec_check_timeline(&given, 9, 3, "a.", 1, 0, 0, text, sizeof text, &told), DNSSEC_CHECK_REFUSED);
+    IS(told.number, 821);
+    IS(dnssec_check_timeline(&given, 3, (uint64_t)3 + UINT32_MAX, "a.", 1, 0, 0, NULL, 0, &told), DNSSEC_CHECK_ROOM);
+    IS(dnssec_check_timeline(&given, 3, (uint64_t)4 + UINT32_MAX, "a.", 1, 0, 0, NULL, 0, &told), DNSSEC_CHECK_REFUSED);
+    IS(told.number, 821);
+    IS(dnssec_check_list_range(&given, 3, 9, DNSSEC_CHECK_COMPACT, 0, NULL, 0, &told), DNSSEC_CHECK_DONE);
+    IS(dnssec_check_list_range(&given, 3, 9, DNSSEC_CHECK_ALL, 0, text, sizeof text, &told), DNSSEC_CHECK_MISUSED);
+    IS(dnssec_check_list_range(&given, 9, 3, DNSSEC_CHECK_OPEN, 0, text, sizeof text, &told), DNSSEC_CHECK_REFUSED);
+    IS(told.number, 821);
+    IS(dnssec_check_list_range(&given, 3, (uint64_t)1 << 48, DNSSEC_CHECK_OPEN, 0, text, sizeof text, &told), DNSSEC_CHECK_MISUSED);
+    IS(dnssec_check_list_range(NULL, 3, 9, DNSSEC_CHECK_OPEN, 0, text, sizeof text, &told), DNSSEC_CHECK_NULL);
+    given.macs = &none;
+    IS(dnssec_check_timeline(&given, 3, 9, "a.", 1, 0, 0, text, sizeof text, &told), DNSSEC_CHECK_DONE);
+    given.keys = &none;
+    IS(dnssec_check_timeline(&given, 3, 9, "a.", 1, 0, 0, text, sizeof text, &told), DNSSEC_CHECK_MISUSED);
+    given.keys = NULL;
+    given.macs = NULL;
+    given.verified_form = DNSSEC_CHECK_ANSWERS;
+    IS(dnssec_check_list_range(&given, 3, 9, DNSSEC_CHECK_OPEN, 0, text, sizeof text, &told), DNSSEC_CHECK_MISUSED);
+    IS(dnssec_check_timeline(&given, 3, 9, "a.", 1, 0, 0, text, sizeof text, &told), DNSSEC_CHECK_REFUSED);
+    IS(told.number, 805);
+    given.verified_form = DNSSEC_CHECK_NOTHING;
+
+    given.moment = LAST;
+    given.capture = one;
     given.keys = &lost;
     IS(dnssec_check_check(&given, "a.", 1, DNSSEC_CHECK_LINES, text, sizeof text, &told), DNSSEC_CHECK_NULL);
     given.keys = &none;

@@ -12,6 +12,14 @@ EXAMPLE = TOOLS.parent / "examples" / "bind-www-a"
 ANCHORS = TOOLS.parent / "examples" / "anchors"
 STRICT = ("-Wall", "-Wextra", "-Werror")
 CALLS = (LIBRARY / "symbols").read_text().split()
+IN_CXX = """#include <dnssec_check.h>
+int main() {
+    dnssec_check_case given{};
+    return dnssec_check_version()[0] == 0
+        || dnssec_check_timeline(&given, 3, 9, "a.", 1, DNSSEC_CHECK_WORDS, DNSSEC_CHECK_LINES, nullptr, 0, nullptr) != DNSSEC_CHECK_ROOM
+        || dnssec_check_list_range(&given, 3, 9, DNSSEC_CHECK_OPEN, DNSSEC_CHECK_LINES, nullptr, 0, nullptr) != DNSSEC_CHECK_DONE;
+}
+"""
 
 
 @unittest.skipUnless(SHARED.exists() and shutil.which("cc"), "needs the library that `make library` builds, and cc")
@@ -37,9 +45,19 @@ class InC(unittest.TestCase):
             self.assertEqual(self.run_example(program), (0, (EXAMPLE / "check.stdout").read_bytes(), b""))
             self.assertEqual(self.run_example(program, "a..b."), (7, b"", b"refused 102\n"))
 
+    def test_the_example_over_time_says_what_the_program_does(self):
+        program = self.compiled(LIBRARY / "over_time.c", MADE / "libdnssec_check.a")
+        files, said = [EXAMPLE / "capture", ANCHORS, EXAMPLE / "statements"], EXAMPLE.parent / "timeline-bind-www-a"
+        for moments, told in (
+            (("1790000000", "1806000000"), (0, (said / "timeline-kinds.stdout").read_bytes(), b"")),
+            (("1806000000", "1790000000"), (7, b"", b"refused 821\n")),
+        ):
+            done = subprocess.run([program, *files, *moments, "www.bind.test.", "1"], capture_output=True, check=False)
+            self.assertEqual((done.returncode, done.stdout, done.stderr), told)
+
     def test_the_header_is_one_of_cxx_too(self):
         source = self.room / "one.cc"
-        source.write_text('#include <dnssec_check.h>\nint main() { return dnssec_check_version()[0] == 0; }\n')
+        source.write_text(IN_CXX)
         program = self.compiled(source, MADE / "libdnssec_check.a", compiler="c++")
         self.assertEqual(subprocess.run([program], check=False).returncode, 0)
 

@@ -20,6 +20,13 @@ capture, anchors, statements = (open(path, "rb").read() for path in sys.argv[1:]
 print(dnssec_check.Case(capture, anchors, at=1795348800, statements=statements).judge("www.bind.test").verdict)"""
 
 
+class Symbols(unittest.TestCase):
+    def test_the_file_of_symbols_has_each_call(self):
+        lines = (LIBRARY / "debian" / "libdnssec-check1.symbols").read_text().splitlines()
+        self.assertEqual(lines[0], "libdnssec_check.so.1 libdnssec-check1 #MINVER#")
+        self.assertEqual([line.split("@")[0].strip() for line in lines[1:]], sorted((LIBRARY / "symbols").read_text().split()))
+
+
 @unittest.skipUnless(SHARED.exists() and all(map(shutil.which, NEEDED)), "needs the library that `make library` builds, and debhelper")
 class Packages(unittest.TestCase):
     def test_they_are_used_where_they_are_put(self):

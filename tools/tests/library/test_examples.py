@@ -9,7 +9,7 @@ import unittest
 from cases import examples
 from . import LIBRARY, MADE, SHARED
 
-FORMS = {"--all": 2, "--compact": 1}
+FORMS = {"--all": 2, "--compact": 1, "--kinds": 1}
 FILES = ("capture", "anchors", "statements", "answers", "keys", "macs", "questions")
 
 
@@ -24,7 +24,8 @@ def pairs_of(example):
     return dict(zip(example.words, example.words[1:]))
 
 
-def listing_of(example):
+def form_of(example):
+    """What a list or a timeline has."""
     return next((FORMS[word] for word in example.words if word in FORMS), 0)
 
 
@@ -38,21 +39,24 @@ def given_of(calls, example):
 
 
 def answer_of(calls, example, given, questions, pairs):
-    if example.words[0] == "show":
+    command, form, written = example.words[0], form_of(example), int(example.is_json)
+    if command == "show":
         return calls.show(given.capture)
-    if example.words[0] == "list":
-        return calls.listed(given, listing_of(example), int(example.is_json))
-    why = example.words[0] == "explain"
+    span = calls.Interval(int(pairs["--from"]), int(pairs["--to"])) if "--from" in pairs else None
+    if command == "list":
+        return calls.listed_range(given, span, form, written) if span else calls.listed(given, form, written)
     if questions is not None:
-        return calls.judged_each(given, questions, int(example.is_json), why)
-    return calls.judged(given, pairs["--name"].encode(errors="surrogateescape"), int(pairs["--type"]), int(example.is_json), why)
+        return calls.judged_each(given, questions, written, command == "explain")
+    asked = pairs["--name"].encode(errors="surrogateescape"), int(pairs["--type"])
+    if command == "timeline":
+        return calls.timeline(given, span, *asked, form, written)
+    return calls.judged(given, *asked, written, command == "explain")
 
 
 @unittest.skipUnless(SHARED.exists(), "needs the library that `make library` builds")
 class Examples(unittest.TestCase):
     def test_each_command_line_is_answered_as_by_the_program(self):
-        from dnssec_check import calls
-        from dnssec_check.faults import Fault
+        from dnssec_check import Fault, calls
 
         count = 0
         for example in asked():
@@ -65,7 +69,7 @@ class Examples(unittest.TestCase):
                     except Fault as fault:
                         told = (7 if fault.word == "refused" else 1, b"", f"{fault}\n".encode())
                     self.assertEqual(told, (example.status, example.output, example.errors))
-        self.assertGreater(count, 600)
+        self.assertGreater(count, 800)
 
     @unittest.skipUnless(shutil.which("cc"), "needs cc")
     def test_each_command_line_is_answered_in_c(self):
@@ -80,13 +84,14 @@ class Examples(unittest.TestCase):
                     done = subprocess.run([program, *words_of(example)], capture_output=True, check=False)
                     told = (done.returncode, done.stdout, done.stderr)
                     self.assertEqual(told, (example.status, example.output, example.errors))
-        self.assertGreater(count, 600)
+        self.assertGreater(count, 800)
 
 
 def words_of(example):
     pairs = pairs_of(example)
-    asks = pairs.get("--moment", "0"), pairs.get("--name", ""), pairs.get("--type", "0")
-    return [example.words[0], str(listing_of(example)), str(int(example.is_json)), *asks, *(example.files.get(each, "-") for each in FILES)]
+    moments = [pairs.get(each, "-") for each in ("--moment", "--from", "--to")]
+    asks = [*moments, pairs.get("--name", ""), pairs.get("--type", "0")]
+    return [example.words[0], str(form_of(example)), str(int(example.is_json)), *asks, *(example.files.get(each, "-") for each in FILES)]
 
 
 if __name__ == "__main__":

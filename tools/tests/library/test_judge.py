@@ -36,6 +36,15 @@ def is_small(example):
     return example.files["capture"].stat().st_size <= LISTS_LITTLE
 
 
+def is_over_time(example):
+    """Whether it's a compact list of a range as lines, or a timeline by answers as JSON, of a small capture."""
+    if "--from" not in example.words or example.status == 2 or not is_small(example):
+        return False
+    if example.words[0] == "list":
+        return "--compact" in example.words and not example.is_json and "statements" not in example.files
+    return "answers" in example.files and example.is_json and "--kinds" not in example.words
+
+
 def judged(folder, library, *words):
     """What judge does with the program of a folder, and the library, or none."""
     place = {"PATH": f"{folder}:/usr/bin:/bin", "PYTHONPATH": str(LIBRARY / "python"), "DNSSEC_CHECK_LIBRARY": str(library)}
@@ -89,6 +98,26 @@ class InProcess(unittest.TestCase):
             with nameless(octets) as file, self.assertRaises(Exception) as told:
                 self.library.judged(Manner(CHECK, NOON), {name: file.fileno() for name in names}, Question("a.", 1))
             self.assertIn(NOWHERE, str(told.exception))
+
+    def test_moments_of_a_range_are_asked_for_at_once(self):
+        told = {self.over_time(example) for example in examples() if is_over_time(example)}
+        self.assertEqual(told, {"list", "timeline"})
+
+    def over_time(self, example):
+        """Asks for one that is by answers, and says which subcommand that is of."""
+        pairs = dict(zip(example.words, example.words[1:]))
+        span = int(pairs["--from"]), int(pairs["--to"])
+        with self.subTest(example.name), opened(example.files) as files:
+            for program in (self.library, Program(NOWHERE)):
+                if example.words[0] == "list":
+                    listed = in_process.listed_range(program, files["capture"], span, 1 << 20)
+                    said = listed and ("".join(f"{line}\n" for line in listed.lines()), listed.errors, listed.status)
+                else:
+                    said = in_process.timeline(program, files, span, Question(pairs["--name"], int(pairs["--type"])))
+                    said = said and (said.output, said.errors, said.status)
+                wanted = (example.output.decode(), example.errors.decode(), example.status)
+                self.assertEqual(said, wanted if program is self.library else None)
+        return example.words[0]
 
     def test_it_is_asked_where_it_is_there_and_no_program_is_named(self):
         with mock.patch.object(in_process, "program_of", lambda given, tool: Program(given or NOWHERE)):

@@ -50,7 +50,7 @@ TOLD = {
         f"at the beginning and later on; {cluster.WAIT_SECONDS} where it isn't given",
     ],
     "dnssec_check.1": [f"The capture would pass a limit with it: {splitting.MESSAGES_MOST} messages, {splitting.RECORDS_MOST} records"],
-    "PERFORMANCE.md": [
+    "STRANGERS.md": [
         f"where `list --compact` prints at most `--budget-octets` octets ({SECONDS} and {BUDGET.octets:,})",
         f"takes no file of another kind that has more than {captures.OTHER_MOST:,} octets",
     ],

@@ -21,23 +21,29 @@ def entries_of(lines):
     return list(compact.entries_of(lines, lambda number: f"line {number}"))
 
 
+def moments_of(example):
+    """The options that say for which moment something is listed, or for which range."""
+    pairs = zip(example.words, example.words[1:])
+    return tuple(word for pair in pairs if pair[0] in ("--moment", "--from", "--to") for word in pair)
+
+
 def plain_and_compact():
-    """The examples of `list`, with and without `--compact`, of one capture at one moment."""
+    """The examples of `list`, with and without `--compact`, of one capture at one moment or for one range."""
     found = {}
     for example in examples():
         if example.stem in ("list", "list-compact") and not example.is_json and "statements" not in example.files:
-            moment = example.words[example.words.index("--moment") + 1]
-            found.setdefault((example.files["capture"], moment), {})[example.stem] = example
+            found.setdefault((example.files["capture"], moments_of(example)), {})[example.stem] = example
     return [(each["list"], each["list-compact"]) for each in found.values() if len(each) == 2]
 
 
 def answered():
-    """The examples of `check` with answers to a whole list, each with the compact list and its moment."""
+    """The examples of `check` and `timeline` with answers to a whole list, each with the compact list."""
     lists = {example.folder.name: example for example in examples() if example.name.endswith("/list-compact")}
     for example in examples():
-        name = example.folder.name.replace("answers-", "compact-")
-        if example.name.endswith("/check") and "answers" in example.files and name in lists:
-            yield example, lists[name], example.words[example.words.index("--moment") + 1]
+        name = example.folder.name
+        name = name if name in lists else name.replace("answers-", "compact-")
+        if example.name.endswith(("/check", "/timeline")) and "answers" in example.files and name in lists:
+            yield example, lists[name]
 
 
 class Examples(unittest.TestCase):
@@ -51,18 +57,18 @@ class Examples(unittest.TestCase):
 
     def test_each_list_gets_the_answers_of_its_check(self):
         count = 0
-        for example, listed, moment in answered():
+        for example, listed in answered():
             with self.subTest(example.name):
-                words = "--compact", "--capture", listed.files["capture"], "--moment", moment
+                words = "--compact", "--capture", listed.files["capture"], *moments_of(example)
                 told = run("verify", *words, given=listed.output)
                 if example.folder.name not in MADE_UP:
                     self.assertEqual(told, (0, example.files["answers"].read_bytes(), ""))
                     count += 1
-        self.assertEqual(count, 14)
+        self.assertEqual(count, 15)
 
     def test_the_program_itself(self):
-        example, listed, moment = next(each for each in answered() if each[0].folder.name == "answers-bind-www-a")
-        words = "--compact", "--capture", listed.files["capture"], "--moment", moment, listed.output_file
+        example, listed = next(each for each in answered() if each[0].folder.name == "answers-bind-www-a")
+        words = "--compact", "--capture", listed.files["capture"], *moments_of(example), listed.output_file
         self.assertEqual(run_program(TOOLS / "verify", *words), (0, example.files["answers"].read_bytes(), ""))
 
 

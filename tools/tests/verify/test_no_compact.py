@@ -100,6 +100,11 @@ class Words(Room):
         together = "--compact, --capture and --moment go together"
         for words in (["--compact"], ["--compact", *capture], ["--compact", *moment], [*capture], [*moment], [*capture, *moment]):
             self.wrong(words, together)
+        span = ("--from", "7", "--to", "8")
+        for words in (span, ["--compact", *span], [*capture, *span]):
+            self.wrong(words, together)
+        for words in (span[:2], span[2:], [*span, *moment]):
+            self.wrong(["--compact", *capture, *words], "--compact takes --moment, or both of --from and --to")
         whole = ["--compact", *capture, *moment]
         one = "--compact takes one FILE, and no --from-check"
         self.wrong([*whole, "--from-check"], one)
@@ -118,6 +123,8 @@ class Words(Room):
             self.wrong(["--compact", "--capture", self.capture, "--moment", text], "is no moment in seconds since 1970")
         words = "--compact", "--capture", self.capture, "--moment", "281474976710655"
         self.assertTrue(run("verify", *words)[1].endswith(b" 281474976710655\n"))
+        words = "--compact", "--capture", self.capture, "--from", "0", "--to", "4294967295"
+        self.assertTrue(run("verify", *words)[1].endswith(b" 0 4294967295\n"))
 
     def test_files_that_are_not_there(self):
         for words in (["--capture", self.capture.parent / "none"], ["--capture", self.capture, self.capture.parent / "none"]):

@@ -1,0 +1,1 @@
+"""Tests of timelines, as dnssec_check-judge asks for them and tells them."""
