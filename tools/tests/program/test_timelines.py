@@ -115,7 +115,7 @@ class Timelines(Random):
                     self.assertEqual(stay.last + 1, other.first)
                     self.assertNotEqual((stay.words, stay.by), (other.words, other.by))
                     borders += 1
-                self.assertTrue(all(timeline.edges[1:]), "a border without a line")
+                self.assertTrue(all(timeline.edges), "a border without a line")
                 for stay in timeline.stays[1:]:
                     if draw.random() < 0.1:
                         self.assert_said_at(stay.first, timeline, case)
