@@ -1,5 +1,7 @@
 """Random timelines of the captures of the examples: at any moment `check` and `explain` say what the timeline does, each
-border has a line, and nothing changes while nothing begins and what derives the verdict stays valid."""
+border has a line, nothing changes while nothing begins and what derives the verdict stays valid, and a name comes to
+something worse only where something ends, and to something better only where something begins."""
+import collections
 import functools
 import pathlib
 import random
@@ -14,7 +16,7 @@ from dnssec_check_tools.verifying.verifier import Kept, Verifier
 from tool import PROGRAM, run_program
 
 from .test_answers import text_of
-from .timelines import as_object, by_of, is_valid, told_of, words_of
+from .timelines import EDGES, as_object, by_of, is_valid, told_of, turn_of, words_of
 
 SEED, TIMELINES, PAIRS = 20261129, 200, 20
 KEPT = Kept()
@@ -104,7 +106,7 @@ class Timelines(Random):
             yield draw, case, (first, last), self.timeline(*case, span)
 
     def test_random_timelines(self):
-        borders = 0
+        borders, turns = 0, collections.Counter()
         for draw, case, (first, last), timeline in self.cases():
             with self.subTest(capture=case[0].parent.name, question=case[2], first=first, last=last):
                 self.assert_said_at(draw.randint(first, last), timeline, case)
@@ -116,12 +118,25 @@ class Timelines(Random):
                     self.assertNotEqual((stay.words, stay.by), (other.words, other.by))
                     borders += 1
                 self.assertTrue(all(timeline.edges), "a border without a line")
+                turns.update(self.turns(timeline))
                 for stay in timeline.stays[1:]:
                     if draw.random() < 0.1:
                         self.assert_said_at(stay.first, timeline, case)
                         self.assert_said_at(stay.first - 1, timeline, case)
                 self.assert_quiet(draw, case[0].read_bytes(), timeline)
         self.assertGreater(borders, 100)
+        self.assertGreater(min(turns[edge] for edge in EDGES), 10, turns)
+
+    def turns(self, timeline):
+        """At each border where the name at which the ways part comes to something worse, what ends is told, and where to
+        something better, what begins; returns which of them it is at each of these."""
+        found = []
+        for stay, other, edges in zip(timeline.stays, timeline.stays[1:], timeline.edges):
+            turn = turn_of(stay.words, other.words)
+            if turn:
+                self.assertIn(turn, {fields[0] for fields in edges}, (stay, other))
+                found.append(turn)
+        return found
 
     def assert_quiet(self, draw, octets, timeline):
         """Pairs of moments, those right beside a border among them: where no signature begins behind the first, and all

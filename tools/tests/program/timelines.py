@@ -1,4 +1,5 @@
 """Timelines as the program tells them, and what `check` and `explain` say at a moment of one."""
+import itertools
 import json
 from typing import NamedTuple
 
@@ -6,6 +7,8 @@ from dnssec_check_tools.timelines.spans import HALF, ROUND
 
 PROVED_BY = ("trusted", "signed")
 EDGES = ("ends", "begins")
+# What a name comes to, from the best to the worst.
+CASES = ("SecureAnswer", "SecureAlias", "SecureNoName", "SecureNoData", "Insecure", "Pending", "Bogus", "Indeterminate")
 
 
 class Stay(NamedTuple):
@@ -58,6 +61,25 @@ def by_of(output):
             place = fields.index("rrset")
             found.add((int(fields[place + 1]), int(fields[place + 3])))
     return sorted(found)
+
+
+def way_of(words):
+    """The RRsets of the aliases that the words show, and what the name behind them comes to. Of a way that is refused none
+    are shown, and at its first name is an alias."""
+    kind, *fields = words.split(" ")
+    links = [int(fields[place + 3]) for place, field in enumerate(fields) if field == "alias"]
+    return links, "SecureAlias" if kind == "refused" else kind
+
+
+def turn_of(before, behind):
+    """`ends`, where the name at which the ways of both words part, or the last of both, comes to something worse behind,
+    `begins`, where it comes to something better, and else None."""
+    ways = [way_of(before), way_of(behind)]
+    shared = sum(1 for _ in itertools.takewhile(lambda pair: pair[0] == pair[1], zip(*(links for links, _ in ways))))
+    case, other = (CASES.index("SecureAlias" if len(links) > shared else kind) for links, kind in ways)
+    if case == other:
+        return None
+    return "ends" if other > case else "begins"
 
 
 def is_valid(times, moment):
