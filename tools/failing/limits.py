@@ -5,7 +5,7 @@ from __future__ import annotations
 from typing import Any, Iterator
 
 from .runs import Answer, Bench, Case, Tried
-from .refusals import OUT_OF_MEMORY, RIGHT
+from .refusals import RIGHT, wanting_memory
 from .tally import Tally
 
 # In kilobytes: the first limit, the step, and how far beyond the first right answer it goes.
@@ -58,9 +58,7 @@ def stepped(tried: Tried, case: Case, most: int) -> Tally:
 
 
 def end_of(case: Case, answer: Answer) -> str | None:
-    if answer == OUT_OF_MEMORY:
-        return "`fault 90`"
-    return RIGHT if answer == case.right else None
+    return RIGHT if answer == case.right else wanting_memory(case, answer)
 
 
 def is_of_loader(answer: Answer) -> bool:

@@ -19,6 +19,15 @@ OUTPUT, ERRORS = "/dev/stdout", "/dev/stderr"
 BROKEN = ("> /dev/full", ">&-")
 
 
+def wanting_memory(case: Asked, answer: Answer) -> str | None:
+    """How it ends where memory is wanting: nothing is written, or of many questions the whole texts of the first."""
+    if answer == OUT_OF_MEMORY:
+        return "`fault 90`"
+    if answer == OUT_OF_MEMORY._replace(output=answer.output) and answer.output in case.firsts:
+        return "`fault 90` behind the first texts"
+    return None
+
+
 def jobs(tried: Tried, kind: str, cases: Sequence[Asked]) -> Iterator[tuple[Any, ...]]:
     """A job for each part of what is refused to each case."""
     if kind == "write":
@@ -89,9 +98,7 @@ class Memory:
         return ""
 
     def end_of(self, case: Asked, _refusal: Refusal, answer: Answer) -> str | None:
-        if answer == OUT_OF_MEMORY:
-            return "`fault 90`"
-        return RIGHT if answer == case.right else None
+        return RIGHT if answer == case.right else wanting_memory(case, answer)
 
 
 class Reads:

@@ -38,6 +38,7 @@ class Case:
     def __init__(self, example: Example) -> None:
         self.name, self.words, self.files = example.name, list(example.words), example.files
         self.right = Answer(example.status, example.output, example.errors)
+        self.firsts = firsts_of(example.output) if example.asks_many else frozenset()
 
     def words_with(self, **others: pathlib.Path) -> list[str]:
         """The command line, with these files in the place of its own."""
@@ -45,6 +46,14 @@ class Case:
         for option, path in paths.items():
             words[words.index(f"--{option}") + 1] = str(path)
         return words
+
+
+def firsts_of(output: bytes) -> frozenset[bytes]:
+    """The beginnings of what is told of many questions that are the whole texts of the first of them: of one at least,
+    and not of all. A text begins with its verdict, with how it is refused, or as an object."""
+    lines = output.splitlines(keepends=True)
+    fronts = [place for place, line in enumerate(lines) if line[:1].isupper() or line.startswith((b"refused ", b"{"))]
+    return frozenset(b"".join(lines[:place]) for place in fronts[1:])
 
 
 def case_of(name: str) -> Case:
@@ -62,6 +71,7 @@ class Spoken:
     """A command line that names no file, and what the program says to it where nothing is refused."""
 
     files: dict[str, pathlib.Path] = {}
+    firsts: frozenset[bytes] = frozenset()
 
     def __init__(self, name: str, words: list[str], right: Answer) -> None:
         self.name, self.words, self.right = name, words, right

@@ -80,6 +80,28 @@ int main(int count, char **words) {
 }
 """
 
+# It tells two texts as the program does of many questions, and asks for memory before each.
+ANSWERING_MANY = r"""
+#include <stdlib.h>
+#include <string.h>
+#include <unistd.h>
+#ifndef FLAW
+#define FLAW ""
+#endif
+static int told(int stream, const char *text) { return write(stream, text, strlen(text)) < 0; }
+int main(void) {
+  const char *texts[] = {"refused 701 . 43\n", "SecureAnswer a. 1\nrrset 1 signature 1\n"};
+  for (int place = 0; place < 2; place++) {
+    char *given = malloc(8);
+    if (!given && place && strcmp(FLAW, "tells a half") == 0) told(1, "SecureAnswer a. 1\n");
+    if (!given) { told(2, "fault 90\n"); return 1; }
+    *(volatile char *)given = 1;
+    if (told(1, texts[place])) return 1;
+  }
+  return 7;
+}
+"""
+
 
 @unittest.skipUnless(shutil.which("cc"), "needs cc")
 class Programs(unittest.TestCase):

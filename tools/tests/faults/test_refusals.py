@@ -2,9 +2,10 @@
 import unittest
 from unittest import mock
 
+from cases import examples_of
 from failing import limits, refusals, runs
 from failing.tally import Tally
-from .programs import ANSWERING, Programs
+from .programs import ANSWERING, ANSWERING_MANY, Programs
 
 
 class Refusals(Programs):
@@ -43,6 +44,30 @@ class Refusals(Programs):
         # The text has 11 octets; and there are a full disk and a closed stream.
         self.assertEqual(self.ends("write")[1], (1 + 2 + 1 + 2 * 11 + 2, 0))
         self.assertEqual(self.ends("write", "writes on")[1], (2, 2 + 2 * 11 + 2))
+
+    def many(self):
+        """A case of two questions, the first of which is refused."""
+        folder = self.room / "many"
+        folder.mkdir(exist_ok=True)
+        files = {"commands": b"7 check --questions questions\n", "questions": b". 43\na. 1\n",
+                 "check.stdout": b"refused 701 . 43\nSecureAnswer a. 1\nrrset 1 signature 1\n"}
+        for name, octets in files.items():
+            (folder / name).write_bytes(octets)
+        example, = examples_of(folder)
+        return runs.Case(example)
+
+    def test_memory_of_many_questions(self):
+        """A whole text may stand before the fault, and no half of one."""
+        case = self.many()
+        self.assertEqual(case.firsts, {b"refused 701 . 43\n"})
+        self.assertEqual(self.case().firsts, set())
+        for flaw, ends in (("no half", {"`fault 90`": 2, "`fault 90` behind the first texts": 2, "right answers": 1}),
+                           ("tells a half", {"`fault 90`": 2, "right answers": 1})):
+            bench, tally = self.bench(self.program(ANSWERING_MANY, flaw)), Tally()
+            for job, *given in refusals.jobs(bench.tried, "memory", [case]):
+                tally.add(job(bench.tried, *given))
+            self.assertEqual(tally.rows["memory: many/check"], ends, flaw)
+            self.assertEqual(tally.counts(), (sum(ends.values()), 5 - sum(ends.values())))
 
     def test_a_run_without_end_is_ended(self):
         tried = self.script("exec sleep 60\n")

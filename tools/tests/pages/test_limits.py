@@ -55,7 +55,8 @@ TOLD = {
         f"takes no file of another kind that has more than {captures.OTHER_MOST:,} octets",
     ],
     "AUDITING.md": [
-        f"stops verifying after {SECONDS} seconds of processor time (`--budget`) or {BUDGET.octets // 1_000_000} MB of a compact list",
+        f"stops verifying after {SECONDS} seconds of processor time (`--budget`), and verifies nothing where the compact list has more than "
+        f"{BUDGET.octets:,} octets (`--budget-octets`)",
         f"Its questions are asked for {BUDGET.questions} seconds of a processor (`--budget-questions`)",
         f"or no worker of it, for {cluster.WAIT_SECONDS} seconds (`--wait`)",
         "With `--keys` the octets include the keys of TSIG: they go to the scheduler's machine and from there to those of the workers",
