@@ -9,6 +9,7 @@ import pathlib
 from typing import Any, Callable, List, NamedTuple, Optional, Tuple
 
 from .faults import Fault, Misused, OutOfMemory, Refused, Unavailable
+from .types import type_number
 from .verdict import Interval
 
 NAME, PATH = "libdnssec_check.so.1", "DNSSEC_CHECK_LIBRARY"
@@ -170,9 +171,7 @@ def timeline(given: Given, span: Interval, name: bytes, kind: int, detail: int, 
 def question_of(name: bytes, kind: int) -> Tuple[bytes, int]:
     if b"\0" in name:
         raise Misused("a name has an octet 0, which is written `\\000`")
-    if not 0 <= kind < 1 << 16:
-        raise Misused("a type is a number from 0 to 65535")
-    return name, kind
+    return name, type_number(kind)
 
 
 def judged(given: Given, name: bytes, kind: int, form: int, why: bool) -> Answer:

@@ -55,7 +55,12 @@ class Case:
         return self._judged(name, kind, True)
 
     def judge_all(self, questions: Iterable[Tuple[str, Kind]], explain: bool = False) -> List[Verdict]:
-        """The verdict on each question, in their order. The capture is read once for all of them."""
+        """The verdict on each question, in their order. The capture is read once for all of them. A name that is none
+        refuses the whole call, by the number of its line: that of the first question is 1.
+
+        >>> [each.verdict for each in Case(b"", b"", at=0).judge_all([("www.example.com", "A"), ("#", "AAAA")])]
+        ['Indeterminate', 'Indeterminate']
+        """
         text = "".join(line_of(absolute(name), type_number(kind)) for name, kind in questions)
         self.verify()
         answer = calls.judged_each(self.given, octets_of(text), calls.JSON, explain)
@@ -138,17 +143,25 @@ def lines_of(text: bytes) -> bytes:
 
 
 def absolute(name: str) -> str:
-    """The name with its last dot, which a backslash before it would make an octet of a label.
+    """The name with its last dot, which a backslash before it would make an octet of a label. No text is no name.
 
-    >>> absolute("www.example.com"), absolute("example.com."), absolute("a\\\\.")
-    ('www.example.com.', 'example.com.', 'a\\\\..')
+    >>> absolute("www.example.com"), absolute("example.com."), absolute("a\\\\."), absolute("")
+    ('www.example.com.', 'example.com.', 'a\\\\..', '')
     """
+    if not name:
+        return name
     backslashes = len(name) - 1 - len(name[:-1].rstrip("\\")) if name.endswith(".") else 1
     return name if backslashes % 2 == 0 else name + "."
 
 
 def line_of(name: str, kind: int) -> str:
-    """The line of a question, in which a name that begins with `#` isn't a comment."""
+    """The line of a question, in which a name that begins with `#` isn't a comment.
+
+    >>> line_of("www.example.com.", 1), line_of("#.", 28)
+    ('www.example.com. 1\\n', '\\\\#. 28\\n')
+    """
+    if "\n" in name:
+        raise Misused("a name has an end of a line, which is written `\\010`")
     return ("\\" if name.startswith("#") else "") + f"{name} {kind}\n"
 
 

@@ -21,12 +21,17 @@ def type_number(kind: Union[str, int]) -> int:
     >>> type_number("aaaa"), type_number("TYPE65"), type_number(16)
     (28, 65, 16)
     """
-    if isinstance(kind, int):
-        return kind
-    found = UNKNOWN.fullmatch(kind.upper())
+    number = kind if isinstance(kind, int) else number_of(kind)
+    if not 0 <= number < 1 << 16:
+        raise Misused("a type is a number from 0 to 65535")
+    return number
+
+
+def number_of(word: str) -> int:
+    found = UNKNOWN.fullmatch(word.upper())
     if found:
         return int(found[1])
     try:
-        return NUMBERS[kind.upper()]
+        return NUMBERS[word.upper()]
     except KeyError:
-        raise Misused(f"{kind!r} is no type that is known here: write its number, as TYPE65") from None
+        raise Misused(f"{word!r} is no type that is known here: write its number, as TYPE65") from None

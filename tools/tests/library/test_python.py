@@ -95,6 +95,19 @@ class InPython(unittest.TestCase):
         for name, kind in asked[:-1]:
             self.assertIn(case.judge(name, kind), case.judge_all(asked))
 
+    def test_a_name_that_is_none_refuses_all_questions_by_its_line(self):
+        for name in ("a..b", "a b", ""):
+            with self.assertRaises(self.module.Refused) as told:
+                self.case().judge_all([("www.bind.test", "A"), (name, "A")])
+            self.assertEqual((told.exception.number, told.exception.line), (803, 2))
+
+    def test_no_name_asks_another_question(self):
+        for asked in ([("www.bind.test. 1\n#", "AAAA")], [("www.bind.test", 1), ("a\n", 1)]):
+            self.assertRaises(self.module.Misused, self.case().judge_all, asked)
+        with self.assertRaises(self.module.Refused) as told:
+            self.case().judge("www.bind.test. 1\n#", "AAAA")
+        self.assertEqual(told.exception.number, 101)
+
     def test_the_messages_are_shown(self):
         self.assertEqual(self.case().messages().encode(), octets(CASE / "show.stdout"))
 
@@ -103,7 +116,7 @@ class InPython(unittest.TestCase):
             with self.assertRaises(self.module.Refused) as told:
                 self.case(**words).judge("www.bind.test")
             self.assertEqual((told.exception.number, told.exception.line), (number, line))
-        for name, number in (("a..b", 102), ("a" * 64, 103)):
+        for name, number in (("a..b", 102), ("a" * 64, 103), ("", 105)):
             with self.assertRaises(self.module.Refused) as told:
                 self.case().judge(name)
             self.assertEqual(told.exception.number, number)
@@ -111,8 +124,9 @@ class InPython(unittest.TestCase):
     def test_what_names_nothing_is_no_value(self):
         for at in (-1, 1 << 48, 1 << 64):
             self.assertRaises(ValueError, self.case(at=at).judge, "a")
-        for kind in (-1, 1 << 16, "NONE"):
-            self.assertRaises(ValueError, self.case().judge, "a", kind)
+        for kind in (-1, 1 << 16, "TYPE65536", "NONE"):
+            self.assertRaises(self.module.Misused, self.case().judge, "a", kind)
+            self.assertRaises(self.module.Misused, self.case().judge_all, [("a", kind)])
         self.assertRaises(ValueError, self.case().judge, "a\0b")
 
     def test_eight_threads_say_the_same(self):
