@@ -1,4 +1,5 @@
 """Questions to a capture, judged in process."""
+import threading
 from typing import Callable, Dict, Iterable, List, Optional, Tuple, Union
 
 from . import calls
@@ -20,6 +21,9 @@ class Case:
     program reads them, or by a `verifier`: it is called with the algorithm, the key, the data and the signature of each
     signature that counts, once, and answers whether that is good, or None where it can't tell. `keys` and `macs` open
     messages that are signed by shared keys (TSIG).
+
+    Threads may share a case: while one asks the verifier, the others wait. A case can be pickled where its verifier
+    can.
 
     >>> Case(b"", b"", at=0).judge("www.example.com", "A").verdict
     'Indeterminate'
@@ -45,6 +49,15 @@ class Case:
         )
         self._known: Dict[Unverified, Optional[bool]] = {}
         self._is_verified = verifier is None
+        self._lock = threading.RLock()
+
+    def __getstate__(self) -> Json:
+        """All but the lock, as it is while no thread asks the verifier."""
+        with self._lock:
+            return {**self.__dict__, "_known": dict(self._known), "_lock": None}
+
+    def __setstate__(self, state: Json) -> None:
+        self.__dict__.update(state, _lock=threading.RLock())
 
     def judge(self, name: str, kind: Kind = "A") -> Verdict:
         """The verdict on a name, which may go without its last dot, and a type: `"AAAA"`, `"TYPE65"` or a number."""
@@ -98,18 +111,20 @@ class Case:
 
     def verify(self) -> None:
         """Asks the verifier of each signature that counts, and keeps what it says. Judging does so by itself."""
-        if not self._is_verified:
-            self._ask(self.todo)
-            self._is_verified = True
+        with self._lock:
+            if not self._is_verified:
+                self._ask(self.todo)
+                self._is_verified = True
 
     def _ask(self, todo: Callable[[], List[Unverified]]) -> None:
         """Asks the verifier of those that it wasn't asked of before, and keeps what it says."""
         if self.verifier is None:
             return
-        fresh = {entry: self.verifier(*entry) for entry in dict.fromkeys(todo()) if entry not in self._known}
-        self._known.update(fresh)
-        said = "".join(statement_of(entry, is_good) for entry, is_good in fresh.items() if is_good is not None)
-        self.given = self.given._replace(statements=lines_of(self.given.statements or b"") + said.encode("ascii"))
+        with self._lock:
+            fresh = {entry: self.verifier(*entry) for entry in dict.fromkeys(todo()) if entry not in self._known}
+            self._known.update(fresh)
+            said = "".join(statement_of(entry, is_good) for entry, is_good in fresh.items() if is_good is not None)
+            self.given = self.given._replace(statements=lines_of(self.given.statements or b"") + said.encode("ascii"))
 
     def messages(self) -> str:
         """Every message with its question and records, as the program shows them.

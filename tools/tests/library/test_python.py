@@ -2,11 +2,14 @@
 import doctest
 import importlib
 import os
+import pickle
 import pkgutil
 import subprocess
 import sys
+import time
 import unittest
 from concurrent.futures import ThreadPoolExecutor
+from unittest import mock
 
 from tool import TOOLS
 from . import LIBRARY, SHARED
@@ -135,6 +138,29 @@ class InPython(unittest.TestCase):
         with ThreadPoolExecutor(THREADS) as pool:
             for found in pool.map(case.explain, ["www.bind.test"] * 200):
                 self.assertEqual(found, wanted)
+
+    def test_eight_threads_share_a_verifier_that_is_slow(self):
+        asked, statements = [], octets(CASE / "statements")
+
+        def says(*entry):
+            asked.append(entry)
+            time.sleep(0.02)
+            return self.module.verify(*entry)
+
+        wanted = self.case(statements=statements).judge("www.bind.test")
+        case = self.case(verifier=says)
+        with ThreadPoolExecutor(THREADS) as pool:
+            for found in pool.map(case.judge, ["www.bind.test"] * THREADS):
+                self.assertEqual(found, wanted)
+        self.assertEqual(len(asked), len(set(asked)))
+        self.assertEqual(len(asked), len(self.case().todo()))
+
+    def test_a_case_is_pickled_with_what_its_verifier_said(self):
+        case = self.case(verifier=self.module.verify)
+        for each in (case, pickle.loads(pickle.dumps(case))):
+            self.assertEqual(each.judge("www.bind.test").verdict, "SecureAnswer")
+        with mock.patch.object(case, "verifier", None):
+            self.assertEqual(pickle.loads(pickle.dumps(case)).judge("www.bind.test").verdict, "SecureAnswer")
 
     def test_the_docstrings_say_what_is_so(self):
         for found in pkgutil.iter_modules(self.module.__path__, "dnssec_check."):
