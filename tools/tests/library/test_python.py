@@ -67,6 +67,13 @@ class InPython(unittest.TestCase):
         self.assertEqual(self.case(verifier=lambda *entry: None).judge("www.bind.test").verdict, "Pending")
         self.assertEqual(self.case(verifier=lambda *entry: False).judge("www.bind.test").verdict, "Bogus")
 
+    def test_the_verifier_answers_none_where_it_can_not_tell(self):
+        self.assertIsNone(self.module.verify(1, b"", b"", b""))
+        self.assertIs(self.module.verify(13, b"", b"", b""), False)
+        with mock.patch.dict(sys.modules, {"dnssec_check_tools.verifying.curves": None}):
+            self.assertIsNone(self.module.verify(13, b"", b"", b""))
+            self.assertIs(self.module.verify(8, b"", b"", b""), False)
+
     def test_without_statements_it_says_what_is_to_be_verified(self):
         case = self.case()
         self.assertEqual(set(case.judge("www.bind.test").todo) - set(case.todo()), set())
