@@ -45,7 +45,13 @@ class Case:
             raise Misused("answers say all that was verified: they go without statements and a verifier")
         self.verifier = verifier
         self.given = calls.Given(
-            bytes(capture), octets_of(anchors), at, maybe(statements), maybe(keys), maybe(macs), maybe(answers)
+            bytes(capture),
+            octets_of(anchors),
+            calls.moment_of(at),
+            maybe(statements),
+            maybe(keys),
+            maybe(macs),
+            maybe(answers),
         )
         self._known: Dict[Unverified, Optional[bool]] = {}
         self._is_verified = verifier is None

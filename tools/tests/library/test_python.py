@@ -98,6 +98,17 @@ class InPython(unittest.TestCase):
         done = subprocess.run(words, env=place, capture_output=True, text=True, check=False)
         self.assertIn("Unavailable: DNSSEC_CHECK_LIBRARY is empty", done.stderr)
 
+    def test_no_library_is_one_that_lacks_a_call(self):
+        calls = importlib.import_module("dnssec_check.calls")
+        with mock.patch.dict(calls.TAKEN, {"never": []}), self.assertRaises(self.module.Unavailable) as told:
+            calls.library()
+        self.assertIn("dnssec_check_never", str(told.exception))
+
+    def test_the_module_may_lie_anywhere(self):
+        calls = importlib.import_module("dnssec_check.calls")
+        with mock.patch.object(calls, "__file__", "/dnssec_check/calls.py"):
+            self.assertEqual(calls.library().dnssec_check_version().decode(), self.module.version())
+
     def test_many_questions_are_answered_in_their_order(self):
         case = self.case(statements=octets(CASE / "statements"))
         asked = [("www.bind.test", "A"), ("www.bind.test", "AAAA"), ("#.bind.test", 1), ("a.", 1), ("www.bind.test", 46)]
@@ -133,7 +144,9 @@ class InPython(unittest.TestCase):
 
     def test_what_names_nothing_is_no_value(self):
         for at in (-1, 1 << 48, 1 << 64):
-            self.assertRaises(ValueError, self.case(at=at).judge, "a")
+            self.assertRaises(self.module.Misused, self.case, at=at)
+        for at in (time.time(), "1795348800", None):
+            self.assertRaises(TypeError, self.case, at=at)
         for kind in (-1, 1 << 16, "TYPE65536", "NONE"):
             self.assertRaises(self.module.Misused, self.case().judge, "a", kind)
             self.assertRaises(self.module.Misused, self.case().judge_all, [("a", kind)])

@@ -129,6 +129,7 @@ class Timelines(unittest.TestCase):
         for first, last in ((-1, TO), (FROM, 1 << 48), (1 << 64, TO)):
             self.assertRaises(ValueError, self.timeline, first, last)
             self.assertRaises(ValueError, self.case().todo, first=first, last=last)
+        self.assertRaises(TypeError, self.timeline, float(FROM), TO)
         for keys in (b"", b"a. hmac-sha256 AAAA\n"):
             self.assertRaises(ValueError, self.timeline, keys=keys)
         self.assertRaises(ValueError, self.case().timeline, "a\0b", first=FROM, last=TO)
