@@ -93,14 +93,22 @@ def verdict_of(line: bytes) -> Verdict:
     ('Bogus', False, ())
     """
     said: Json = json.loads(line)
-    del said["command"]
     said.setdefault("verdict", None)
-    said["aliases"] = tuple(Alias(**each) for each in said.get("aliases", ()))
-    said["records"] = tuple(Denying(**each) for each in said.get("records", ()))
+    said["aliases"] = tuple(Alias(**known(Alias, each)) for each in said.get("aliases", ()))
+    said["records"] = tuple(Denying(**known(Denying, each)) for each in said.get("records", ()))
     said["todo"] = tuple(unverified_of(each) for each in said.get("todo", ()))
     if "why" in said:
         said["why"] = tuple(said["why"])
-    return Verdict(**said)
+    return Verdict(**known(Verdict, said))
+
+
+def known(kind: type, said: Json) -> Json:
+    """What the class has a field for; a later version may say more.
+
+    >>> known(Denying, {"owner": "a.", "type": 47, "later": True})
+    {'owner': 'a.', 'type': 47}
+    """
+    return {name: value for name, value in said.items() if name in kind.__annotations__}
 
 
 def unverified_of(entry: Json) -> Unverified:
