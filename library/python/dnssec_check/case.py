@@ -70,7 +70,11 @@ class Case:
         return self._judged(name, kind, False)
 
     def explain(self, name: str, kind: Kind = "A") -> Verdict:
-        """The same, with why it stands or fails."""
+        """The same, with why it stands or fails.
+
+        >>> Case(b"", b"", at=0).explain("www.example.com", "A").reasons[0]["word"]
+        'no-anchor'
+        """
         return self._judged(name, kind, True)
 
     def judge_all(self, questions: Iterable[Tuple[str, Kind]], explain: bool = False) -> List[Verdict]:
@@ -116,7 +120,13 @@ class Case:
         return [unverified_of(entry) for entry in json_of(listed)["todo"]]
 
     def verify(self) -> None:
-        """Asks the verifier of each signature that counts, and keeps what it says. Judging does so by itself."""
+        """Asks the verifier of each signature that counts, and keeps what it says. Judging does so by itself.
+
+        >>> case = Case(b"", b"", at=0, verifier=lambda *entry: None)
+        >>> case.verify()
+        >>> case.todo()
+        []
+        """
         with self._lock:
             if not self._is_verified:
                 self._ask(self.todo)
