@@ -1,4 +1,5 @@
 """Questions to a capture, judged in process."""
+import json
 import threading
 from typing import Callable, Dict, Iterable, List, Optional, Tuple, Union
 
@@ -24,6 +25,9 @@ class Case:
 
     Threads may share a case: while one asks the verifier, the others wait. A case can be pickled where its verifier
     can.
+
+    The attribute `verifier` is that which was given, and `given` has all else; what the verifier said so far stands in
+    `given.statements`, behind those that were given.
 
     >>> Case(b"", b"", at=0).judge("www.example.com", "A").verdict
     'Indeterminate'
@@ -77,9 +81,10 @@ class Case:
         """
         return self._judged(name, kind, True)
 
-    def judge_all(self, questions: Iterable[Tuple[str, Kind]], explain: bool = False) -> List[Verdict]:
-        """The verdict on each question, in their order. The capture is read once for all of them. A name that is none
-        refuses the whole call, by the number of its line: that of the first question is 1.
+    def judge_all(self, questions: Iterable[Tuple[str, Kind]], *, explain: bool = False) -> List[Verdict]:
+        """The verdict on each question, in their order, by `explain` with why it stands or fails. The capture is read
+        once for all of them. A name that is none refuses the whole call, by the number of its line: that of the first
+        question is 1.
 
         >>> [each.verdict for each in Case(b"", b"", at=0).judge_all([("www.example.com", "A"), ("#", "AAAA")])]
         ['Indeterminate', 'Indeterminate']
@@ -224,7 +229,5 @@ def timeline(
 
 
 def json_of(answer: calls.Answer) -> Json:
-    import json
-
     found: Json = json.loads(answer.text)
     return found

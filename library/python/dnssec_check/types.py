@@ -4,7 +4,9 @@ from typing import Union
 
 from .faults import Misused
 
-# By the registry of IANA, without those that are obsolete or ask for several types.
+# By the registry of IANA. Left out are those that are obsolete or experimental, that stand in no zone or ask for
+# several types (OPT, TSIG, ANY), and that hardly a zone has (X25, ISDN, RT, NSAP, PX, ATMA, NID, L32, L64, LP, DSYNC,
+# AMTRELAY and others): they are asked for by number.
 TABLE = """
 A=1 NS=2 CNAME=5 SOA=6 PTR=12 HINFO=13 MX=15 TXT=16 RP=17 AFSDB=18 SIG=24 KEY=25 AAAA=28 LOC=29 SRV=33 NAPTR=35
 KX=36 CERT=37 DNAME=39 APL=42 DS=43 SSHFP=44 IPSECKEY=45 RRSIG=46 NSEC=47 DNSKEY=48 DHCID=49 NSEC3=50
