@@ -124,14 +124,18 @@ install: | $(program)
 	if test -e $(shared); then $(MAKE) install-library; fi
 
 # The library for C, as an archive and a shared library; docs/LIBRARY.md says how it is used. What it does is proved and built
-# by the kit; what of it C sees, and nothing else, is library/calls.c.
+# by the kit, where a crate changed since; what leads to it from C is library/calls.c.
 calls = crates/dnssec_check_c/out/libdnssec_check_c.a
+proved = $(shell find crates -name out -prune -o -path crates/dnsv_rows -prune -o -path crates/dnssec_check -prune -o \
+	'(' -name '*.rt' -o -name '*.antt' ')' -print 2> /dev/null)
 kit = $(dir $(shell rt doc))
-version = $(shell sed -n 's/^VERSION = "\([^"]*\)".*/\1/p' tools/$(package)/command.py)
+of_version = tools/$(package)/command.py
+version = $(shell sed -n 's/^VERSION = "\([^"]*\)".*/\1/p' $(of_version))
 library: $(made)/libdnssec_check.a $(shared)
 
-$(calls):
+$(calls): crates.txt $(proved)
 	cd crates/dnssec_check_c && rt lib
+	touch $@
 
 # What is proved, as one object; a test has calls.c over it that was compiled otherwise.
 $(made)/proved.o: $(calls)
@@ -139,7 +143,7 @@ $(made)/proved.o: $(calls)
 	$(LD) -r -o $@ --whole-archive $(calls) --no-whole-archive $(kit)c/liblibc_c.a
 
 # One object, in which only the calls of the header are seen.
-$(made)/dnssec_check.o: library/calls.c library/dnssec_check.h library/symbols $(made)/proved.o
+$(made)/dnssec_check.o: library/calls.c library/dnssec_check.h library/symbols $(of_version) $(made)/proved.o
 	$(CC) -std=c99 -O2 -fPIC -Wall -Wextra -Werror -DDNSSEC_CHECK_VERSION='"$(version)"' -c library/calls.c -o $(made)/calls.o
 	$(LD) -r -o $@ $(made)/calls.o $(made)/proved.o
 	objcopy --keep-global-symbols=library/symbols $@

@@ -1,6 +1,8 @@
 /*
- * The calls of the library as C has them, over those that are proved: here pointers are told from NULL, and nothing else.
- * The proved ones take no NULL, so that no octets are those of `none`.
+ * The calls of the library as C has them, over those that are proved. The proved ones take no NULL, so that no octets are
+ * those of `none`. Here a pointer that is NULL is told, and a length above what an object can have; a name gets its length,
+ * and `Options` what the case says by numbers and pointers; one question goes to its call and many to theirs, each argument
+ * to its place; and the version is said. None of this is proved: an argument in the wrong place tests alone would find.
  */
 #include <stdbool.h>
 #include <string.h>

@@ -4,13 +4,17 @@
  * Each call does what the program `dnssec_check` does by the command of its name, over octets in memory. No call keeps
  * anything, opens anything or waits for anything, and any number of them may run at the same time.
  *
- * A call that gives a text writes it into the caller's buffer, with no octet behind it, and answers the exit status of the
- * program. Where the buffer is too small it answers DNSSEC_CHECK_ROOM and writes nothing, and `outcome->length` is the room
- * that the text needs: so call once with some room, and once more where it didn't do.
+ * A call that gives a text writes it into the caller's buffer, in ASCII and with no NUL or other octet behind it, and answers
+ * the exit status of the program. Where the buffer is too small it answers DNSSEC_CHECK_ROOM and writes nothing, and
+ * `outcome->length` is the room that the text needs: so call once with some room, and once more where it didn't do. The
+ * buffer may be NULL where the room is 0, and the outcome may be NULL, which tells nothing.
  *
- * Octets that are passed are only read, and no buffer may overlap them. The functions malloc, realloc and free have to come
- * from one allocator, whose blocks are aligned as malloc's of C are. Call nothing here from a signal handler, nor in the
- * child of a fork whose parent had threads.
+ * A case begins as `dnssec_check_case given = {0};`, in which nothing is given. A name is text that ends with its last dot and
+ * then NUL, as "www.example." A type is its number, up to 65535.
+ *
+ * Octets that are passed are only read, and neither the buffer nor the outcome may overlap them, or each other. The functions
+ * malloc, realloc and free have to come from one allocator, whose blocks are aligned as malloc's of C are. Call nothing here
+ * from a signal handler, nor in the child of a fork whose parent had threads.
  */
 #ifndef DNSSEC_CHECK_H
 #define DNSSEC_CHECK_H
@@ -26,7 +30,9 @@ extern "C" {
 enum dnssec_check_status {
     DNSSEC_CHECK_DONE = 0,          /* the text is written; of a question: its answer, or its absence, is secure */
     DNSSEC_CHECK_FAILED = 1,        /* memory is wanting (number 90), or octets are too many (211) */
-    DNSSEC_CHECK_MISUSED = 2,       /* a number names nothing, the name isn't UTF-8, or keys are given that aren't taken */
+    DNSSEC_CHECK_MISUSED = 2,       /* nothing is asked so: a moment is above 2^48 - 1, a type above 65535, a number none of its
+                                       enum that the call takes, or the name not UTF-8; or answers are given where something
+                                       is listed, or keys for a timeline; the outcome is all 0 */
     DNSSEC_CHECK_INSECURE = 3,      /* the name may lie in a zone that isn't signed */
     DNSSEC_CHECK_PENDING = 4,       /* that depends on signatures that are still to be verified */
     DNSSEC_CHECK_BOGUS = 5,         /* nothing is proved at or below a trust anchor */
@@ -40,8 +46,8 @@ enum dnssec_check_status {
 
 /* How a text is written. */
 enum dnssec_check_format {
-    DNSSEC_CHECK_LINES = 0, /* lines */
-    DNSSEC_CHECK_JSON = 1   /* an object of JSON on a line, as docs/schema.json describes it */
+    DNSSEC_CHECK_LINES = 0, /* as lines that the manual page dnssec_check(1) describes */
+    DNSSEC_CHECK_JSON = 1   /* as an object of JSON on a line, which docs/schema.json describes */
 };
 
 /* What a list has. */
@@ -126,12 +132,12 @@ int dnssec_check_explain(const dnssec_check_case *given, const char *name, uint3
    signatures that end or begin between them; `detail` is of enum dnssec_check_detail. The moment of the case doesn't count.
    Answers by number are those of the compact list of just this range. Keys aren't taken, since a message that is signed by
    one opens within minutes only: where they are given, it answers DNSSEC_CHECK_MISUSED. A range is refused as above. The
-   status is 0, whatever the verdicts are. */
+   status is 0, whatever the verdicts are; but a question that is refused at every moment is refused. */
 int dnssec_check_timeline(const dnssec_check_case *given, uint64_t from, uint64_t to, const char *name, uint32_t type,
                           uint32_t detail, uint32_t format, void *buffer, size_t room, dnssec_check_outcome *outcome);
 
-/* Says what the case proves of each question of a text of lines `NAME TYPE`, one behind the other: the case is judged once,
-   and the status is the greatest of all. */
+/* Says what the case proves of each question of a text of lines `NAME TYPE`, one behind the other; TYPE is a number. The case
+   is read once, and the status is the greatest of all. */
 int dnssec_check_check_each(const dnssec_check_case *given, const dnssec_check_octets *questions, uint32_t format,
                             void *buffer, size_t room, dnssec_check_outcome *outcome);
 

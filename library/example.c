@@ -9,6 +9,7 @@ static dnssec_check_octets read_all(const char *path) {
     FILE *file = fopen(path, "rb");
     if (file == NULL || next == 3) exit(1);
     dnssec_check_octets octets = {room[next], fread(room[next], 1, sizeof room[next], file)};
+    if (ferror(file) || getc(file) != EOF) exit(1); /* unread, or longer than the room */
     next++;
     fclose(file);
     return octets;

@@ -36,7 +36,7 @@ def calls_of_library() -> Any:
     """The calls of the library of this version, None where it isn't installed."""
     try:
         calls = importlib.import_module(CALLS)
-    except (ImportError, AttributeError):  # a library that lacks a call is another version's
+    except ImportError:
         return None
     return calls if calls.version() == VERSION else None
 

@@ -67,6 +67,7 @@ class Package(unittest.TestCase):
                      "crates/dnsv_names/GUARANTEES.md"):
             self.assertIn(f"./usr/share/doc/dnssec-check/{name}", paths)
         self.assertIn("./usr/share/dnssec_check/schema.json", paths)
+        self.assertIn("./usr/lib/python3/dist-packages/dnssec_check_tools", paths)
         self.assertEqual([path for path in paths if "__pycache__" in path or "/tests" in path], [])
 
     def test_it_is_installed_used_and_removed(self):
@@ -89,6 +90,8 @@ class Package(unittest.TestCase):
         self.assertEqual(done("/usr/bin/dnssec_check-verify", DATA / "todo"), (DATA / "statements").read_text())
         shown = done("/usr/bin/dnssec_check", "show", "--capture", capture)
         self.assertEqual(shown.count("message "), 6)
+        asked = "import dnssec_check_tools.command as found; print(found.VERSION)"
+        self.assertEqual(done("/usr/bin/python3", "-I", "-c", asked), f"{VERSION}\n")
 
 
 if __name__ == "__main__":

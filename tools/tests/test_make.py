@@ -77,6 +77,33 @@ class Targets(unittest.TestCase):
             with self.subTest(target):
                 self.assertEqual(self.make("--dry-run", target, "PYTHON=/usr/bin/python3"), [line])
 
+    def test_the_library_is_proved_anew_where_a_crate_changed(self):
+        archive, below = "crates/dnssec_check_c/out/libdnssec_check_c.a", ("crates.txt", "crates/a/src/a.rt", "crates/a/specs/A.antt")
+        beside = ("crates/a/GUARANTEES.md", "crates/a/out/a.rt", "crates/dnsv_rows/src/a.rt", "crates/dnssec_check/src/a.rt")
+        for name in (archive, *below, *beside):
+            (self.room / name).parent.mkdir(parents=True, exist_ok=True)
+            (self.room / name).touch()
+        for newer in (archive, *below, *beside):
+            for name in (archive, *below, *beside):
+                os.utime(self.room / name, (0, 1000 + (name == archive) + 2 * (name == newer)))
+            with self.subTest(newer):
+                lines = self.make("--dry-run", archive)
+                self.assertEqual("cd crates/dnssec_check_c && rt lib" in lines, newer in below)
+
+    def test_the_library_is_made_anew_for_another_version(self):
+        made = "out/library/dnssec_check.o"
+        older = ("crates.txt", "crates/dnssec_check_c/out/libdnssec_check_c.a", "out/library/proved.o", "library/calls.c",
+                 "library/dnssec_check.h", "library/symbols")
+        for name in (made, *older):
+            (self.room / name).parent.mkdir(parents=True, exist_ok=True)
+            (self.room / name).touch()
+            os.utime(self.room / name, (0, 0))
+        told = (TOP / "tools/dnssec_check_tools/command.py").stat().st_mtime_ns
+        for when in (told - 1, told):
+            os.utime(self.room / made, ns=(when, when))
+            lines = self.make("--dry-run", made)
+            self.assertEqual(any("-DDNSSEC_CHECK_VERSION" in line for line in lines), when < told)
+
     def test_the_gate_comes_with_the_guards(self):
         self.assertEqual(self.make("--dry-run", "test"), ["tools/check --gate"])
 

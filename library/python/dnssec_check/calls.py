@@ -4,11 +4,13 @@ The library is that which the environment's DNSSEC_CHECK_LIBRARY names, and none
 `libdnssec_check.so.1`, unless there is one in the folder `lib` in which this module was put.
 """
 import ctypes
+import operator
 import os
 import pathlib
-from typing import Any, Callable, List, NamedTuple, Optional, Tuple
+from typing import Any, Callable, Dict, List, NamedTuple, Optional, SupportsIndex, Tuple
 
 from .faults import Fault, Misused, OutOfMemory, Refused, Unavailable
+from .types import type_number
 from .verdict import Interval
 
 NAME, PATH = "libdnssec_check.so.1", "DNSSEC_CHECK_LIBRARY"
@@ -69,30 +71,40 @@ class Given(NamedTuple):
     answers: Optional[bytes] = None
 
 
+_PLACE: List[Any] = [ctypes.c_void_p, ctypes.c_size_t, ctypes.POINTER(Outcome)]
+_CASE, _OCTETS, _NUMBER = ctypes.POINTER(CaseOctets), ctypes.POINTER(Octets), ctypes.c_uint32
+_RANGE: List[Any] = [ctypes.c_uint64, ctypes.c_uint64]
+# What each call takes, as the header has it.
+TAKEN: Dict[str, List[Any]] = {
+    "version": [],
+    "show": [_OCTETS, *_PLACE],
+    "list": [_CASE, _NUMBER, _NUMBER, *_PLACE],
+    "list_range": [_CASE, *_RANGE, _NUMBER, _NUMBER, *_PLACE],
+    "timeline": [_CASE, *_RANGE, ctypes.c_char_p, _NUMBER, _NUMBER, _NUMBER, *_PLACE],
+    "check": [_CASE, ctypes.c_char_p, _NUMBER, _NUMBER, *_PLACE],
+    "explain": [_CASE, ctypes.c_char_p, _NUMBER, _NUMBER, *_PLACE],
+    "check_each": [_CASE, _OCTETS, _NUMBER, *_PLACE],
+    "explain_each": [_CASE, _OCTETS, _NUMBER, *_PLACE],
+}
+
+
 def library() -> ctypes.CDLL:
     path = os.environ.get(PATH, NAME)
     if not path:
         raise Unavailable(f"{PATH} is empty")
-    beside = pathlib.Path(__file__).resolve().parents[3] / NAME  # behind lib/python3.N/site-packages/dnssec_check
+    here = pathlib.Path(__file__).resolve().parent  # as lib/python3.N/site-packages/dnssec_check
+    beside = (here / "../../..").resolve() / NAME
     try:
-        return ctypes.CDLL(path if path != NAME or not beside.exists() else str(beside))
-    except OSError as fault:
-        raise Unavailable(f"{path}: {fault}") from fault
+        found = ctypes.CDLL(path if path != NAME or not beside.exists() else str(beside))
+        for name, types in TAKEN.items():
+            getattr(found, f"dnssec_check_{name}").argtypes = types
+    except (OSError, AttributeError) as fault:  # the latter where it lacks a call, as an older one does
+        raise Unavailable(str(fault)) from fault
+    found.dnssec_check_version.restype = ctypes.c_char_p
+    return found
 
 
 LIBRARY = library()
-_PLACE: List[Any] = [ctypes.c_void_p, ctypes.c_size_t, ctypes.POINTER(Outcome)]
-_CASE, _OCTETS, _NUMBER = ctypes.POINTER(CaseOctets), ctypes.POINTER(Octets), ctypes.c_uint32
-_RANGE: List[Any] = [ctypes.c_uint64, ctypes.c_uint64]
-LIBRARY.dnssec_check_version.restype = ctypes.c_char_p
-LIBRARY.dnssec_check_show.argtypes = [_OCTETS, *_PLACE]
-LIBRARY.dnssec_check_list.argtypes = [_CASE, _NUMBER, _NUMBER, *_PLACE]
-LIBRARY.dnssec_check_list_range.argtypes = [_CASE, *_RANGE, _NUMBER, _NUMBER, *_PLACE]
-LIBRARY.dnssec_check_timeline.argtypes = [_CASE, *_RANGE, ctypes.c_char_p, _NUMBER, _NUMBER, _NUMBER, *_PLACE]
-LIBRARY.dnssec_check_check.argtypes = [_CASE, ctypes.c_char_p, _NUMBER, _NUMBER, *_PLACE]
-LIBRARY.dnssec_check_explain.argtypes = LIBRARY.dnssec_check_check.argtypes
-LIBRARY.dnssec_check_check_each.argtypes = [_CASE, _OCTETS, _NUMBER, *_PLACE]
-LIBRARY.dnssec_check_explain_each.argtypes = LIBRARY.dnssec_check_check_each.argtypes
 
 
 def octets_of(octets: bytes) -> Octets:
@@ -116,10 +128,16 @@ def case_of(given: Given) -> CaseOctets:
     )
 
 
-def moment_of(seconds: int) -> int:
-    if not 0 <= seconds < 1 << 64:
+def moment_of(seconds: SupportsIndex) -> int:
+    """The moment, which is a whole number: a TypeError says that it's none.
+
+    >>> moment_of(1795348800)
+    1795348800
+    """
+    moment = operator.index(seconds)
+    if not 0 <= moment < 1 << 48:
         raise Misused("a moment is a number of seconds from 0 to 2^48 - 1")
-    return seconds
+    return moment
 
 
 def range_of(span: Interval) -> Tuple[int, int]:
@@ -170,9 +188,7 @@ def timeline(given: Given, span: Interval, name: bytes, kind: int, detail: int, 
 def question_of(name: bytes, kind: int) -> Tuple[bytes, int]:
     if b"\0" in name:
         raise Misused("a name has an octet 0, which is written `\\000`")
-    if not 0 <= kind < 1 << 16:
-        raise Misused("a type is a number from 0 to 65535")
-    return name, kind
+    return name, type_number(kind)
 
 
 def judged(given: Given, name: bytes, kind: int, form: int, why: bool) -> Answer:
@@ -199,7 +215,7 @@ def answer(call: Callable[..., int], given: Given = Given(b"")) -> Answer:
     if outcome.number:
         raise fault_of(status, outcome, given)
     if status in (MISUSED, NULL):
-        raise Misused("an argument names nothing: a name that isn't UTF-8, or a moment above 2^48 - 1")
+        raise Misused("an argument names nothing, as a name that isn't UTF-8")
     return Answer(status, ctypes.string_at(buffer, outcome.length))
 
 

@@ -1,4 +1,6 @@
 """Questions to a capture, judged in process."""
+import json
+import threading
 from typing import Callable, Dict, Iterable, List, Optional, Tuple, Union
 
 from . import calls
@@ -21,6 +23,12 @@ class Case:
     signature that counts, once, and answers whether that is good, or None where it can't tell. `keys` and `macs` open
     messages that are signed by shared keys (TSIG).
 
+    Threads may share a case: while one asks the verifier, the others wait. A case can be pickled where its verifier
+    can.
+
+    The attribute `verifier` is that which was given, and `given` has all else; what the verifier said so far stands in
+    `given.statements`, behind those that were given.
+
     >>> Case(b"", b"", at=0).judge("www.example.com", "A").verdict
     'Indeterminate'
     """
@@ -41,21 +49,46 @@ class Case:
             raise Misused("answers say all that was verified: they go without statements and a verifier")
         self.verifier = verifier
         self.given = calls.Given(
-            bytes(capture), octets_of(anchors), at, maybe(statements), maybe(keys), maybe(macs), maybe(answers)
+            bytes(capture),
+            octets_of(anchors),
+            calls.moment_of(at),
+            maybe(statements),
+            maybe(keys),
+            maybe(macs),
+            maybe(answers),
         )
         self._known: Dict[Unverified, Optional[bool]] = {}
         self._is_verified = verifier is None
+        self._lock = threading.RLock()
+
+    def __getstate__(self) -> Json:
+        """All but the lock, as it is while no thread asks the verifier."""
+        with self._lock:
+            return {**self.__dict__, "_known": dict(self._known), "_lock": None}
+
+    def __setstate__(self, state: Json) -> None:
+        self.__dict__.update(state, _lock=threading.RLock())
 
     def judge(self, name: str, kind: Kind = "A") -> Verdict:
         """The verdict on a name, which may go without its last dot, and a type: `"AAAA"`, `"TYPE65"` or a number."""
         return self._judged(name, kind, False)
 
     def explain(self, name: str, kind: Kind = "A") -> Verdict:
-        """The same, with why it stands or fails."""
+        """The same, with why it stands or fails.
+
+        >>> Case(b"", b"", at=0).explain("www.example.com", "A").reasons[0]["word"]
+        'no-anchor'
+        """
         return self._judged(name, kind, True)
 
-    def judge_all(self, questions: Iterable[Tuple[str, Kind]], explain: bool = False) -> List[Verdict]:
-        """The verdict on each question, in their order. The capture is read once for all of them."""
+    def judge_all(self, questions: Iterable[Tuple[str, Kind]], *, explain: bool = False) -> List[Verdict]:
+        """The verdict on each question, in their order, by `explain` with why it stands or fails. The capture is read
+        once for all of them. A name that is none refuses the whole call, by the number of its line: that of the first
+        question is 1.
+
+        >>> [each.verdict for each in Case(b"", b"", at=0).judge_all([("www.example.com", "A"), ("#", "AAAA")])]
+        ['Indeterminate', 'Indeterminate']
+        """
         text = "".join(line_of(absolute(name), type_number(kind)) for name, kind in questions)
         self.verify()
         answer = calls.judged_each(self.given, octets_of(text), calls.JSON, explain)
@@ -92,19 +125,27 @@ class Case:
         return [unverified_of(entry) for entry in json_of(listed)["todo"]]
 
     def verify(self) -> None:
-        """Asks the verifier of each signature that counts, and keeps what it says. Judging does so by itself."""
-        if not self._is_verified:
-            self._ask(self.todo)
-            self._is_verified = True
+        """Asks the verifier of each signature that counts, and keeps what it says. Judging does so by itself.
+
+        >>> case = Case(b"", b"", at=0, verifier=lambda *entry: None)
+        >>> case.verify()
+        >>> case.todo()
+        []
+        """
+        with self._lock:
+            if not self._is_verified:
+                self._ask(self.todo)
+                self._is_verified = True
 
     def _ask(self, todo: Callable[[], List[Unverified]]) -> None:
         """Asks the verifier of those that it wasn't asked of before, and keeps what it says."""
         if self.verifier is None:
             return
-        fresh = {entry: self.verifier(*entry) for entry in dict.fromkeys(todo()) if entry not in self._known}
-        self._known.update(fresh)
-        said = "".join(statement_of(entry, is_good) for entry, is_good in fresh.items() if is_good is not None)
-        self.given = self.given._replace(statements=lines_of(self.given.statements or b"") + said.encode("ascii"))
+        with self._lock:
+            fresh = {entry: self.verifier(*entry) for entry in dict.fromkeys(todo()) if entry not in self._known}
+            self._known.update(fresh)
+            said = "".join(statement_of(entry, is_good) for entry, is_good in fresh.items() if is_good is not None)
+            self.given = self.given._replace(statements=lines_of(self.given.statements or b"") + said.encode("ascii"))
 
     def messages(self) -> str:
         """Every message with its question and records, as the program shows them.
@@ -138,17 +179,25 @@ def lines_of(text: bytes) -> bytes:
 
 
 def absolute(name: str) -> str:
-    """The name with its last dot, which a backslash before it would make an octet of a label.
+    """The name with its last dot, which a backslash before it would make an octet of a label. No text is no name.
 
-    >>> absolute("www.example.com"), absolute("example.com."), absolute("a\\\\.")
-    ('www.example.com.', 'example.com.', 'a\\\\..')
+    >>> absolute("www.example.com"), absolute("example.com."), absolute("a\\\\."), absolute("")
+    ('www.example.com.', 'example.com.', 'a\\\\..', '')
     """
+    if not name:
+        return name
     backslashes = len(name) - 1 - len(name[:-1].rstrip("\\")) if name.endswith(".") else 1
     return name if backslashes % 2 == 0 else name + "."
 
 
 def line_of(name: str, kind: int) -> str:
-    """The line of a question, in which a name that begins with `#` isn't a comment."""
+    """The line of a question, in which a name that begins with `#` isn't a comment.
+
+    >>> line_of("www.example.com.", 1), line_of("#.", 28)
+    ('www.example.com. 1\\n', '\\\\#. 28\\n')
+    """
+    if "\n" in name:
+        raise Misused("a name has an end of a line, which is written `\\010`")
     return ("\\" if name.startswith("#") else "") + f"{name} {kind}\n"
 
 
@@ -180,7 +229,5 @@ def timeline(
 
 
 def json_of(answer: calls.Answer) -> Json:
-    import json
-
     found: Json = json.loads(answer.text)
     return found

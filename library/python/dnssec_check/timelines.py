@@ -4,7 +4,7 @@ import json
 from dataclasses import dataclass
 from typing import Any, Dict, Iterator, List, NamedTuple, Optional, Tuple
 
-from .verdict import SECURE, Alias, Denying, Json
+from .verdict import SECURE, Alias, Denying, Json, known
 
 
 class Carrying(NamedTuple):
@@ -110,14 +110,14 @@ def timeline_of(text: bytes) -> Timeline:
     """
     said: Json = json.loads(text)
     intervals = tuple(map(interval_of, said["intervals"]))
-    edges = tuple(Edge(**each) for each in said["edges"])
+    edges = tuple(Edge(**known(Edge, each)) for each in said["edges"])
     return Timeline(said["name"], said["type"], said["from"], said["to"], intervals, edges)
 
 
 def interval_of(said: Json) -> VerdictInterval:
     told: Dict[str, Any] = {"verdict": None, **said}
     told["first"], told["last"] = told.pop("from"), told.pop("to")
-    told["aliases"] = tuple(Alias(**each) for each in said.get("aliases", ()))
-    told["records"] = tuple(Denying(**each) for each in said.get("records", ()))
-    told["by"] = tuple(Carrying(**each) for each in said.get("by", ()))
-    return VerdictInterval(**told)
+    told["aliases"] = tuple(Alias(**known(Alias, each)) for each in said.get("aliases", ()))
+    told["records"] = tuple(Denying(**known(Denying, each)) for each in said.get("records", ()))
+    told["by"] = tuple(Carrying(**known(Carrying, each)) for each in said.get("by", ()))
+    return VerdictInterval(**known(VerdictInterval, told))

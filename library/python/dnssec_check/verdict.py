@@ -44,7 +44,8 @@ class Verdict:
 
     `rrset` and `signature` are those of a secure answer, `records` those that deny, `cut` the name from which on
     nothing may be signed, `todo` what the verdict depends on. A question that is refused by itself has no verdict and
-    the number `refused`. `why` has the lines of an explanation, as objects of JSON.
+    the number `refused`. `why` has the lines of an explanation, each as `line` of docs/schema.json has it. Where none
+    was asked for it is None, and `reasons`, `holds` and `rrsets` are empty.
     """
 
     name: str
@@ -67,17 +68,27 @@ class Verdict:
 
     @property
     def reasons(self) -> List[Json]:
-        """Of an explanation, what has to be mended at least so that the question is answered or denied."""
+        """Of an explanation, what has to be mended at least so that the question is answered or denied. Each is a line
+        `reason` of docs/schema.json, with its `word`, its extended DNS error `ede`, and what it speaks of.
+
+        >>> said = {"line": "reason", "word": "no-anchor", "ede": 5, "zone": "a."}
+        >>> [(each["word"], each["zone"]) for each in Verdict("a.", 1, 0, "Indeterminate", 6, why=(said,)).reasons]
+        [('no-anchor', 'a.')]
+        """
         return self._lines("reason")
 
     @property
     def holds(self) -> List[Interval]:
-        """Of an explanation, from when to when the verdict holds."""
+        """Of an explanation, from when to when the verdict holds.
+
+        >>> Verdict("a.", 1, 4, "SecureAnswer", 0, why=({"line": "holds", "from": 3, "to": 9},)).holds
+        [Interval(first=3, last=9)]
+        """
         return [Interval(line["from"], line["to"]) for line in self._lines("holds")]
 
     @property
     def rrsets(self) -> List[Json]:
-        """Of an explanation, where the RRsets stand that it names."""
+        """Of an explanation, where the RRsets stand that it names: each is a line `rrset` of docs/schema.json."""
         return self._lines("rrset")
 
     def _lines(self, word: str) -> List[Json]:
@@ -93,14 +104,22 @@ def verdict_of(line: bytes) -> Verdict:
     ('Bogus', False, ())
     """
     said: Json = json.loads(line)
-    del said["command"]
     said.setdefault("verdict", None)
-    said["aliases"] = tuple(Alias(**each) for each in said.get("aliases", ()))
-    said["records"] = tuple(Denying(**each) for each in said.get("records", ()))
+    said["aliases"] = tuple(Alias(**known(Alias, each)) for each in said.get("aliases", ()))
+    said["records"] = tuple(Denying(**known(Denying, each)) for each in said.get("records", ()))
     said["todo"] = tuple(unverified_of(each) for each in said.get("todo", ()))
     if "why" in said:
         said["why"] = tuple(said["why"])
-    return Verdict(**said)
+    return Verdict(**known(Verdict, said))
+
+
+def known(kind: type, said: Json) -> Json:
+    """What the class has a field for; a later version may say more.
+
+    >>> known(Denying, {"owner": "a.", "type": 47, "later": True})
+    {'owner': 'a.', 'type': 47}
+    """
+    return {name: value for name, value in said.items() if name in kind.__annotations__}
 
 
 def unverified_of(entry: Json) -> Unverified:

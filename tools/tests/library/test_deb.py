@@ -37,6 +37,7 @@ class Packages(unittest.TestCase):
                 self.assertIn(f"_{VERSION}_", path.name)
                 subprocess.run(["dpkg-deb", "--extract", path, room], check=True)
             usr = pathlib.Path(room) / "usr"
+            self.assertEqual([path for path in usr.rglob("*") if not path.exists()], [])
             folder = next(usr.glob("lib/*/libdnssec_check.so.1")).parent
             self.assertEqual((folder / SHARED.name).read_bytes(), SHARED.read_bytes())
             files = [EXAMPLE / "capture", ANCHORS, EXAMPLE / "statements"]

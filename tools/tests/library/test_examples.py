@@ -1,5 +1,6 @@
-"""What the library says to each command line of the examples is what has to come of the program, octet for octet: from
-Python, and from C."""
+"""What the library says to each command line of the examples is what has to come of the program: octet for octet from Python's
+calls and from C, and as objects from a case."""
+import json
 import pathlib
 import shutil
 import subprocess
@@ -11,6 +12,7 @@ from . import LIBRARY, MADE, SHARED
 
 FORMS = {"--all": 2, "--compact": 1, "--kinds": 1}
 FILES = ("capture", "anchors", "statements", "answers", "keys", "macs", "questions")
+FIELDS = ("name", "type", "moment", "verdict", "status", "rrset", "signature", "cut", "refused")
 
 
 def asked():
@@ -71,6 +73,37 @@ class Examples(unittest.TestCase):
                     self.assertEqual(told, (example.status, example.output, example.errors))
         self.assertGreater(count, 800)
 
+    def test_each_question_is_answered_by_a_case(self):
+        from dnssec_check import Case, Fault
+
+        count = 0
+        for example, asked_for in judged():
+            count += 1
+            octets = {option: path.read_bytes() for option, path in example.files.items() if option != "questions"}
+            with self.subTest(example.name):
+                try:
+                    case = Case(octets.pop("capture"), octets.pop("anchors"), at=int(pairs_of(example)["--moment"]), **octets)
+                    told = self.verdicts(case, example, asked_for)
+                    self.assertEqual(example.errors, b"")
+                except Fault as fault:
+                    self.assertEqual((f"{fault}\n".encode(), b""), (example.errors, example.output))
+                    continue
+                lines = example.output.splitlines()
+                self.assertEqual(len(told), len(lines))
+                for found, said in zip(told, map(json.loads, lines)):
+                    self.assertEqual((found.is_secure, found.why is None), (said["status"] == 0, "why" not in said))
+                    self.assertEqual(object_of(found), {name: value for name, value in said.items() if name != "command" and value != []})
+        self.assertGreater(count, 200)
+
+    def verdicts(self, case, example, asked_for):
+        """All verdicts; one question is asked alone, and as many."""
+        why = example.words[0] == "explain"
+        if example.asks_many:
+            return case.judge_all(asked_for, explain=why)
+        found = (case.explain if why else case.judge)(*asked_for[0])
+        self.assertEqual(case.judge_all(asked_for, explain=why), [found])
+        return [found]
+
     @unittest.skipUnless(shutil.which("cc"), "needs cc")
     def test_each_command_line_is_answered_in_c(self):
         count = 0
@@ -85,6 +118,28 @@ class Examples(unittest.TestCase):
                     told = (done.returncode, done.stdout, done.stderr)
                     self.assertEqual(told, (example.status, example.output, example.errors))
         self.assertGreater(count, 800)
+
+
+def judged():
+    """The examples that judge names which end with their dot, in JSON, and what they ask for."""
+    for example in asked():
+        if example.words[0] in ("check", "explain") and example.is_json:
+            pairs = pairs_of(example)
+            if not example.asks_many:
+                if pairs["--name"].endswith("."):
+                    yield example, [(pairs["--name"], int(pairs["--type"]))]
+            elif example.output:
+                lines = example.files["questions"].read_text().splitlines()
+                yield example, [(line.split(" ")[0], int(line.split(" ")[1])) for line in lines if line and not line.startswith("#")]
+
+
+def object_of(found):
+    """The object of JSON that says a verdict, without what is empty."""
+    told = {name: getattr(found, name) for name in FIELDS}
+    told.update({name: [each._asdict() for each in getattr(found, name)] for name in ("aliases", "records")})
+    told["todo"] = [{name: each.hex() if isinstance(each, bytes) else each for name, each in entry._asdict().items()} for entry in found.todo]
+    told["why"] = list(found.why or ())
+    return {name: value for name, value in told.items() if value is not None and value != []}
 
 
 def words_of(example):

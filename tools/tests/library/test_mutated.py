@@ -14,7 +14,8 @@ from . import LIBRARY, MADE, SHARED
 
 EXAMPLES = TOOLS.parent / "examples"
 CASE = EXAMPLES / "bind-www-a"
-FILES = (CASE / "capture", EXAMPLES / "anchors", CASE / "statements")
+QUESTIONS, SIGNED = EXAMPLES / "questions-with-keys" / "questions", EXAMPLES / "tsig-named-nosuch"
+FILES = (CASE / "capture", EXAMPLES / "anchors", CASE / "statements", QUESTIONS, *(SIGNED / name for name in ("capture", "keys", "macs")))
 CALLS = int(os.environ.get("DNSSEC_CHECK_MUTATED", "500"))
 VALGRIND = ("valgrind", "--quiet", "--error-exitcode=99", "--leak-check=full", "--show-leak-kinds=all", "--errors-for-leak-kinds=all")
 HELGRIND = ("valgrind", "--tool=helgrind", "--quiet", "--error-exitcode=99")

@@ -69,6 +69,26 @@ class Timelines(unittest.TestCase):
                 count += 1
         self.assertGreater(count, 70)
 
+    def test_what_a_later_version_says_besides_is_passed_over(self):
+        from dnssec_check.timelines import timeline_of
+        from dnssec_check.verdict import verdict_of
+
+        def more(value):
+            if isinstance(value, dict):
+                return {**{name: more(each) for name, each in value.items()}, "later": 1}
+            return [more(each) for each in value] if isinstance(value, list) else value
+
+        kinds = set()
+        for example in examples():
+            if example.is_json and example.words[0] in ("check", "explain", "timeline") and not example.errors:
+                read = timeline_of if example.words[0] == "timeline" else verdict_of
+                for line in example.output.splitlines():
+                    said = json.loads(line)
+                    later = more({name: value for name, value in said.items() if name != "why"})
+                    self.assertEqual(read(json.dumps({**said, **later}).encode()), read(line))
+                    kinds.add(example.words[0])
+        self.assertEqual(len(kinds), 3)
+
     def test_each_moment_has_the_verdict_that_it_has_alone(self):
         statements = octets(CASE / "statements")
         found = self.timeline(statements=statements)
@@ -129,6 +149,7 @@ class Timelines(unittest.TestCase):
         for first, last in ((-1, TO), (FROM, 1 << 48), (1 << 64, TO)):
             self.assertRaises(ValueError, self.timeline, first, last)
             self.assertRaises(ValueError, self.case().todo, first=first, last=last)
+        self.assertRaises(TypeError, self.timeline, float(FROM), TO)
         for keys in (b"", b"a. hmac-sha256 AAAA\n"):
             self.assertRaises(ValueError, self.timeline, keys=keys)
         self.assertRaises(ValueError, self.case().timeline, "a\0b", first=FROM, last=TO)
