@@ -12,7 +12,7 @@ use Rattle.dnsv_files.specs.declared.status.Fault.{Fault}
 use Rattle.dnsv_files.specs.declared.status.Fault.TheVariants as fault
 use Rattle.dnsv_files.specs.declared.status.InputFile.{InputFile}
 use Rattle.dnsv_files.specs.declared.status.Status.{Status}
-use Rattle.dnssec_check_c.specs.Ends.{CallEnds, Ends, GivesText, TellsFault, TellsQuestion, in_memory, told_of_fault}
+use Rattle.dnssec_check_c.specs.Ends.{Ends, EndsAsAsked, GivesText, TellsFault, TellsQuestion, in_memory, told_of_fault}
 use Rattle.dnssec_check_c.specs.declared.outcome.Outcome.{Outcome}
 
 -- a text that was written behind nothing is given
@@ -71,6 +71,6 @@ question_told asked failed first is = λ refused so.
 
 -- a call ends as the request that it asks does
 pub request_ends : (Asks : Request → Type 0) (asked : Request) (files given : Files) {old new : List ℕ} {told : Outcome} {status : ℕ}
-    → Ends asked given old new told status → TellsQuestion asked told → given ≡ files → Asks asked → CallEnds Asks files old new told status
+    → Ends asked given old new told status → TellsQuestion asked told → given ≡ files → Asks asked → EndsAsAsked Asks files old new told status
 request_ends Asks asked files given {old = old} {new = new} {told = told} {status = status} ends question same asks =
-    inr (inl (asked, asks, question, subst (λ (each : Files). Ends asked each old new told status) same ends))
+    (asked, asks, question, subst (λ (each : Files). Ends asked each old new told status) same ends)

@@ -98,9 +98,18 @@ abbrev pub IsMisused : (Request → Type 0) → List ℕ → List ℕ → Outcom
 IsMisused Asks old new told status =
     ((request : Request) → Asks request → ⊥) × (told ≡ nothing_told) × (new ≡ old) × (status ≡ 2)
 
--- A call that asks so over these octets ends as the request does that asks so; or memory is wanting for its name.
+-- it ends as a request does that asks so
+abbrev pub EndsAsAsked : (Request → Type 0) → Files → List ℕ → List ℕ → Outcome → ℕ → Type 0
+EndsAsAsked Asks files old new told status =
+    (request : Request) × Asks request × TellsQuestion request told × Ends request files old new told status
+
+-- how a call ends that asks so over these octets
 abbrev pub CallEnds : (Request → Type 0) → Files → List ℕ → List ℕ → Outcome → ℕ → Type 0
-CallEnds Asks files old new told status =
+CallEnds Asks files old new told status = IsMisused Asks old new told status ⊎ EndsAsAsked Asks files old new told status
+
+-- The same of a call that copies a name. Where this is so, which is where something is asked, memory may be wanting for the copy.
+abbrev pub NamedCallEnds : Type 0 → (Request → Type 0) → Files → List ℕ → List ℕ → Outcome → ℕ → Type 0
+NamedCallEnds IsNamed Asks files old new told status =
     IsMisused Asks old new told status
-    ⊎ ((request : Request) × Asks request × TellsQuestion request told × Ends request files old new told status)
-    ⊎ TellsFault fault.OutOfMemory old new told status
+    ⊎ EndsAsAsked Asks files old new told status
+    ⊎ (IsNamed × TellsFault fault.OutOfMemory old new told status)
