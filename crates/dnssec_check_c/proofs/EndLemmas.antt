@@ -2,8 +2,8 @@
 use Rattle.std.proofs.Common.{◌≡◌, ℕ, List, [], ◌++◌, inl, inr, refl, subst, sym, ap, ◌∙◌, string_bytes}
 use Rattle.std.specs.Prelude.{Err, Result}
 use Rattle.dnsv_files.specs.Files.{Files}
-use Rattle.dnsv_files.specs.Files.Faults.{OfFailedRead, OfOctets}
-use Rattle.dnsv_program.specs.Run.{AsksRefused, IsFaultOfQuestion, IsFirstFault, IsReached, IsTextAskedFor, IsTimelineRefused}
+use Rattle.dnsv_files.specs.Files.Faults.{OfOctets}
+use Rattle.dnsv_program.specs.Run.{AsksRefused, IsFaultOfQuestion, IsFirstFault, IsTextAskedFor, IsTimelineRefused}
 use Rattle.dnsv_program.specs.Work.Timeline.{IsFaultOfRange}
 use Rattle.dnsv_commands.specs.declared.request.Asking.TheVariants as asking
 use Rattle.dnsv_commands.specs.declared.request.Request.{Request}
@@ -12,7 +12,7 @@ use Rattle.dnsv_files.specs.declared.status.Fault.{Fault}
 use Rattle.dnsv_files.specs.declared.status.Fault.TheVariants as fault
 use Rattle.dnsv_files.specs.declared.status.InputFile.{InputFile}
 use Rattle.dnsv_files.specs.declared.status.Status.{Status}
-use Rattle.dnssec_check_c.specs.Ends.{CallEnds, Ends, GivesText, TellsFault, TellsQuestion, in_memory, told_of_fault}
+use Rattle.dnssec_check_c.specs.Ends.{Ends, EndsAsAsked, GivesText, TellsFault, TellsQuestion, in_memory, told_of_fault}
 use Rattle.dnssec_check_c.specs.declared.outcome.Outcome.{Outcome}
 
 -- a text that was written behind nothing is given
@@ -25,15 +25,14 @@ text_ends asked files end text {old = old} {new = new} {told = told} {status = s
 
 -- a fault of a run is told
 pub fault_ends : (asked : Request) (files : Files) (failed : Fault) {old new : List ℕ} {told : Outcome} {status : ℕ}
-    → OfOctets (IsFirstFault asked files) failed → OfFailedRead (IsReached asked files) failed
-    → ((file : InputFile) → failed ≡ fault.OpenFailed file → ⊥) → TellsFault (in_memory failed) old new told status
-    → Ends asked files old new told status
-fault_ends asked files fault.OutOfMemory first reached opened tells = inr (inr tells)
-fault_ends asked files fault.WriteFailed first reached opened tells = inr (inr tells)
-fault_ends asked files (fault.ReadFailed file) first reached opened tells = inr (inl (fault.ReadFailed file, reached, tells))
-fault_ends asked files (fault.TooLong file) first reached opened tells = inr (inl (fault.TooLong file, first, tells))
-fault_ends asked files (fault.OpenFailed file) first reached opened tells = absurd (opened file refl)
-fault_ends asked files (fault.Refused why place) first reached opened tells = inr (inl (fault.Refused why place, first, tells))
+    → OfOctets (IsFirstFault asked files) failed → ((file : InputFile) → failed ≡ fault.OpenFailed file → ⊥)
+    → TellsFault (in_memory failed) old new told status → Ends asked files old new told status
+fault_ends asked files fault.OutOfMemory first opened tells = inr (inr tells)
+fault_ends asked files fault.WriteFailed first opened tells = inr (inr tells)
+fault_ends asked files (fault.ReadFailed file) first opened tells = inr (inr tells)
+fault_ends asked files (fault.TooLong file) first opened tells = inr (inl (fault.TooLong file, first, tells))
+fault_ends asked files (fault.OpenFailed file) first opened tells = absurd (opened file refl)
+fault_ends asked files (fault.Refused why place) first opened tells = inr (inl (fault.Refused why place, first, tells))
 
 -- a question is refused by a refusal, which is told as it is
 question_alone : (asked : List ℕ) (rtype : ℕ) (refused : Fault) → IsFaultOfQuestion asked rtype refused → in_memory refused ≡ refused
@@ -72,6 +71,6 @@ question_told asked failed first is = λ refused so.
 
 -- a call ends as the request that it asks does
 pub request_ends : (Asks : Request → Type 0) (asked : Request) (files given : Files) {old new : List ℕ} {told : Outcome} {status : ℕ}
-    → Ends asked given old new told status → TellsQuestion asked told → given ≡ files → Asks asked → CallEnds Asks files old new told status
+    → Ends asked given old new told status → TellsQuestion asked told → given ≡ files → Asks asked → EndsAsAsked Asks files old new told status
 request_ends Asks asked files given {old = old} {new = new} {told = told} {status = status} ends question same asks =
-    inr (inl (asked, asks, question, subst (λ (each : Files). Ends asked each old new told status) same ends))
+    (asked, asks, question, subst (λ (each : Files). Ends asked each old new told status) same ends)

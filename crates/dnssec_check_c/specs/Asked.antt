@@ -120,6 +120,23 @@ Judges asked held at form why (request.Timeline capture anchors from to spelled 
 Judges asked held at form why (request.Check capture anchors moment asks knows keys macs format whether) =
     (asks ≡ asked) × (knows ≡ held) × (moment ≡ at) × (format ≡ form) × (whether ≡ why)
 
+-- ---- names
+
+-- the text of the name is UTF-8, the type has 16 bits, and the options say by what it is known which signatures are good
+abbrev pub IsQuestionNamed : Options → List ℕ → ℕ → Type 0
+IsQuestionNamed options name rtype = IsUtf8 name × (rtype < 2 ^ 16) × ((knows : Known) × IsKnown knows options.verified)
+
+-- so is one question named for a moment
+abbrev pub IsOneNamed : Options → List ℕ → ℕ → Type 0
+IsOneNamed options name rtype =
+    IsQuestionNamed options name rtype × ((moment : ℕ) × (form : Format) × IsManner options moment form)
+
+-- and for each moment of a range
+abbrev pub IsTimelineNamed : Options → ℕ → ℕ → List ℕ → ℕ → ℕ → Type 0
+IsTimelineNamed options from to name rtype detail =
+    IsQuestionNamed options name rtype × ((kinds : Bool) × IsDetail kinds detail) × (options.has_keys ≡ false)
+    × ((first : ℕ) × (last : ℕ) × (form : Format) × IsSpan options from to first last form)
+
 -- ---- files
 
 abbrev pub shown_files : List ℕ → Files

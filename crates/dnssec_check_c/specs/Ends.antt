@@ -1,7 +1,7 @@
 -- How a call ends: what it writes and tells, and with which status.
 use Rattle.std.specs.Prelude.{◌≡◌, ◌⊎◌, ◌≤◌, ◌<◌, ◌++◌, ℕ, List, length, drop, unwrap_or}
 use Rattle.dnsv_files.specs.Files.{Files}
-use Rattle.dnsv_program.specs.Run.{AsksRefused, IsFirstFault, IsReached, IsTextAskedFor}
+use Rattle.dnsv_program.specs.Run.{AsksRefused, IsFirstFault, IsTextAskedFor}
 use Rattle.dnsv_files.specs.Status.{fault_code, fault_number, status_code}
 use Rattle.dnsv_commands.specs.declared.request.Request.{Request}
 use Rattle.dnsv_files.specs.declared.status.Fault.{Fault}
@@ -51,11 +51,11 @@ told_of_fault (fault.Refused why place) = record {
   file = 0;
 }
 
--- the fault of a run that writes into memory, where a failed write is want of it
+-- the fault of a run from memory into memory, where a failed write is want of it, and no read fails
 abbrev pub in_memory : Fault → Fault
 in_memory fault.WriteFailed = fault.OutOfMemory
 in_memory fault.OutOfMemory = fault.OutOfMemory
-in_memory (fault.ReadFailed file) = fault.ReadFailed file
+in_memory (fault.ReadFailed file) = fault.OutOfMemory
 in_memory (fault.TooLong file) = fault.TooLong file
 in_memory (fault.OpenFailed file) = fault.OpenFailed file
 in_memory (fault.Refused why place) = fault.Refused why place
@@ -73,12 +73,11 @@ GivesText end text old new told status = (told ≡ told_of_text (length text))
 abbrev pub TellsFault : Fault → List ℕ → List ℕ → Outcome → ℕ → Type 0
 TellsFault failed old new told status = (told ≡ told_of_fault failed) × (new ≡ old) × (status ≡ fault_code failed)
 
--- The fault is the first of the octets. That a read of octets never fails no clause of a reader says; such a fault would be
--- of octets that the request reads.
+-- the fault is the first of the octets: they are too many, or refused
 abbrev pub IsFaultOf : Request → Files → Fault → Type 0
 IsFaultOf request files fault.OutOfMemory = ⊥
 IsFaultOf request files fault.WriteFailed = ⊥
-IsFaultOf request files (fault.ReadFailed file) = IsReached request files file
+IsFaultOf request files (fault.ReadFailed file) = ⊥
 IsFaultOf request files (fault.TooLong file) = IsFirstFault request files (fault.TooLong file)
 IsFaultOf request files (fault.OpenFailed file) = ⊥
 IsFaultOf request files (fault.Refused why place) = IsFirstFault request files (fault.Refused why place)
@@ -99,9 +98,18 @@ abbrev pub IsMisused : (Request → Type 0) → List ℕ → List ℕ → Outcom
 IsMisused Asks old new told status =
     ((request : Request) → Asks request → ⊥) × (told ≡ nothing_told) × (new ≡ old) × (status ≡ 2)
 
--- A call that asks so over these octets ends as the request does that asks so; or memory is wanting for its name.
+-- it ends as a request does that asks so
+abbrev pub EndsAsAsked : (Request → Type 0) → Files → List ℕ → List ℕ → Outcome → ℕ → Type 0
+EndsAsAsked Asks files old new told status =
+    (request : Request) × Asks request × TellsQuestion request told × Ends request files old new told status
+
+-- how a call ends that asks so over these octets
 abbrev pub CallEnds : (Request → Type 0) → Files → List ℕ → List ℕ → Outcome → ℕ → Type 0
-CallEnds Asks files old new told status =
+CallEnds Asks files old new told status = IsMisused Asks old new told status ⊎ EndsAsAsked Asks files old new told status
+
+-- The same of a call that copies a name. Where this is so, which is where something is asked, memory may be wanting for the copy.
+abbrev pub NamedCallEnds : Type 0 → (Request → Type 0) → Files → List ℕ → List ℕ → Outcome → ℕ → Type 0
+NamedCallEnds IsNamed Asks files old new told status =
     IsMisused Asks old new told status
-    ⊎ ((request : Request) × Asks request × TellsQuestion request told × Ends request files old new told status)
-    ⊎ TellsFault fault.OutOfMemory old new told status
+    ⊎ EndsAsAsked Asks files old new told status
+    ⊎ (IsNamed × TellsFault fault.OutOfMemory old new told status)

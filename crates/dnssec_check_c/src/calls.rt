@@ -1,8 +1,8 @@
 //! What each call does.
 ghost use Rattle.std.specs.Prelude.{None, Some};
 ghost use Rattle.dnssec_check_c.specs.Asked.{AsksEach, AsksOne, AsksOverTime, AsksToList, AsksToListRange, AsksToShow, Judges};
-ghost use Rattle.dnssec_check_c.specs.Asked.{judged_files, listed_files, shown_files, timeline_files};
-ghost use Rattle.dnssec_check_c.specs.Ends.{CallEnds};
+ghost use Rattle.dnssec_check_c.specs.Asked.{IsOneNamed, IsTimelineNamed, judged_files, listed_files, shown_files, timeline_files};
+ghost use Rattle.dnssec_check_c.specs.Ends.{CallEnds, NamedCallEnds};
 
 use crate::octets::Octets;
 use crate::options::{Manner, Options, form_of, kinds_of, listing_of, type_of};
@@ -100,7 +100,8 @@ pub fn timeline<'a>(
     buffer: &mut [u8],
     outcome: &mut Outcome,
 ) -> u32
-    ensures { CallEnds (AsksOverTime options.now from to name.now rtype detail)
+    ensures { NamedCallEnds (IsTimelineNamed options.now from to name.now rtype detail)
+        (AsksOverTime options.now from to name.now rtype detail)
         (timeline_files options.now capture.now anchors.now verified.now)
         buffer.old buffer.new outcome.new result }
 {
@@ -151,7 +152,7 @@ pub fn check<'a>(
     buffer: &mut [u8],
     outcome: &mut Outcome,
 ) -> u32
-    ensures { CallEnds (AsksOne options.now name.now rtype)
+    ensures { NamedCallEnds (IsOneNamed options.now name.now rtype) (AsksOne options.now name.now rtype)
         (judged_files options.now capture.now anchors.now verified.now keys.now macs.now None)
         buffer.old buffer.new outcome.new result }
 {

@@ -1,8 +1,8 @@
 //! The exports. C gives each slice as a pointer, which is never null, and a length.
 ghost use Rattle.std.specs.Prelude.{None, Some};
 ghost use Rattle.dnssec_check_c.specs.Asked.{AsksEach, AsksOne, AsksOverTime, AsksToList, AsksToListRange, AsksToShow};
-ghost use Rattle.dnssec_check_c.specs.Asked.{judged_files, listed_files, shown_files, timeline_files};
-ghost use Rattle.dnssec_check_c.specs.Ends.{CallEnds};
+ghost use Rattle.dnssec_check_c.specs.Asked.{IsOneNamed, IsTimelineNamed, judged_files, listed_files, shown_files, timeline_files};
+ghost use Rattle.dnssec_check_c.specs.Ends.{CallEnds, NamedCallEnds};
 
 use crate::calls::{check, check_each, list, list_range, show, timeline};
 use crate::options::Options;
@@ -79,7 +79,8 @@ pub extern "C" fn dnssec_check_c_timeline(
     buffer: &mut [u8],
     outcome: &mut Outcome,
 ) -> u32
-    ensures { CallEnds (AsksOverTime options.now from to name.now rtype detail)
+    ensures { NamedCallEnds (IsTimelineNamed options.now from to name.now rtype detail)
+        (AsksOverTime options.now from to name.now rtype detail)
         (timeline_files options.now capture.now anchors.now verified.now)
         buffer.old buffer.new outcome.new result }
 {
@@ -103,7 +104,7 @@ pub extern "C" fn dnssec_check_c_check(
     buffer: &mut [u8],
     outcome: &mut Outcome,
 ) -> u32
-    ensures { CallEnds (AsksOne options.now name.now rtype)
+    ensures { NamedCallEnds (IsOneNamed options.now name.now rtype) (AsksOne options.now name.now rtype)
         (judged_files options.now capture.now anchors.now verified.now keys.now macs.now None)
         buffer.old buffer.new outcome.new result }
 {

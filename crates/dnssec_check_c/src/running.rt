@@ -30,16 +30,16 @@ pub fn run_over(
     }
 }
 
-/// The fault of a run into a `Vec`, which takes no octets only where it gets no memory.
+/// The fault of a run over slices, which are read without fail, into a `Vec`, which takes no octets only where it gets no
+/// memory.
 fn in_memory(fault: Fault) -> Fault
     ensures { result ≡ specs.in_memory fault }
 {
     match fault {
         Fault::WriteFailed => Fault::OutOfMemory,
-        Fault::OutOfMemory
-        | Fault::ReadFailed(_)
-        | Fault::TooLong(_)
-        | Fault::OpenFailed(_)
-        | Fault::Refused(_, _) => fault,
+        Fault::ReadFailed(_) => Fault::OutOfMemory,
+        Fault::OutOfMemory | Fault::TooLong(_) | Fault::OpenFailed(_) | Fault::Refused(_, _) => {
+            fault
+        }
     }
 }

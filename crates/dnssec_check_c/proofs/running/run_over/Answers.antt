@@ -18,8 +18,7 @@ returns-clause-ends c =
     let files = files_of c.args.octets.now in
     let told = c.refuse.ensures.told ∙ ap told_of_fault c.in_memory.ensures in
     fault_ends c.args.request.now files c.in-Err.fault (c.in-Err.ensures.faults.first files c.readers.ensures)
-    (c.in-Err.ensures.reached files c.readers.ensures) c.in-Err.ensures.faults.reads.opened
-    (told, refl, c.refuse.ensures.status ∙ ap fault_code c.in_memory.ensures)
+    c.in-Err.ensures.faults.reads.opened (told, refl, c.refuse.ensures.status ∙ ap fault_code c.in_memory.ensures)
 
 pub returns-clause-question : goal.returns-clause-question
 returns-clause-question c =
