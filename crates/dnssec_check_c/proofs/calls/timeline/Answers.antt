@@ -8,7 +8,7 @@ use Rattle.dnssec_check_c.proofs.calls.timeline.Goals as goal
 pub returns-in_default-from_str : goal.returns-in_default-from_str
 returns-in_default-from_str c =
     let question : IsQuestionNamed c.args.options.now c.args.name.now c.args.rtype =
-        (c.in-Ok.ensures.cases.1, c.in-Some-type_of.ensures.0, (c.in-Some-known.known, c.in-Some-known.ensures)) in
+    (c.in-Ok.ensures.cases.1, c.in-Some-type_of.ensures.0, (c.in-Some-known.known, c.in-Some-known.ensures)) in
     inr (inr (
       (
         question,
