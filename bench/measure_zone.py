@@ -127,12 +127,13 @@ def measure(folder: pathlib.Path, hosts: int) -> bool:
     left = [each for each in zone.records if (each.owner, each.kind) != (lost, "A")]
     without = judged(folder, Zone(left, zone.anchor))
     say(f"without {lost} A", without)
-    told = f"{lost} A: Bogus"
+    verdict, sentence = f"{lost} A: Bogus", f"  FAIL {lost} A: nobody asked for it, or its answer was lost"
     if len(left) + 1 != len(zone.records) or whole.status != SECURE:
         command.tell(f"the whole zone: status {whole.status}")
         return False
-    if without.status != BOGUS or not any(line.startswith(told) for line in without.lines):
-        command.tell(f"without {lost} A: status {without.status}, and not {BOGUS} with the line {told}")
+    is_told = without.lines[:1] == [verdict] and any(line.startswith(sentence) for line in without.lines)
+    if without.status != BOGUS or not is_told:
+        command.tell(f"without {lost} A: status {without.status}, and not {BOGUS} with `{verdict}` and its sentence")
         return False
     return True
 

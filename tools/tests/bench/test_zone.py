@@ -38,7 +38,7 @@ class Zone(unittest.TestCase):
         lines = said.getvalue().splitlines()
         self.assertEqual(status, 0, lines)
         self.assertIn("  zone big.test.: 22 names, 68 questions to 1 capture", lines)
-        self.assertTrue(any(line.startswith("  h10.big.test. A: Bogus") for line in lines), lines)
+        self.assertIn("  h10.big.test. A: Bogus", lines)
         self.assertEqual([line.split(":")[0] for line in lines if line.endswith("by the clock")],
                          ["all of it", "without h10.big.test. A"])
 
