@@ -5,6 +5,7 @@ use Rattle.dnsv_names.specs.Name.{Labels}
 use Rattle.dnsv_canonical.specs.declared.number.SignatureNumber.{SignatureNumber}
 use Rattle.dnsv_canonical.proofs.OrderLemmas.{each_of}
 use Rattle.dnsv_verifier.proofs.NumberLemmas.{contains_map}
+use Rattle.dnsv_verifier.specs.Admissible.{DnskeyRecord}
 use Rattle.dnsv_verifier.specs.declared.entry.Entry.{Entry}
 use Rattle.dnsv_verdict.specs.declared.link.Link.{Link}
 use Rattle.dnsv_verdict.specs.declared.verdict.Verdict.{Verdict}
@@ -14,12 +15,14 @@ use Rattle.dnsv_derivations.specs.Explained.{Explained, Setting, setting_in}
 use Rattle.dnsv_derivations.specs.Places.{ArePlacesTold}
 use Rattle.dnsv_derivations.specs.Saying.{AreBoth, AreEach}
 use Rattle.dnsv_derivations.specs.derivations.OwnDerivations.{IsSignatureTold}
+use Rattle.dnsv_derivations.specs.derivations.WaySearch.{AreKeysInOrder}
 use Rattle.dnsv_lines.specs.declared.line.Line.{Line}
 use Rattle.dnsv_lines.specs.declared.line.Line.TheVariants as line
 use Rattle.dnsv_explain.specs.Explained.{hoped}
 use Rattle.dnsv_explain.specs.Explanation.{IsEnd, IsEndTold, IsExplanation, IsFailureTold, IsHoldingTold, IsHopeTold, IsLinkTold, IsSetTold, IsSettledTold, IsVerdictTold, IsWayTold, asking_in, its_setting, signature_of}
 use Rattle.dnsv_explain.specs.Explanation.IsSetTold.{as_owned, by_wildcard}
 use Rattle.dnsv_explain.specs.KeyLines.{AreLinesOfKeysAsked, AreLinesOfSet, IsInQuestion, IsKeyLine}
+use Rattle.dnsv_explain.specs.Listing.{AreOfNumbered}
 use Rattle.dnsv_explain.proofs.lemmas.keys.EachLemmas.{Each, both_each, mapped_each, numbered_each, one_each, where_each}
 use Rattle.dnsv_explain.proofs.lemmas.telling.ExplanationLemmas.{explanation_follows}
 use Rattle.dnsv_explain.proofs.lemmas.telling.FaultLemmas.{IsFault, failures_fault}
@@ -107,7 +110,10 @@ module _ (setting : Setting) (links : List Link) (last : Labels) (t : ℕ) (all 
   keys_so : (reasons lines : List Line) → AreLinesOfKeysAsked setting reasons lines → Are lines
   keys_so reasons lines are =
       numbered_each (So setting here all) (AreLinesOfSet setting reasons) setting.rrsets lines are
-      (λ k set some at told. where_each (So setting here all) ((set.rtype ≡ 48) × IsInQuestion reasons set.owner) _ some told
+      (λ k set some at told.
+      let Keys : List Line → Type 0 = λ more.
+      (keys : List DnskeyRecord) × AreKeysInOrder set keys × AreOfNumbered (IsKeyLine setting k set) 1 keys more in
+      where_each (So setting here all) ((set.rtype ≡ 48) × IsInQuestion reasons set.owner) Keys some told
       (λ holds more listed. numbered_each (So setting here all) (IsKeyLine setting k set) listed.0 more listed.2
       (λ place key few there shown. one_each (So setting here all) (line.Key shown.0) few shown.2 tt)))
 
@@ -121,18 +127,18 @@ module _ (setting : Setting) (links : List Link) (last : Labels) (t : ℕ) (all 
 -- ---- the whole
 
 module _ (explained : Explained) (t : ℕ) (links : List Link) (last : Labels) (all : List Line) where
-  abbrev asked : Asked
-  asked = asked_by links last t
+  abbrev question : Asked
+  question = asked_by links last t
 
   abbrev Hold : List Line → Type 0
-  Hold lines = (each : Line) → Contains lines each → IsSoFor explained.rrsets asked all each
+  Hold lines = (each : Line) → Contains lines each → IsSoFor explained.rrsets question all each
 
   hope_so : (unknown : List Entry) (before lines : List Line) → IsHopeTold explained last t unknown before lines → AreWithin (before ++ lines) all
       → Hold lines
   hope_so unknown before lines told within =
       let then : Setting = setting_in (hoped explained unknown) in
-      both_so then asked all (λ old new. new ≡ line.Hope told.kind ∷ []) (IsSettledTold then last t told.verdict) before lines told.told within
-      (λ inside. one_each (So then asked all) (line.Hope told.kind) told.told.first told.told.says_first tt)
+      both_so then question all (λ old new. new ≡ line.Hope told.kind ∷ []) (IsSettledTold then last t told.verdict) before lines told.told within
+      (λ inside. one_each (So then question all) (line.Hope told.kind) told.told.first told.told.says_first tt)
       (λ back. settled_so then links last t all told.verdict (before ++ told.told.first) told.told.second told.told.says_second back)
 
   verdict_so : (verdict : Verdict) (before lines : List Line) → IsVerdictTold explained last t verdict before lines
@@ -143,8 +149,8 @@ module _ (explained : Explained) (t : ℕ) (links : List Link) (last : Labels) (
   verdict_so (SecureNoData proof) before lines told within = settled_so (setting_in explained) links last t all (SecureNoData proof) before lines told within
   verdict_so (Insecure cut) before lines told within = settled_so (setting_in explained) links last t all (Insecure cut) before lines told within
   verdict_so (Pending unknown) before lines told within = hope_so unknown before lines told within
-  verdict_so Bogus before lines told within = held_so (setting_in explained) asked all last before lines told
-  verdict_so Indeterminate before lines told within = held_so (setting_in explained) asked all last before lines told
+  verdict_so Bogus before lines told within = held_so (setting_in explained) question all last before lines told
+  verdict_so Indeterminate before lines told within = held_so (setting_in explained) question all last before lines told
 
   last_so : (verdict : Verdict) (before lines : List Line) → IsEndTold explained verdict before lines → Hold lines
   last_so (SecureAnswer k s) before lines told = end_so (setting_in explained) links last t all before lines told
@@ -160,8 +166,8 @@ module _ (explained : Explained) (t : ℕ) (links : List Link) (last : Labels) (
       → AreWithin (before ++ lines) all → Hold lines
   holding_so verdict before lines told within =
       let here : Setting = setting_in explained in
-      both_so here asked all (IsWayTold explained t links last verdict) (IsEndTold explained verdict) before lines told within
-      (λ front. both_so here asked all (AreEach (IsLinkTold here) links) (IsVerdictTold explained last t verdict) before told.first told.says_first front
+      both_so here question all (IsWayTold explained t links last verdict) (IsEndTold explained verdict) before lines told within
+      (λ front. both_so here question all (AreEach (IsLinkTold here) links) (IsVerdictTold explained last t verdict) before told.first told.says_first front
       (λ inside. links_so here links last t all before told.says_first.first told.says_first.says_first inside)
       (λ back. verdict_so verdict (before ++ told.says_first.first) told.says_first.second told.says_first.says_second back))
       (λ back. last_so verdict (before ++ told.first) told.second told.says_second)
@@ -169,7 +175,7 @@ module _ (explained : Explained) (t : ℕ) (links : List Link) (last : Labels) (
   failed_so : (verdict : Verdict) (lines : List Line)
       → AreBoth (IsFailureTold (setting_in explained) last t) (IsHoldingTold explained t links last verdict) [] lines → AreWithin lines all → Hold lines
   failed_so verdict lines told within =
-      both_so (setting_in explained) asked all (IsFailureTold (setting_in explained) last t) (IsHoldingTold explained t links last verdict) [] lines told
+      both_so (setting_in explained) question all (IsFailureTold (setting_in explained) last t) (IsHoldingTold explained t links last verdict) [] lines told
       within
       (λ front. failure_so (setting_in explained) links last t all [] told.first told.says_first)
       (λ back. holding_so verdict told.first told.second told.says_second back)

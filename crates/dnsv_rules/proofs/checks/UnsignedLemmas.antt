@@ -36,9 +36,9 @@ module _ (setting : Setting) (aliases : List Labels) (name : Labels) (t : ℕ) (
   Are lines = Each (So setting here all) lines
 
   -- the name of a case is at or above the question's
-  case_so : (kind : InsecureCase) (labels : ℕ) (zone : Option Labels) (before lines : List Line)
-      → IsCaseTold kind (rightmost name labels) zone before lines → Are lines
-  case_so kind labels zone before lines told =
+  case_so : (kind : InsecureCase) (labels : ℕ) (of_zone : Option Labels) (before lines : List Line)
+      → IsCaseTold kind (rightmost name labels) of_zone before lines → Are lines
+  case_so kind labels of_zone before lines told =
       let Above : Labels → Type 0 = λ each. IsAtOrBelow name each in
       one_each (So setting here all) (line.Case told.cut) lines told.are (subst Above (sym told.is_name) (rightmost_above name labels))
 
