@@ -1,0 +1,4 @@
+-- What a text needs so that it checks.
+pub mod PartLemmas
+pub mod RecordLemmas
+pub mod SignerLemmas

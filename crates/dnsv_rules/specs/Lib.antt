@@ -1,0 +1,5 @@
+pub mod Checked
+pub mod Explained
+pub mod Planted
+pub mod Told
+pub mod Truth
