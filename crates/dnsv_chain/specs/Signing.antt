@@ -1,5 +1,5 @@
 -- Signatures that are good under some keys. No public clause cites this module.
-use Rattle.std.specs.Prelude.{◌≡◌, ◌≤◌, ◌↔◌, ℕ, List, Contains}
+use Rattle.std.specs.Prelude.{◌≡◌, ◌≤◌, ◌↔◌, ℕ, IsTrue, IfSome, List, Contains}
 use Rattle.std.specs.List.Sorted.{IsStrictlyIncreasing}
 use Rattle.dnsv_names.specs.Name.{Labels}
 use Rattle.dnsv_records.specs.Rrsig.{IsRrsig}
@@ -10,6 +10,21 @@ use Rattle.dnsv_verifier.specs.declared.answer.Answer.{Answer}
 use Rattle.dnsv_verifier.specs.declared.answer.Answer.TheVariants.{Valid}
 use Rattle.dnsv_verifier.specs.declared.entry.Entry.{Entry}
 use Rattle.dnsv_chain.specs.Trusted.{IsSignedUnder}
+use Rattle.dnsv_chain.specs.declared.signing.answered.AnsweredRrset.{AnsweredRrset}
+use Rattle.dnsv_chain.specs.declared.signing.answered.AnsweredRrsets.{AnsweredRrsets}
+
+-- where the table knows the RRsets by their numbers, they are those of its evidence
+abbrev pub AreItsRrsets : AnsweredRrsets → Type 0
+AreItsRrsets answered = IsTrue answered.by_number → answered.table.now.rrsets ≡ answered.rrsets.now
+
+-- where the table knows the RRset by a number, it is the one with that number in its evidence
+abbrev pub IsItsNumber : AnsweredRrset → Type 0
+IsItsNumber answered =
+    IfSome answered.number (λ number. IsNumbered answered.table.now.rrsets number answered.rrset.now)
+
+-- the signature has the number in the RRset
+abbrev pub IsSignatureAt : ReceivedRrset → ℕ → Rrsig → Type 0
+IsSignatureAt rrset number rrsig = (rdata : List ℕ) × IsNumbered rrset.signatures number rdata × IsRrsig rdata rrsig
 
 -- one of the keys may have made the signature
 pub record MayHaveMadeOne (keys : List DnskeyRecord) (rrsig : Rrsig) : Type 0 where

@@ -5,6 +5,7 @@ ghost use Rattle.dnsv_verifier.specs.Table.{table_answer};
 ghost use Rattle.dnsv_chain.specs.ByOwner.{rrsets_at, values_at};
 ghost use Rattle.dnsv_chain.specs.Trust.{IsTrustOf};
 ghost use Rattle.dnsv_chain.specs.Chain.{AddsDelegation, AddsKeys, AddsTrusted, AreKeysByOwner, AreKeysOfSet, AreKnown, AreVouched, IsSignedByVouched, IsVouchedFor};
+ghost use Rattle.dnsv_chain.specs.Signing.{AreItsRrsets, IsItsNumber};
 
 use crate::anchors::Anchors;
 use crate::by_owner::key::OwnerKey;
@@ -12,6 +13,7 @@ use crate::by_owner::{ByOwner, add, at};
 use crate::by_rdata::ByRdata;
 use crate::delegated::is_delegated;
 use crate::order::{Step, steps};
+use crate::signing::answered::{AnsweredRrset, AnsweredRrsets};
 use crate::signing::{TrustedKeys, good_numbers, is_signed_under_some};
 use crate::trust::Trust;
 use dnsv_canonical::{Capture, Rrset, SigningRoom};
@@ -31,8 +33,45 @@ pub fn trusted<'c>(
     ensures { IfOk result (IsTrustOf (table_answer table.now) table.now.moment capture.now.rrsets anchors.now) }
 {
     let rrsets = capture.rrsets();
-    let keys = trusted_keys(alloc, rrsets, anchors, table)?;
-    Ok(Trust::of(alloc, table, rrsets, &keys)?)
+    let answered = AnsweredRrsets {
+        rrsets,
+        table,
+        by_number: false,
+    };
+    Ok(trust_by(alloc, &answered, anchors)?)
+}
+
+/// The trust that the evidence which the table is of gives at its moment, under the anchors and its answers (RFC 4035 5).
+/// It is that of `trusted`, in less time: the table knows the signatures by their numbers, so that no signed data is made
+/// for them again.
+pub fn trust_of<'c>(
+    alloc: Global,
+    anchors: &Anchors<'_>,
+    table: &Table<'c>,
+) -> Result<Trust<'c>, AllocError>
+    ensures { IfOk result (IsTrustOf (table_answer table.now) table.now.moment table.now.rrsets anchors.now) }
+{
+    let rrsets = table.rrsets();
+    let answered = AnsweredRrsets {
+        rrsets,
+        table,
+        by_number: true,
+    };
+    Ok(trust_by(alloc, &answered, anchors)?)
+}
+
+/// The trust that these RRsets give, under the anchors and the answers of the table.
+fn trust_by<'c>(
+    alloc: Global,
+    answered: &AnsweredRrsets<'_, 'c>,
+    anchors: &Anchors<'_>,
+) -> Result<Trust<'c>, AllocError>
+    requires { AreItsRrsets answered.now }
+    ensures { IfOk result (IsTrustOf (table_answer answered.now.table.now) answered.now.table.now.moment
+        answered.now.rrsets.now anchors.now) }
+{
+    let keys = trusted_keys(alloc, answered, anchors)?;
+    Ok(Trust::of(alloc, answered, &keys)?)
 }
 
 /// DS RRsets by owner that have a signature good under a key of a trusted RRset.
@@ -45,38 +84,36 @@ type KnownKeys<'a> = BTreeSet<(OwnerKey<'a>, ByRdata<'a>)>;
 /// ancestor, whose RRsets have been looked at before.
 fn trusted_keys<'a>(
     alloc: Global,
-    rrsets: &'a [Rrset<'a>],
+    answered: &AnsweredRrsets<'_, 'a>,
     anchors: &Anchors<'_>,
-    table: &Table<'_>,
 ) -> Result<TrustedKeys<'a>, AllocError>
-    ensures { IfOk result (λ keys. AreKeysByOwner (table_answer table.now) table.now.moment rrsets.now anchors.now
-        (values_at keys)) }
+    requires { AreItsRrsets answered.now }
+    ensures { IfOk result (λ keys. AreKeysByOwner (table_answer answered.now.table.now) answered.now.table.now.moment
+        answered.now.rrsets.now anchors.now (values_at keys)) }
 {
-    let order = steps(alloc, rrsets)?;
+    let order = steps(alloc, answered.rrsets)?;
     let mut keys = BTreeMap::new(alloc);
     let mut known = BTreeSet::new(alloc);
     let mut delegations = BTreeMap::new(alloc);
     let mut room = SigningRoom::new(alloc);
     for step in &order {
-        let rrset = rrset_at(rrsets, step);
+        let rrset = rrset_at(answered.rrsets, step);
+        let number = answered.number_at(step.place);
+        let one = AnsweredRrset {
+            rrset,
+            table: answered.table,
+            number,
+        };
         match step.rtype {
-            RecordType::DS => add_delegation(
-                alloc,
-                &mut room,
-                table,
-                &keys,
-                &mut delegations,
-                rrset,
-            )?,
+            RecordType::DS => { add_delegation(alloc, &mut room, &one, &keys, &mut delegations)? }
             _ => add_trusted(
                 alloc,
                 &mut room,
-                table,
+                &one,
                 anchors,
                 &delegations,
                 &mut known,
                 &mut keys,
-                rrset,
             )?,
         }
     }
@@ -95,17 +132,17 @@ fn rrset_at<'a>(rrsets: &'a [Rrset<'a>], step: &Step) -> &'a Rrset<'a>
 fn add_delegation<'a>(
     alloc: Global,
     room: &mut SigningRoom,
-    table: &Table<'_>,
+    ds: &AnsweredRrset<'_, 'a>,
     keys: &TrustedKeys<'a>,
     delegations: &mut Delegations<'a>,
-    ds: &'a Rrset<'a>,
 ) -> Result<(), AllocError>
-    ensures { OnOk result (AddsDelegation (table_answer table.now) table.now.moment (values_at keys.now) ds.now
-        (rrsets_at delegations.old) (rrsets_at delegations.new)) }
+    requires { IsItsNumber ds.now }
+    ensures { OnOk result (AddsDelegation (table_answer ds.now.table.now) ds.now.table.now.moment (values_at keys.now)
+        ds.now.rrset.now (rrsets_at delegations.old) (rrsets_at delegations.new)) }
 {
-    let numbers = good_numbers(alloc, room, table, ds, keys)?;
+    let numbers = good_numbers(alloc, room, ds, keys)?;
     if !numbers.as_slice().is_empty() {
-        add(alloc, delegations, ds.owner(), ds)?;
+        add(alloc, delegations, ds.rrset.owner(), ds.rrset)?;
     }
     Ok(())
 }
@@ -115,28 +152,27 @@ fn add_delegation<'a>(
 fn add_trusted<'a>(
     alloc: Global,
     room: &mut SigningRoom,
-    table: &Table<'_>,
+    set: &AnsweredRrset<'_, 'a>,
     anchors: &Anchors<'_>,
     delegations: &Delegations<'a>,
     known: &mut KnownKeys<'a>,
     keys: &mut TrustedKeys<'a>,
-    set: &'a Rrset<'a>,
 ) -> Result<(), AllocError>
-    requires rtype { set.now.rtype ≡ 48 }
+    requires number { IsItsNumber set.now }
+    requires rtype { set.now.rrset.now.rtype ≡ 48 }
     requires known { AreKnown known.old (values_at keys.old) }
     ensures known { OnOk result (AreKnown known.new (values_at keys.new)) }
-    ensures trusted { OnOk result (AddsTrusted (table_answer table.now) table.now.moment anchors.now
-        (rrsets_at delegations.now) set.now (values_at keys.old) (values_at keys.new)) }
+    ensures trusted { OnOk result (AddsTrusted (table_answer set.now.table.now) set.now.table.now.moment anchors.now
+        (rrsets_at delegations.now) set.now.rrset.now (values_at keys.old) (values_at keys.new)) }
 {
     if is_trusted(
         alloc,
         room,
-        table,
-        anchors,
-        at(delegations, &WireName::of(set.owner())),
         set,
+        anchors,
+        at(delegations, &WireName::of(set.rrset.owner())),
     )? {
-        add_keys(alloc, known, keys, set)?;
+        add_keys(alloc, known, keys, set.rrset)?;
     }
     Ok(())
 }
@@ -146,21 +182,21 @@ fn add_trusted<'a>(
 fn is_trusted(
     alloc: Global,
     room: &mut SigningRoom,
-    table: &Table<'_>,
+    set: &AnsweredRrset<'_, '_>,
     anchors: &Anchors<'_>,
     delegations: &[&Rrset<'_>],
-    set: &Rrset<'_>,
 ) -> Result<bool, AllocError>
-    requires { set.now.rtype ≡ 48 }
-    ensures { IfOk result (λ trusted. IsTrue trusted ↔ IsSignedByVouched (table_answer table.now) table.now.moment
-        anchors.now (map (λ ds. ds.now) delegations.now) set.now) }
+    requires number { IsItsNumber set.now }
+    requires rtype { set.now.rrset.now.rtype ≡ 48 }
+    ensures { IfOk result (λ trusted. IsTrue trusted ↔ IsSignedByVouched (table_answer set.now.table.now)
+        set.now.table.now.moment anchors.now (map (λ ds. ds.now) delegations.now) set.now.rrset.now) }
 {
-    let keys = keys_of(alloc, set)?;
-    if !is_signed_under_some(alloc, room, table, set, keys.as_slice())? {
+    let keys = keys_of(alloc, set.rrset)?;
+    if !is_signed_under_some(alloc, room, set, keys.as_slice())? {
         return Ok(false);
     }
     let vouched = vouched_keys(alloc, anchors, delegations, keys)?;
-    Ok(is_signed_under_some(alloc, room, table, set, vouched.as_slice())?)
+    Ok(is_signed_under_some(alloc, room, set, vouched.as_slice())?)
 }
 
 /// The keys of the DNSKEY RRset.

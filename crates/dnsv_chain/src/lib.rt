@@ -8,7 +8,7 @@ pub use anchor::Anchor;
 pub use anchors::{Anchors, AnchorsError, a_text_is_one_list_of_anchors};
 pub use by_owner::key::OwnerKey;
 pub use by_owner::{ByOwner, add_at, at};
-pub use chain::trusted;
+pub use chain::{trust_of, trusted};
 pub use laws::{
     more_evidence_takes_no_trust_away, nothing_is_trusted_without_an_anchor,
     trust_depends_on_what_is_asked, trust_leads_down_from_an_anchor,

@@ -4,13 +4,15 @@ ghost use Rattle.dnsv_verifier.specs.Table.{table_answer};
 ghost use Rattle.dnsv_chain.specs.ByOwner.{values_at};
 ghost use Rattle.dnsv_chain.specs.Trust.{keys_among, keys_of, signed_of};
 ghost use Rattle.dnsv_chain.specs.Kept.{AreDistinct, AreKeysOf, AreSigned, AreZones, IsKept};
+ghost use Rattle.dnsv_chain.specs.Signing.{AreItsRrsets};
 
 use crate::by_rdata::ByRdata;
+use crate::signing::answered::{AnsweredRrset, AnsweredRrsets};
 use crate::signing::{TrustedKeys, good_numbers};
-use dnsv_canonical::{Rrset, SigningRoom};
+use dnsv_canonical::SigningRoom;
 use dnsv_names::Name;
 use dnsv_records::Dnskey;
-use dnsv_verifier::{KeyRecord, Table};
+use dnsv_verifier::KeyRecord;
 use std::alloc::{AllocError, Global};
 use std::marker::Model;
 
@@ -47,15 +49,16 @@ impl<'c> Trust<'c> {
     /// What the keys of the trusted RRsets make good.
     pub(crate) fn of(
         alloc: Global,
-        table: &Table<'_>,
-        rrsets: &'c [Rrset<'c>],
+        answered: &AnsweredRrsets<'_, 'c>,
         keys: &TrustedKeys<'c>,
     ) -> Result<Trust<'c>, AllocError>
-        ensures { IfOk result (IsKept (table_answer table.now) table.now.moment rrsets.now (values_at keys.now)) }
+        requires { AreItsRrsets answered.now }
+        ensures { IfOk result (IsKept (table_answer answered.now.table.now) answered.now.table.now.moment
+            answered.now.rrsets.now (values_at keys.now)) }
     {
         Ok(Trust {
             zones: keys_of_zones(alloc, keys)?,
-            signed: good_numbers_of_each(alloc, table, rrsets, keys)?,
+            signed: good_numbers_of_each(alloc, answered, keys)?,
         })
     }
 
@@ -147,17 +150,23 @@ fn copies<'c>(alloc: Global, keys: &[ByRdata<'c>]) -> Result<Vec<Dnskey<'c>>, Al
 /// For each RRset the numbers of its good signatures.
 fn good_numbers_of_each<'a>(
     alloc: Global,
-    table: &Table<'_>,
-    rrsets: &'a [Rrset<'a>],
+    answered: &AnsweredRrsets<'_, 'a>,
     keys: &TrustedKeys<'a>,
 ) -> Result<Vec<Vec<usize>>, AllocError>
-    ensures { IfOk result (λ signed. AreSigned (table_answer table.now) table.now.moment rrsets.now
-        (values_at keys.now) (map (λ numbers. numbers.items) signed.items)) }
+    requires { AreItsRrsets answered.now }
+    ensures { IfOk result (λ signed. AreSigned (table_answer answered.now.table.now) answered.now.table.now.moment
+        answered.now.rrsets.now (values_at keys.now) (map (λ numbers. numbers.items) signed.items)) }
 {
     let mut signed = Vec::new(alloc);
     let mut room = SigningRoom::new(alloc);
-    for rrset in rrsets {
-        signed.push(good_numbers(alloc, &mut room, table, rrset, keys)?)?;
+    for (place, rrset) in answered.rrsets.iter().enumerate() {
+        let number = answered.number_at(place);
+        let one = AnsweredRrset {
+            rrset,
+            table: answered.table,
+            number,
+        };
+        signed.push(good_numbers(alloc, &mut room, &one, keys)?)?;
     }
     Ok(signed)
 }

@@ -144,7 +144,7 @@ impl<'a> Moments<'a> {
     {
         let nearest = nearest(self.range, moment);
         let table = self.table.at(alloc, nearest)?;
-        let case = Case::of(alloc, self.capture, self.anchors, table)?;
+        let case = Case::of_own_table(alloc, self.capture, self.anchors, table)?;
         let explainer = Explainer::of(alloc, case)?;
         Ok(explainer)
     }

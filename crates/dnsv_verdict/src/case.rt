@@ -6,20 +6,20 @@ pub mod open_case;
 pub mod shared;
 mod tracing;
 
-ghost use Rattle.std.specs.Prelude.{◌≡◌, ℕ, IfOk, length};
+ghost use Rattle.std.specs.Prelude.{◌≡◌, ℕ, IfOk, IsTrue, length};
 ghost use Rattle.dnsv_names.specs.Count.{counted};
-ghost use Rattle.dnsv_chain.specs.Trust.{SecuredIn};
+ghost use Rattle.dnsv_chain.specs.Trust.{IsTrustOf, SecuredIn};
 ghost use Rattle.dnsv_denial.specs.gathering.ByZone.{AreDenialRecords};
 ghost use Rattle.dnsv_verdict.specs.Case.{HasTrust, IsCaseOf, IsCaseWith};
 ghost use Rattle.dnsv_verdict.specs.Verdict.{basis_of};
 ghost use Rattle.dnsv_verifier.specs.Asked.{IsNumberAsked};
-ghost use Rattle.dnsv_verifier.specs.Table.{IsTableOf};
+ghost use Rattle.dnsv_verifier.specs.Table.{IsTableOf, table_answer};
 ghost use Rattle.dnsv_verifier.specs.declared.answer.Answer.{Answer};
 ghost use Rattle.dnsv_verifier.specs.declared.entry.Entry.{Entry};
 
 use bumpalo::Bump;
 use dnsv_canonical::Capture;
-use dnsv_chain::{Anchors, Trust, trusted};
+use dnsv_chain::{Anchors, Trust, trust_of, trusted};
 use dnsv_denial::DenialRecords;
 use dnsv_names::Count;
 use dnsv_verifier::{Table, Verifier, ask_all};
@@ -39,10 +39,12 @@ pub struct Case<'a> {
     denials: DenialRecords<'a>,
     /// How many entries the verifier was asked.
     asked: u64,
+    /// Whether the table is known to be of the capture, so that it knows the signatures by their numbers.
+    by_number: bool,
 }
 
 impl<'a> Model for Case<'a> {
-    ghost use Rattle.std.specs.Prelude.{◌≡◌, length};
+    ghost use Rattle.std.specs.Prelude.{◌≡◌, IsTrue, length};
     ghost use Rattle.dnsv_chain.specs.Trust.{SecuredIn};
     ghost use Rattle.dnsv_denial.specs.gathering.ByZone.{AreDenialRecords};
     ghost use Rattle.dnsv_verdict.specs.Case.{CaseContents, HasTrust};
@@ -62,7 +64,8 @@ impl<'a> Model for Case<'a> {
       table = case.table;
       trust = case.trust;
     }) × AreDenialRecords (SecuredIn case.trust) case.capture.now.rrsets case.denials
-        × (case.asked ≡ length case.table.answers) };
+        × (case.asked ≡ length case.table.answers)
+        × (IsTrue case.by_number → case.table.rrsets ≡ case.capture.now.rrsets) };
 }
 
 impl<'a> Case<'a> {
@@ -83,7 +86,7 @@ impl<'a> Case<'a> {
         let mut asked = Count::new();
         let table = ask_all(alloc, bump, capture, moment, verifier, &mut asked)?;
         let asked = exact(&asked, &table);
-        let case = with_trust(alloc, capture, anchors, table, asked)?;
+        let case = with_trust(alloc, capture, anchors, table, asked, true)?;
         Ok(case)
     }
 
@@ -102,7 +105,38 @@ impl<'a> Case<'a> {
             → IfOk result (IsCaseOf (basis_of capture.now.rrsets anchors.now moment meaning)) }
     {
         let asked = table.len() as u64;
-        let case = with_trust(alloc, capture, anchors, table, asked)?;
+        let case = with_trust(alloc, capture, anchors, table, asked, false)?;
+        Ok(case)
+    }
+
+    /// The same of a table that is of the capture, which knows the capture's signatures by their numbers, so that the case
+    /// is made in less time.
+    pub fn of_own_table(
+        alloc: Global,
+        capture: &'a Capture<'a>,
+        anchors: &'a Anchors<'a>,
+        table: Table<'a>,
+    ) -> Result<Case<'a>, AllocError>
+        requires { table.rrsets ≡ capture.now.rrsets }
+        ensures of { IfOk result (IsCaseWith capture.now.rrsets anchors.now table.entry) }
+        // Whoever the table is of, it is that verifier's case.
+        ensures basis { (meaning : Entry → Answer) (moment : ℕ)
+            → IsTableOf meaning moment capture.now.rrsets table.entry
+            → IfOk result (IsCaseOf (basis_of capture.now.rrsets anchors.now moment meaning)) }
+    {
+        let entries = table.len() as u64;
+        let case = with_trust(alloc, capture, anchors, table, entries, true)?;
+        Ok(case)
+    }
+
+    /// The same evidence and trust anchors with another table, which is of the same evidence as the case's.
+    pub(crate) fn with_table(&self, alloc: Global, table: Table<'a>) -> Result<Case<'a>, AllocError>
+        requires { table.rrsets ≡ self.now.table.rrsets }
+        ensures { IfOk result (IsCaseWith self.now.rrsets self.now.anchors table.entry) }
+    {
+        let (capture, anchors) = (self.capture, self.anchors);
+        let entries = table.len() as u64;
+        let case = with_trust(alloc, capture, anchors, table, entries, self.by_number)?;
         Ok(case)
     }
 
@@ -150,18 +184,21 @@ impl<'a> Case<'a> {
     }
 }
 
-/// The case with the trust that the evidence, the anchors and the table give.
+/// The case with the trust that the evidence, the anchors and the table give. Where the table is said to know signatures by
+/// their numbers, it is of the capture.
 fn with_trust<'a>(
     alloc: Global,
     capture: &'a Capture<'a>,
     anchors: &'a Anchors<'a>,
     table: Table<'a>,
     asked: u64,
+    by_number: bool,
 ) -> Result<Case<'a>, AllocError>
-    requires { asked ≡ length table.answers }
+    requires asked { asked ≡ length table.answers }
+    requires own { IsTrue by_number → table.rrsets ≡ capture.now.rrsets }
     ensures { IfOk result (IsCaseWith capture.now.rrsets anchors.now table.entry) }
 {
-    let trust = trusted(alloc, capture, anchors, &table)?;
+    let trust = trust_by(alloc, capture, anchors, &table, by_number)?;
     let denials = DenialRecords::of(alloc, capture, &trust)?;
     Ok(Case {
         capture,
@@ -170,7 +207,25 @@ fn with_trust<'a>(
         trust,
         denials,
         asked,
+        by_number,
     })
+}
+
+/// The trust that the evidence, the anchors and the table give, by the numbers of signatures where the table knows these.
+fn trust_by<'a>(
+    alloc: Global,
+    capture: &'a Capture<'a>,
+    anchors: &Anchors<'_>,
+    table: &Table<'a>,
+    by_number: bool,
+) -> Result<Trust<'a>, AllocError>
+    requires { IsTrue by_number → table.now.rrsets ≡ capture.now.rrsets }
+    ensures { IfOk result (IsTrustOf (table_answer table.now) table.now.moment capture.now.rrsets anchors.now) }
+{
+    if by_number {
+        return Ok(trust_of(alloc, anchors, table)?);
+    }
+    Ok(trusted(alloc, capture, anchors, table)?)
 }
 
 /// The count of a table's entries: they lie in memory, so their number is below the greatest value of a count.

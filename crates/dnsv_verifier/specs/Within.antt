@@ -22,9 +22,10 @@ pub record AreAskedWithin (from to : ℕ) (rrsets : List ReceivedRrset) (entries
   pub rising : IsStrictlySortedBy entry_cmp entries
   pub members : (entry : Entry) → Contains entries entry ↔ IsAskedWithin from to rrsets entry
 
--- what a verifier of this meaning says of them
+-- the evidence, and what a verifier of this meaning says of them
 pub record IsTableWithin (meaning : Entry → Answer) (from to : ℕ) (rrsets : List ReceivedRrset) (contents : TableContents)
     : Type 0 where
+  pub of_rrsets : contents.rrsets ≡ rrsets
   pub entries : List Entry
   pub asked : AreAskedWithin from to rrsets entries
   pub answers : contents.answers ≡ map (λ entry. (entry, meaning entry)) entries
@@ -35,9 +36,11 @@ pub record IsTimely (moment : ℕ) (entry : Entry) : Type 0 where
   pub long : 16 ≤ length entry.signed_data
   pub valid : ValidAt (number_at entry.signed_data 12 4) (number_at entry.signed_data 8 4) moment
 
--- the contents are of the moment, and have just those entries of the table, with their answers, that are timely at it
+-- the contents are of the moment and the table's evidence, and have just those entries of the table, with their answers,
+-- that are timely at it
 pub record IsTableAt (table : TableContents) (moment : ℕ) (contents : TableContents) : Type 0 where
   pub of_moment : contents.moment ≡ moment
+  pub of_rrsets : contents.rrsets ≡ table.rrsets
   pub rising : IsStrictlySortedBy entry_cmp (map (λ each. each.0) contents.answers)
   pub members : (each : Entry × Answer)
       → Contains contents.answers each ↔ (Contains table.answers each × IsTimely moment each.0)

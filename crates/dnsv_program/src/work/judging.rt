@@ -83,8 +83,8 @@ impl<'a> Judging<'a> {
         Ok(Judging::Plain(OpenCase::of(alloc, case)))
     }
 
-    /// The case at the moment, under what the table says, which is made of answers. Where it is asked why verdicts stand, the
-    /// table is asked as a verifier.
+    /// The case at the moment, under what the table of the capture says, which is made of answers. Where it is asked why
+    /// verdicts stand, the table is asked as a verifier.
     pub fn by_table(
         alloc: Global,
         bump: &'a Bump,
@@ -94,6 +94,7 @@ impl<'a> Judging<'a> {
         anchors: &'a Anchors<'a>,
         table: Table<'a>,
     ) -> Result<Judging<'a>, AllocError>
+        requires { table.rrsets ≡ held.now.rrsets }
         ensures case { (said : List Answer) → IsAnsweredTable moment held.now.rrsets said table.entry
             → IfOk result (λ judge. IsCaseOf (basis_of held.now.rrsets anchors.now moment (table_answer table.entry))
             (case_of judge)) }
@@ -102,7 +103,7 @@ impl<'a> Judging<'a> {
         if why {
             return Judging::new(alloc, bump, why, moment, held, anchors, &table);
         }
-        let case = Case::of(alloc, held, anchors, table)?;
+        let case = Case::of_own_table(alloc, held, anchors, table)?;
         Ok(Judging::Plain(OpenCase::of(alloc, case)))
     }
 

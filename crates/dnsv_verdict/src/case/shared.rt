@@ -110,7 +110,7 @@ fn hopeful_case<'a>(alloc: Global, case: &Case<'a>) -> Result<Rc<Case<'a>>, Allo
     ensures { IfOk result (λ hopeful. IsHopeful case.now hopeful.value) }
 {
     let table = case.table().hopeful(alloc)?;
-    let hopeful = Case::of(alloc, case.capture(), case.anchors(), table)?;
+    let hopeful = case.with_table(alloc, table)?;
     Ok(Rc::new(alloc, hopeful)?)
 }
 

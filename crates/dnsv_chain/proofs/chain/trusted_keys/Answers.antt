@@ -1,14 +1,16 @@
-use Rattle.std.proofs.Common.{◌≡◌, ◌<◌, ℕ, List, Bor, length, get_or, map, sym, ap, ◌∙◌, subst, arith, ⊎_elim}
+use Rattle.std.proofs.Common.{◌≡◌, ◌<◌, ◌+◌, ℕ, Bool, IsTrue, IfSome, if◌then◌else◌, List, Option, Some, None, Bor, length, get_or, map, sym, ap, ◌∙◌, subst, arith, ⊎_elim}
 use Rattle.std.proofs.lemmas.List.{get_or_default}
 use Rattle.std.proofs.lemmas.List.Elements.{Contains-get_or}
 use Rattle.std.specs.List.{Contains}
-use Rattle.dnsv_canonical.specs.Rrsets.{ReceivedRrset}
+use Rattle.dnsv_canonical.specs.Rrsets.{IsNumbered, ReceivedRrset}
 use Rattle.dnsv_names.specs.Name.{Labels, SameName}
+use Rattle.dnsv_verifier.proofs.PlaceLemmas.{numbered_here}
 use Rattle.dnsv_verifier.specs.Table.{table_answer}
 use Rattle.dnsv_chain.specs.ByOwner.{rrsets_at, values_at}
 use Rattle.dnsv_chain.specs.Order.{AreSteps, IsInChain, IsStepOf}
 use Rattle.dnsv_chain.specs.declared.order.Step.{Step}
 use Rattle.dnsv_chain.proofs.ByOwnerLemmas.{values_same}
+use Rattle.dnsv_chain.proofs.SigningLemmas.NumberLemmas.{its_number}
 use Rattle.dnsv_chain.proofs.WalkLemmas.{walked_delegation, walked_trusted, all_walked}
 use Rattle.dnsv_chain.proofs.chain.trusted_keys.Goals as goal
 use Rattle.dnsv_chain.proofs.chain.trusted_keys.Goals.{in-DS+in_ok-add_delegation-in-DS, in_default+in_ok-add_trusted-in_default}
@@ -25,11 +27,37 @@ found_there rrsets step rrset found for_it is = sym for_it.at ∙ is rrset
 
 pub rrset_at-rrset-requires : goal.rrset_at-rrset-requires
 rrset_at-rrset-requires c =
-    (step_at c.args.rrsets.now c.in_ok-order.order.items c.deref-step-items.result.now c.loop-step.step-index (record { labels = 0; rtype = record { 0 = 0 }; place = 0 }) c.deref-step-items.ensures.value c.in_ok-order.ensures c.loop-step-test.true).1.below
+    (step_at c.args.answered.now.rrsets.now c.in_ok-order.order.items c.deref-step-items.result.now c.loop-step.step-index (record { labels = 0; rtype = record { 0 = 0 }; place = 0 }) c.deref-step-items.ensures.value c.in_ok-order.ensures c.loop-step-test.true).1.below
+
+pub number_at-number-requires : goal.number_at-number-requires
+number_at-number-requires c =
+    (step_at c.args.answered.now.rrsets.now c.in_ok-order.order.items c.deref-step-items.result.now c.loop-step.step-index (record { labels = 0; rtype = record { 0 = 0 }; place = 0 }) c.deref-step-items.ensures.value c.in_ok-order.ensures c.loop-step-test.true).1.below
+
+-- the number is that of the step's RRset
+its : (rrsets theirs : List ReceivedRrset) (own : Bool) (made order : List Step) (i : ℕ) (d : Step) (rrset : ReceivedRrset) (number : Option ℕ)
+    → order ≡ made → AreSteps rrsets made → i < length order → ((other : ReceivedRrset) → get_or rrsets (get_or order i d).place other ≡ rrset)
+    → (IsTrue own → theirs ≡ rrsets) → number ≡ (if own then Some ((get_or order i d).place + 1) else None)
+    → IfSome number (λ n. IsNumbered theirs n rrset)
+its rrsets theirs own made order i d rrset number same are within at own_is is =
+    let step = step_at rrsets made order i d same are within in
+    its_number own theirs rrsets (get_or order i d).place rrset number own_is is
+    (numbered_here rrsets (get_or order i d).place rrset step.1.below (sym (at rrset)))
+
+pub add_delegation-requires : goal.add_delegation-requires
+add_delegation-requires c =
+    let answered = c.args.answered.now in
+    its answered.rrsets.now answered.table.now.rrsets answered.by_number c.in_ok-order.order.items c.deref-step-items.result.now c.loop-step.step-index (record { labels = 0; rtype = record { 0 = 0 }; place = 0 }) c.rrset_at-rrset.result.now c.number_at-number.result
+    c.deref-step-items.ensures.value c.in_ok-order.ensures c.loop-step-test.true c.rrset_at-rrset.ensures c.requires c.number_at-number.ensures
+
+pub add_trusted-requires-clause-number : goal.add_trusted-requires-clause-number
+add_trusted-requires-clause-number c =
+    let answered = c.args.answered.now in
+    its answered.rrsets.now answered.table.now.rrsets answered.by_number c.in_ok-order.order.items c.deref-step-items.result.now c.loop-step.step-index (record { labels = 0; rtype = record { 0 = 0 }; place = 0 }) c.rrset_at-rrset.result.now c.number_at-number.result
+    c.deref-step-items.ensures.value c.in_ok-order.ensures c.loop-step-test.true c.rrset_at-rrset.ensures c.requires c.number_at-number.ensures
 
 pub add_trusted-requires-clause-rtype : goal.add_trusted-requires-clause-rtype
 add_trusted-requires-clause-rtype c =
-    let rrsets = c.args.rrsets.now in
+    let rrsets = c.args.answered.now.rrsets.now in
     let step : Step = get_or c.deref-step-items.result.now c.loop-step.step-index (record { labels = 0; rtype = record { 0 = 0 }; place = 0 }) in
     let rrset = c.rrset_at-rrset.result.now in
     let at = step_at rrsets c.in_ok-order.order.items c.deref-step-items.result.now c.loop-step.step-index (record { labels = 0; rtype = record { 0 = 0 }; place = 0 }) c.deref-step-items.ensures.value c.in_ok-order.ensures c.loop-step-test.true in
@@ -40,8 +68,8 @@ add_trusted-requires-clause-rtype c =
 
 pub loop-step-preserved : goal.loop-step-preserved
 loop-step-preserved c =
-    let table = c.args.table.now in
-    let rrsets = c.args.rrsets.now in
+    let table = c.args.answered.now.table.now in
+    let rrsets = c.args.answered.now.rrsets.now in
     let order : List Step = c.deref-step-items.result.now in
     let i : ℕ = c.loop-step.step-index in
     let step : Step = get_or order i (record { labels = 0; rtype = record { 0 = 0 }; place = 0 }) in
@@ -76,8 +104,8 @@ loop-step-preserved c =
 
 pub returns : goal.returns
 returns c =
-    let table = c.args.table.now in
-    let rrsets = c.args.rrsets.now in
+    let table = c.args.answered.now.table.now in
+    let rrsets = c.args.answered.now.rrsets.now in
     let order : List Step = c.deref-step-items.result.now in
     let are : AreSteps rrsets order = subst (λ (list : List Step). AreSteps rrsets list) (sym c.deref-step-items.ensures.value) c.in_ok-order.ensures in
     let keys_same : (a b : Labels) → SameName a b → values_at c.loop-step.keys a ≡ values_at c.loop-step.keys b = λ a b. values_same c.loop-step.keys a b in

@@ -1,4 +1,4 @@
-use Rattle.std.proofs.Common.{◌≡◌, ℕ, ◌≤◌, List, length, map, sym, ap, ◌∙◌, arith, rules}
+use Rattle.std.proofs.Common.{◌≡◌, ℕ, ◌≤◌, List, length, map, refl, sym, ap, ◌∙◌, arith, rules}
 use Rattle.std.proofs.lemmas.List.{length-map, take_all}
 use Rattle.std.specs.List.{zip}
 use Rattle.dnsv_names.specs.Count.{counted, count_limit}
@@ -40,8 +40,9 @@ returns-clause-table g c =
     let listed = (λ i. answers_of parts (zip (same i) (said i)))
     ∙ ap (answers_of parts) (zip_answered (g.V.Verifier.meaning c.args.verifier.now) parts all) ∙ answered_numbers (g.V.Verifier.meaning c.args.verifier.now) parts all in
     let rising = c.in_ok-asked.ensures.rising in
-    rw (c.new-2.ensures, ← c.rrsets.ensures.value)
+    rw (c.new-2.ensures, ← c.rrsets-rrsets.ensures.value)
     record {
+      of_rrsets = refl;
       entries = map (entry_of parts) all;
       asked = record {
         rising = rising_entries parts rising.keys rising.signatures all rising.within rising.rising;

@@ -1,7 +1,10 @@
-use Rattle.std.proofs.Common.{sym}
+use Rattle.std.proofs.Common.{sym, ◌∙◌}
 use Rattle.dnsv_verdict.specs.Verdict.{basis_of}
 use Rattle.dnsv_moments.proofs.SayingLemmas.{case_at}
 use Rattle.dnsv_moments.proofs.moments.Moments.explainer_at.Goals as goal
+
+pub of_own_table-requires : goal.of_own_table-requires
+of_own_table-requires c = c.in_ok-table.ensures.value.of_rrsets ∙ c.self.invariant.1.1.of_rrsets
 
 pub of-requires-2 : goal.of-requires-2
 of-requires-2 c =

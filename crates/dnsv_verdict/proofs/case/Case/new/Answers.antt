@@ -6,6 +6,9 @@ use Rattle.dnsv_verdict.proofs.ReportLemmas.{number_asked}
 use Rattle.dnsv_verdict.specs.Verdict.{Basis, basis_of}
 use Rattle.dnsv_verdict.proofs.case.Case.new.Goals as goal
 
+pub with_trust-requires-clause-own : goal.with_trust-requires-clause-own
+with_trust-requires-clause-own g c = λ own. c.in_ok-table.ensures.table.of_rrsets
+
 pub returns-clause-of : goal.returns-clause-of
 returns-clause-of g c =
     let basis : Basis = basis_of c.args.capture.now.rrsets c.args.anchors.now c.args.moment (g.V.Verifier.meaning c.args.verifier.now) in
