@@ -1,6 +1,6 @@
 -- A form that is shown stands over what part lines tell, where they tell its parts and lines show its records to be
 -- signed.
-use Rattle.std.proofs.Common.{◌≡◌, ◌+◌, ℕ, List, [], ◌∷◌, ◌++◌, Option, Some, None, inl, inr, refl, subst}
+use Rattle.std.proofs.Common.{◌+◌, ℕ, List, [], ◌∷◌, ◌++◌, Option, Some, None, inl, inr, refl}
 use Rattle.std.specs.List.{AllByRecursion}
 use Rattle.std.specs.Option.{option_map}
 use Rattle.dnsv_names.specs.Name.{Labels, SameName, rightmost}
@@ -28,7 +28,7 @@ use Rattle.dnsv_denial.specs.declared.forms.proof_form.WildcardParts.{WildcardPa
 use Rattle.dnsv_denial.specs.declared.proving.proof_part.PartRelation.{PartRelation}
 use Rattle.dnsv_denial.specs.declared.proving.proof_part.PartRelation.TheVariants as related
 use Rattle.dnsv_denial.specs.declared.proving.proof_part.ProofPart.{ProofPart}
-use Rattle.dnsv_derivations.specs.Denials.{told_form, told_relation}
+use Rattle.dnsv_derivations.specs.Denials.{told_form}
 use Rattle.dnsv_derivations.proofs.lemmas.denials.PartLemmas.{nsec_by, nsec3_by, word_by}
 use Rattle.dnsv_lines.specs.declared.line.Line.{Line}
 use Rattle.dnsv_lines.specs.declared.line.denial.Form.{Form}

@@ -1,5 +1,5 @@
 -- What is shown of a name can be told: by a chain of a zone, in a form that stands.
-use Rattle.std.proofs.Common.{◌≡◌, ◌∙◌, ◌+◌, ℕ, List, inl, refl, sym, ap, subst}
+use Rattle.std.proofs.Common.{◌∙◌, ◌+◌, ℕ, List, inl, refl, sym, ap, subst}
 use Rattle.std.specs.List.{Contains}
 use Rattle.dnsv_names.specs.Name.{Labels, SameName, lower_case, rightmost}
 use Rattle.dnsv_zones.specs.forms.Forms.{IsAbove}
