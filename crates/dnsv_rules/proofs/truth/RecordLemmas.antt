@@ -42,7 +42,7 @@ parts_record lines related x n told = record { part = told.part; among = told.am
 
 module _ (setting : Setting) (lines : List Line) (follows : EachFollows setting [] lines) (zone : Labels) where
   -- what a line shows to be good is good under a trusted key
-  is_secured : (k s : ℕ) → IsShownGood lines k s → IsShownSecured setting lines k s
+  pub is_secured : (k s : ℕ) → IsShownGood lines k s → IsShownSecured setting lines k s
   is_secured k s good = (good, said_secured setting lines (all_true setting [] lines (no_lines setting) follows) k s good)
 
   secured_here : (k : ℕ) → IsSecuredBy (IsShownGood lines) setting.rrsets zone k → IsSecuredBy (IsShownSecured setting lines) setting.rrsets zone k

@@ -1,0 +1,4 @@
+-- The lines of an explanation bear out its verdict and its aliases, and what is borne out is so.
+pub mod BorneLemmas
+pub mod MeaningLemmas
+pub mod ToldLemmas
