@@ -1,6 +1,6 @@
 -- When the lines of a text bear out what stands in front of them: the verdict at the way's end, and the aliases that lead
 -- there. That what they say is so is another matter: see when a text checks.
-use Rattle.std.specs.Prelude.{◌≡◌, ◌⊎◌, ◌+◌, ℕ, List, [], ◌∷◌, Contains}
+use Rattle.std.specs.Prelude.{◌≡◌, ◌⊎◌, ℕ, List, Contains}
 use Rattle.dnsv_names.specs.Name.{Labels, SameName, rightmost}
 use Rattle.dnsv_names.specs.Tree.{wildcard_of}
 use Rattle.dnsv_records.specs.declared.rrsig.Rrsig.{Rrsig}
@@ -61,14 +61,18 @@ DeniesType form.NoData3 = Unit {0}
 DeniesType form.NoData4 = Unit {0}
 DeniesType _ = ⊥
 
--- An answer and an alias are borne out by the RRset and its signature, a denial by a proof in a form of its own, and that
--- the name may be unsigned by a case. What needs answers, and what isn't proved, asks for no line.
+-- a case line has the name
+abbrev pub HasCase : List Line → Labels → Type 0
+HasCase lines name = (told : Cut) × Contains lines (line.Case told) × SameName told.name name
+
+-- An answer and an alias are borne out by the RRset and its signature, a denial by a proof in a form of its own, and
+-- from which name on the name may be unsigned by a case. What needs answers, and what isn't proved, asks for no line.
 abbrev pub BearsOut : List ReceivedRrset → Asked → List Line → Verdict → Type 0
 BearsOut rrsets asked lines (SecureAnswer k s) = IsSetBorne rrsets lines asked.name asked.rtype k s
 BearsOut rrsets asked lines (SecureAlias k s) = IsSetBorne rrsets lines asked.name cname k s
 BearsOut rrsets asked lines (SecureNoName proof) = HasProof lines (λ each. each ≡ form.NoName)
 BearsOut rrsets asked lines (SecureNoData proof) = HasProof lines DeniesType
-BearsOut rrsets asked lines (Insecure cut) = (told : Cut) × Contains lines (line.Case told)
+BearsOut rrsets asked lines (Insecure cut) = HasCase lines cut
 BearsOut rrsets asked lines (Pending entries) = Unit {0}
 BearsOut rrsets asked lines Bogus = Unit {0}
 BearsOut rrsets asked lines Indeterminate = Unit {0}

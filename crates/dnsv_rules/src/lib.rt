@@ -1,5 +1,5 @@
-//! The rules by which a text is checked, and their laws: what checks is true, each explanation checks, and a text that
-//! leaves out what a proof needs doesn't.
+//! The rules by which a text is checked, and their laws: what checks is true, each explanation checks and bears out its
+//! verdict, and a text that leaves out what a proof needs doesn't check.
 #![tactic(auto)]
 
 pub use laws::{

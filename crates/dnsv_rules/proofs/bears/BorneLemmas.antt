@@ -1,5 +1,5 @@
 -- The lines of an explanation bear out its verdict, and its aliases.
-use Rattle.std.proofs.Common.{◌≡◌, ◌+◌, ℕ, List, [], ◌∷◌, ◌++◌, inl, inr, refl, sym, ap, subst, arith, ⊎_elim}
+use Rattle.std.proofs.Common.{◌≡◌, ℕ, List, [], ◌∷◌, ◌++◌, inl, inr, sym, subst, arith, ⊎_elim}
 use Rattle.std.specs.List.{AllByRecursion, Contains}
 use Rattle.dnsv_names.specs.Name.{Labels}
 use Rattle.dnsv_records.specs.declared.rrsig.Rrsig.{Rrsig}
@@ -9,7 +9,6 @@ use Rattle.dnsv_zones.specs.zones.TypeNumbers.{cname}
 use Rattle.dnsv_canonical.specs.Rrsets.{ReceivedRrset}
 use Rattle.dnsv_canonical.specs.SignedData.{IsExpanded}
 use Rattle.dnsv_canonical.specs.declared.number.RecordNumber.{RecordNumber}
-use Rattle.dnsv_canonical.specs.declared.number.SignatureNumber.{SignatureNumber}
 use Rattle.dnsv_chain.specs.Trust.{KeptTrust, SecuredIn as KeptIn}
 use Rattle.dnsv_denial.specs.forms.ProofForms.{form_records}
 use Rattle.dnsv_denial.specs.proving.ProofParts.{form_parts}
@@ -19,29 +18,26 @@ use Rattle.dnsv_denial.specs.declared.proving.shown_denial.ShownDenial.{ShownDen
 use Rattle.dnsv_denial.specs.declared.records.chain_kind.ChainKind.{ChainKind}
 use Rattle.dnsv_verdict.specs.Secure.{IsSecureSet}
 use Rattle.dnsv_verdict.specs.Settled.{IsSettledAs}
-use Rattle.dnsv_verdict.specs.Verdict.{IsVerdictAt}
 use Rattle.dnsv_verdict.specs.Way.{IsVerdictOf, LeadTo}
 use Rattle.dnsv_verdict.specs.declared.link.Link.{Link}
 use Rattle.dnsv_verdict.specs.declared.verdict.Verdict.{Verdict}
 use Rattle.dnsv_verdict.specs.declared.verdict.Verdict.TheVariants.{SecureAnswer, SecureAlias, SecureNoName, SecureNoData, Insecure, Pending, Bogus, Indeterminate}
-use Rattle.dnsv_derivations.specs.Denials.{IsDenialTold}
 use Rattle.dnsv_derivations.specs.Explained.{Explained, Setting, setting_in}
 use Rattle.dnsv_derivations.specs.Saying.{AreBoth, AreEach}
-use Rattle.dnsv_derivations.specs.derivations.OwnDerivations.{IsSignatureTold, SecuredIn}
+use Rattle.dnsv_derivations.specs.derivations.OwnDerivations.{SecuredIn}
 use Rattle.dnsv_derivations.proofs.lemmas.NumberedLemmas.{same_number}
 use Rattle.dnsv_derivations.proofs.lemmas.denials.PartLemmas.{zone_as}
-use Rattle.dnsv_derivations.proofs.lemmas.denials.ShownLemmas.{spelled}
 use Rattle.dnsv_derivations.proofs.lemmas.denials.StandingLemmas.{each_by}
 use Rattle.dnsv_derivations.proofs.lemmas.intervals.MomentLemmas.{first_or_behind}
 use Rattle.dnsv_lines.specs.declared.line.Line.{Line}
-use Rattle.dnsv_lines.specs.declared.line.denial.Form.{Form}
 use Rattle.dnsv_explain.specs.Explained.{basis_in}
 use Rattle.dnsv_explain.specs.Explanation.{IsEndTold, IsExplanation, IsFailureTold, IsHoldingTold, IsLinkTold, IsSetTold, IsSettledTold, IsVerdictTold, signature_of}
 use Rattle.dnsv_explain.specs.Explanation.IsSetTold.{as_owned, by_wildcard}
-use Rattle.dnsv_rules.specs.Borne.{BearsOut, DeniesType, HasProof, HoldsByLines, IsSetBorne}
+use Rattle.dnsv_rules.specs.Borne.{BearsOut, DeniesType, IsSetBorne}
 use Rattle.dnsv_rules.specs.Explained.{asked_by}
 use Rattle.dnsv_rules.specs.Told.{IsShownGood, shown_said, told_words}
-use Rattle.dnsv_rules.proofs.bears.ToldLemmas.{denial_owns, denial_tells, no_data_form, no_name_form, proof_there, signature_there, unsigned_case}
+use Rattle.dnsv_rules.proofs.bears.CaseLemmas.{case_borne}
+use Rattle.dnsv_rules.proofs.bears.ToldLemmas.{denial_owns, denial_tells, no_data_form, no_name_form, proof_there, signature_there}
 use Rattle.dnsv_rules.proofs.checks.FormLemmas.{Counts, no_closer_form}
 use Rattle.dnsv_rules.proofs.checks.ShownLemmas.{closer_same}
 use Rattle.dnsv_rules.proofs.checks.TellLemmas.{AreWithin, IsOwn, IsPartTellable, within_back, within_front}
@@ -151,7 +147,7 @@ module _ (setting : Setting) (all : List Line) where
         told.is.shows in
         let found = proof_there setting all last shown before lines told.told within which.0 which.2 in
         record { proof = found.proof; among = found.among; such = subst DeniesType (sym found.such) which.1 }
-    settled_borne (Insecure cut) before lines is told within = unsigned_case setting all last t before lines told within
+    settled_borne (Insecure cut) before lines is told within = case_borne setting all last t cut before lines is told within
     settled_borne (Pending entries) before lines is told within = absurd told
     settled_borne Bogus before lines is told within = absurd told
     settled_borne Indeterminate before lines is told within = absurd told

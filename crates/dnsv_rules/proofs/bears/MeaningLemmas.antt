@@ -1,11 +1,10 @@
 -- What the lines of a text that checks bear out is so.
-use Rattle.std.proofs.Common.{◌≡◌, ◌+◌, ◌⊎◌, ℕ, List, [], ◌∷◌, inl, inr, refl, ⊎_elim}
+use Rattle.std.proofs.Common.{◌+◌, ℕ, List, [], ◌∷◌, inl, inr, refl, ⊎_elim}
 use Rattle.dnsv_names.specs.Name.{Labels, rightmost}
-use Rattle.dnsv_zones.specs.forms.Forms.{NoCloserForm, Words}
-use Rattle.dnsv_zones.specs.forms.RecordWords.{RecordWords, words}
+use Rattle.dnsv_zones.specs.forms.Forms.{NoCloserForm}
+use Rattle.dnsv_zones.specs.forms.RecordWords.{words}
 use Rattle.dnsv_zones.proofs.lemmas.meaning.MeaningLemmas.{held_at_wildcard}
 use Rattle.dnsv_canonical.specs.SignedData.{IsExpanded}
-use Rattle.dnsv_canonical.specs.declared.number.RecordNumber.{RecordNumber}
 use Rattle.dnsv_denial.specs.proving.FirstProof.{ProofRecords}
 use Rattle.dnsv_denial.specs.words.EvidenceWords.{Chain}
 use Rattle.dnsv_canonical.proofs.CanonicalLemmas.{IsMember}

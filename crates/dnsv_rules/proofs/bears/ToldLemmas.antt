@@ -1,8 +1,8 @@
--- What the lines of a denial, and of a name that may be unsigned, say among all lines.
-use Rattle.std.proofs.Common.{◌≡◌, ◌∙◌, ◌+◌, ℕ, List, [], ◌∷◌, ◌++◌, Option, Some, None, refl, sym, subst, ⊎_elim}
-use Rattle.std.proofs.lemmas.List.Elements.{Contains-append_left, Contains-append_right, Contains-push}
+-- What the lines of a denial say among all lines.
+use Rattle.std.proofs.Common.{◌≡◌, ◌∙◌, ℕ, List, [], ◌∷◌, ◌++◌, Option, Some, refl, sym, subst, ⊎_elim}
+use Rattle.std.proofs.lemmas.List.Elements.{Contains-append_left, Contains-push}
 use Rattle.std.specs.List.{AllByRecursion, Contains}
-use Rattle.dnsv_names.specs.Name.{Labels, rightmost}
+use Rattle.dnsv_names.specs.Name.{Labels}
 use Rattle.dnsv_canonical.specs.declared.number.RecordNumber.{RecordNumber}
 use Rattle.dnsv_canonical.specs.declared.number.SignatureNumber.{SignatureNumber}
 use Rattle.dnsv_denial.specs.forms.ProofForms.{ShowsNoData, ShowsNoName}
@@ -13,23 +13,15 @@ use Rattle.dnsv_denial.specs.words.EvidenceWords.{number_cmp}
 use Rattle.dnsv_zones.specs.forms.RecordWords.{RecordWords}
 use Rattle.dnsv_denial.specs.declared.forms.proof_form.ProofForm.{ProofForm}
 use Rattle.dnsv_denial.specs.declared.proving.shown_denial.ShownDenial.{ShownDenial}
-use Rattle.dnsv_denial.specs.declared.unsigned_cuts.shown_cut.ShownCut.{ShownCut}
-use Rattle.dnsv_denial.specs.declared.unsigned_cuts.shown_cut.ShownCut.TheVariants as cut
 use Rattle.dnsv_derivations.specs.Denials.{IsDenialTold, IsFormTold, IsProofOf, IsProofSaid, told_form}
 use Rattle.dnsv_derivations.specs.Explained.{Setting}
 use Rattle.dnsv_derivations.specs.Following.{IsSignatureSaid}
 use Rattle.dnsv_derivations.specs.derivations.OwnDerivations.{IsSignatureTold}
-use Rattle.dnsv_derivations.specs.unsigned_cuts.ShownCuts.{IsCutTold, IsUnsignedTold}
-use Rattle.dnsv_derivations.specs.unsigned_cuts.UnsignedCuts.{IsCaseTold, IsUnusableTold}
 use Rattle.dnsv_derivations.proofs.lemmas.derivations.DerivationLemmas.{number_said}
 use Rattle.dnsv_lines.specs.declared.line.Line.{Line}
 use Rattle.dnsv_lines.specs.declared.line.Line.TheVariants as line
-use Rattle.dnsv_lines.specs.declared.line.cut.Cut.{Cut}
-use Rattle.dnsv_lines.specs.declared.line.cut.InsecureCase.{InsecureCase}
 use Rattle.dnsv_lines.specs.declared.line.denial.Form.{Form}
 use Rattle.dnsv_lines.specs.declared.line.denial.Form.TheVariants as form
-use Rattle.dnsv_explain.specs.Explanation.{IsUnsignedFromTold}
-use Rattle.dnsv_explain.specs.Explanation.IsUnsignedFromTold.{by_cut, by_wildcard}
 use Rattle.dnsv_rules.specs.Borne.{DeniesType, HasProof}
 use Rattle.dnsv_rules.proofs.checks.TellLemmas.{AreWithin, IsOwn, IsPartTellable, parts_told, records_own, within_back, within_front}
 
@@ -92,52 +84,6 @@ module _ (setting : Setting) (all : List Line) where
     proof_there which is =
         let Of : Option Form → Type 0 = λ each. IsProofOf each name shown (before ++ told.first) told.says_second.first in
         form_there which (subst Of is told.says_second.says_first)
-
-  -- ---- a name that may be unsigned
-
-  abbrev HasCase : Type 0
-  HasCase = (told : Cut) × Contains all (line.Case told)
-
-  case_there : (kind : InsecureCase) (at : Labels) (zone : Option Labels) (before lines : List Line) → IsCaseTold kind at zone before lines
-      → AreWithin (before ++ lines) all → HasCase
-  case_there kind at _ before lines told within =
-      let There : List Line → Type 0 = λ more. Contains (before ++ more) (line.Case told.cut) in
-      (told.cut, within (line.Case told.cut) (subst There (sym told.are) (Contains-push before (line.Case told.cut))))
-
-  unsigned_there : (name : Labels) (shown : ShownDenial) (kind : InsecureCase) (at : Labels) (before lines : List Line)
-      → IsUnsignedTold setting name shown kind at before lines → AreWithin (before ++ lines) all → HasCase
-  unsigned_there name shown kind at before lines told within =
-      let Lines : List Line → Type 0 = λ more. AreWithin (before ++ more) all in
-      let Then : List Line → Type 0 = λ more. AreWithin ((before ++ told.first) ++ more) all in
-      let rest = told.says_second in
-      case_there kind at (Some shown.proof.zone) (before ++ told.first) rest.first rest.says_first
-      (within_front (before ++ told.first) rest.first rest.second all
-      (subst Then rest.parts (within_back before told.first told.second all (subst Lines told.parts within))))
-
-  unusable_there : (at : Labels) (before lines : List Line) → IsUnusableTold setting at before lines → AreWithin (before ++ lines) all → HasCase
-  unusable_there at before lines told within =
-      let whole = told.told in
-      let Lines : List Line → Type 0 = λ more. AreWithin (before ++ more) all in
-      let Then : List Line → Type 0 = λ more. AreWithin ((before ++ whole.first) ++ more) all in
-      let rest = whole.says_second in
-      case_there _ at None (before ++ whole.first) rest.first rest.says_first
-      (within_front (before ++ whole.first) rest.first rest.second all
-      (subst Then rest.parts (within_back before whole.first whole.second all (subst Lines whole.parts within))))
-
-  cut_there : (name : Labels) (shown : ShownCut) (before lines : List Line) → IsCutTold setting name shown before lines
-      → AreWithin (before ++ lines) all → HasCase
-  cut_there name (cut.NoDs labels shown) before lines told within = unsigned_there name shown _ (rightmost name labels) before lines told within
-  cut_there name (cut.NoUsableDs labels) before lines told within = unusable_there (rightmost name labels) before lines told within
-  cut_there name (cut.OptOut labels shown) before lines told within =
-      unsigned_there name shown _ (rightmost name (labels + 1)) before lines told within
-
-  pub unsigned_case : (name : Labels) (t : ℕ) (before lines : List Line) → IsUnsignedFromTold setting name t before lines
-      → AreWithin (before ++ lines) all → HasCase
-  unsigned_case name t before lines (by_cut shown is told) within = cut_there name shown before lines told within
-  unsigned_case name t before lines (by_wildcard trust good none k s first shown is told) within =
-      let Lines : List Line → Type 0 = λ more. AreWithin (before ++ more) all in
-      unsigned_there name shown _ (rightmost name (first.such.rrsig.labels + 1)) (before ++ told.first) told.second told.says_second
-      (within_back before told.first told.second all (subst Lines told.parts within))
 
 -- ---- forms
 
