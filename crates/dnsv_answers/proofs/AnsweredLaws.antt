@@ -59,6 +59,7 @@ module _ (from to : ℕ) (rrsets : List ReceivedRrset) (said : List Answer) (tab
       let pairs = zip is.entries said in
       let distinct : IsDistinct (eq_by_cmp entry_cmp) (keys_of pairs) =
       subst (IsDistinct (eq_by_cmp entry_cmp)) (sym (keys_zipped is.entries said is.each)) (IsDistinct-from_sorted entry_cmp is.entries is.asked.rising) in record {
+        of_rrsets = is.of_rrsets;
         entries = is.entries;
         asked = is.asked;
         answers = is.answers
@@ -77,7 +78,7 @@ module _ (from to : ℕ) (rrsets : List ReceivedRrset) (said : List Answer) (tab
   one_answered_within other its =
       let entries = one_list_asked from to rrsets is.entries its.entries is.asked its.asked in
       let answers : table.answers ≡ other.answers = is.answers ∙ ap (λ (each : List Entry). zip each said) entries ∙ sym its.answers in
-      λ i. record { moment = (is.of_moment ∙ sym its.of_moment) i; answers = answers i }
+      λ i. record { moment = (is.of_moment ∙ sym its.of_moment) i; rrsets = (is.of_rrsets ∙ sym its.of_rrsets) i; answers = answers i }
 
 pub one_number_within : (from to : ℕ) (rrsets : List ReceivedRrset) (a b : ℕ) → IsNumberAskedWithin from to rrsets a → IsNumberAskedWithin from to rrsets b → a ≡ b
 one_number_within from to rrsets a b x y =
@@ -93,6 +94,7 @@ module _ (moment : ℕ) (rrsets : List ReceivedRrset) (said : List Answer) (tabl
       let within = answered_within moment moment rrsets said table is in
       record {
         of_moment = is.of_moment;
+        of_rrsets = is.of_rrsets;
         entries = within.entries;
         rising = within.asked.rising;
         asked = are_asked_then moment rrsets within.entries within.asked;

@@ -26,6 +26,7 @@ pub answered_by : (from to : ℕ) (rrsets : List ReceivedRrset) (asked : TableCo
     → IsAnsweredTableWithin from to rrsets said (with_answers asked said)
 answered_by from to rrsets asked of_moment is said each = record {
   of_moment = of_moment;
+  of_rrsets = is.of_rrsets;
   entries = is.entries;
   asked = is.asked;
   each = each ∙ ap (λ (answers : List (Entry × Answer)). length answers) is.answers ∙ length-map is.entries (λ (entry : Entry). (entry, Unknown));

@@ -9,10 +9,12 @@ use Rattle.dnsv_verifier.specs.declared.entry.Entry.{Entry}
 
 -- The table has the answers of just those entries that are asked at some moment of the range, each once, by rising
 -- algorithm, key, signed data and signature: the first answer is that of the first entry, and so on. What it says is what
--- the answers mean: of any other entry nothing is known. Its moment is the first of the range.
+-- the answers mean: of any other entry nothing is known. Its moment is the first of the range, and its evidence that of
+-- the entries.
 pub record IsAnsweredTableWithin (from to : ℕ) (rrsets : List ReceivedRrset) (said : List Answer) (table : TableContents)
     : Type 0 where
   pub of_moment : table.moment ≡ from
+  pub of_rrsets : table.rrsets ≡ rrsets
   pub entries : List Entry
   pub asked : AreAskedWithin from to rrsets entries
   pub each : length said ≡ length entries

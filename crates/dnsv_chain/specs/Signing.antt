@@ -10,6 +10,15 @@ use Rattle.dnsv_verifier.specs.declared.answer.Answer.{Answer}
 use Rattle.dnsv_verifier.specs.declared.answer.Answer.TheVariants.{Valid}
 use Rattle.dnsv_verifier.specs.declared.entry.Entry.{Entry}
 use Rattle.dnsv_chain.specs.Trusted.{IsSignedUnder}
+use Rattle.dnsv_chain.specs.declared.signing.answered.AnsweredRrset.{AnsweredRrset}
+
+-- the RRset is the one with its number in the table's evidence
+abbrev pub IsOfTable : AnsweredRrset → Type 0
+IsOfTable answered = IsNumbered answered.table.now.rrsets answered.number answered.rrset.now
+
+-- the signature has the number in the RRset
+abbrev pub IsSignatureAt : ReceivedRrset → ℕ → Rrsig → Type 0
+IsSignatureAt rrset number rrsig = (rdata : List ℕ) × IsNumbered rrset.signatures number rdata × IsRrsig rdata rrsig
 
 -- one of the keys may have made the signature
 pub record MayHaveMadeOne (keys : List DnskeyRecord) (rrsig : Rrsig) : Type 0 where

@@ -1,38 +1,37 @@
 //! The chain of trust: which DNSKEY RRsets of a capture are trusted (RFC 4035 5).
-ghost use Rattle.std.specs.Prelude.{◌↔◌, ◌≡◌, ◌<◌, IfOk, IsTrue, OnOk, length, map, slice_index_or};
-ghost use Rattle.dnsv_canonical.specs.Rrsets.{ReceivedRrset};
+ghost use Rattle.std.specs.Prelude.{◌↔◌, ◌≡◌, IfOk, IsTrue, OnOk, map};
 ghost use Rattle.dnsv_verifier.specs.Table.{table_answer};
 ghost use Rattle.dnsv_chain.specs.ByOwner.{rrsets_at, values_at};
 ghost use Rattle.dnsv_chain.specs.Trust.{IsTrustOf};
 ghost use Rattle.dnsv_chain.specs.Chain.{AddsDelegation, AddsKeys, AddsTrusted, AreKeysByOwner, AreKeysOfSet, AreKnown, AreVouched, IsSignedByVouched, IsVouchedFor};
+ghost use Rattle.dnsv_chain.specs.Signing.{IsOfTable};
 
 use crate::anchors::Anchors;
 use crate::by_owner::key::OwnerKey;
 use crate::by_owner::{ByOwner, add, at};
 use crate::by_rdata::ByRdata;
 use crate::delegated::is_delegated;
-use crate::order::{Step, steps};
+use crate::order::steps;
+use crate::signing::answered::AnsweredRrset;
 use crate::signing::{TrustedKeys, good_numbers, is_signed_under_some};
 use crate::trust::Trust;
-use dnsv_canonical::{Capture, Rrset, SigningRoom};
+use dnsv_canonical::Rrset;
 use dnsv_names::{RecordType, WireName};
 use dnsv_verifier::{KeyRecord, Table};
 use std::alloc::{AllocError, Global};
 use std::collections::{BTreeMap, BTreeSet};
 
-/// The trust that the capture gives at the table's moment, under the anchors and the table's answers (RFC 4035 5). An
-/// entry that the table lacks counts as Unknown.
+/// The trust that the evidence of the table gives at its moment, under the anchors and its answers (RFC 4035 5). An entry
+/// that the table lacks counts as Unknown.
 pub fn trusted<'c>(
     alloc: Global,
-    capture: &'c Capture<'c>,
     anchors: &Anchors<'_>,
-    table: &Table<'_>,
+    table: &Table<'c>,
 ) -> Result<Trust<'c>, AllocError>
-    ensures { IfOk result (IsTrustOf (table_answer table.now) table.now.moment capture.now.rrsets anchors.now) }
+    ensures { IfOk result (IsTrustOf (table_answer table.now) table.now.moment table.now.rrsets anchors.now) }
 {
-    let rrsets = capture.rrsets();
-    let keys = trusted_keys(alloc, rrsets, anchors, table)?;
-    Ok(Trust::of(alloc, table, rrsets, &keys)?)
+    let keys = trusted_keys(alloc, anchors, table)?;
+    Ok(Trust::of(alloc, table, &keys)?)
 }
 
 /// DS RRsets by owner that have a signature good under a key of a trusted RRset.
@@ -45,67 +44,40 @@ type KnownKeys<'a> = BTreeSet<(OwnerKey<'a>, ByRdata<'a>)>;
 /// ancestor, whose RRsets have been looked at before.
 fn trusted_keys<'a>(
     alloc: Global,
-    rrsets: &'a [Rrset<'a>],
     anchors: &Anchors<'_>,
-    table: &Table<'_>,
+    table: &Table<'a>,
 ) -> Result<TrustedKeys<'a>, AllocError>
-    ensures { IfOk result (λ keys. AreKeysByOwner (table_answer table.now) table.now.moment rrsets.now anchors.now
+    ensures { IfOk result (λ keys. AreKeysByOwner (table_answer table.now) table.now.moment table.now.rrsets anchors.now
         (values_at keys)) }
 {
-    let order = steps(alloc, rrsets)?;
+    let order = steps(alloc, table.capture().rrsets())?;
     let mut keys = BTreeMap::new(alloc);
     let mut known = BTreeSet::new(alloc);
     let mut delegations = BTreeMap::new(alloc);
-    let mut room = SigningRoom::new(alloc);
     for step in &order {
-        let rrset = rrset_at(rrsets, step);
+        let set = AnsweredRrset::at(table, step.place);
         match step.rtype {
-            RecordType::DS => add_delegation(
-                alloc,
-                &mut room,
-                table,
-                &keys,
-                &mut delegations,
-                rrset,
-            )?,
-            _ => add_trusted(
-                alloc,
-                &mut room,
-                table,
-                anchors,
-                &delegations,
-                &mut known,
-                &mut keys,
-                rrset,
-            )?,
+            RecordType::DS => add_delegation(alloc, &set, &keys, &mut delegations)?,
+            _ => add_trusted(alloc, &set, anchors, &delegations, &mut known, &mut keys)?,
         }
     }
     Ok(keys)
 }
 
-/// The RRset of the step.
-fn rrset_at<'a>(rrsets: &'a [Rrset<'a>], step: &Step) -> &'a Rrset<'a>
-    requires { step.now.place < length rrsets.now }
-    ensures { (other : ReceivedRrset) → slice_index_or rrsets.now step.now.place other ≡ result.now }
-{
-    &rrsets[step.place]
-}
-
 /// Adds the DS RRset where one of its signatures is good under one of the signer's keys.
 fn add_delegation<'a>(
     alloc: Global,
-    room: &mut SigningRoom,
-    table: &Table<'_>,
+    ds: &AnsweredRrset<'_, 'a>,
     keys: &TrustedKeys<'a>,
     delegations: &mut Delegations<'a>,
-    ds: &'a Rrset<'a>,
 ) -> Result<(), AllocError>
-    ensures { OnOk result (AddsDelegation (table_answer table.now) table.now.moment (values_at keys.now) ds.now
-        (rrsets_at delegations.old) (rrsets_at delegations.new)) }
+    requires { IsOfTable ds.now }
+    ensures { OnOk result (AddsDelegation (table_answer ds.now.table.now) ds.now.table.now.moment (values_at keys.now)
+        ds.now.rrset.now (rrsets_at delegations.old) (rrsets_at delegations.new)) }
 {
-    let numbers = good_numbers(alloc, room, table, ds, keys)?;
+    let numbers = good_numbers(alloc, ds, keys)?;
     if !numbers.as_slice().is_empty() {
-        add(alloc, delegations, ds.owner(), ds)?;
+        add(alloc, delegations, ds.rrset.owner(), ds.rrset)?;
     }
     Ok(())
 }
@@ -114,29 +86,22 @@ fn add_delegation<'a>(
 /// usable record of one of the DS RRsets at its owner.
 fn add_trusted<'a>(
     alloc: Global,
-    room: &mut SigningRoom,
-    table: &Table<'_>,
+    set: &AnsweredRrset<'_, 'a>,
     anchors: &Anchors<'_>,
     delegations: &Delegations<'a>,
     known: &mut KnownKeys<'a>,
     keys: &mut TrustedKeys<'a>,
-    set: &'a Rrset<'a>,
 ) -> Result<(), AllocError>
-    requires rtype { set.now.rtype ≡ 48 }
+    requires number { IsOfTable set.now }
+    requires rtype { set.now.rrset.now.rtype ≡ 48 }
     requires known { AreKnown known.old (values_at keys.old) }
     ensures known { OnOk result (AreKnown known.new (values_at keys.new)) }
-    ensures trusted { OnOk result (AddsTrusted (table_answer table.now) table.now.moment anchors.now
-        (rrsets_at delegations.now) set.now (values_at keys.old) (values_at keys.new)) }
+    ensures trusted { OnOk result (AddsTrusted (table_answer set.now.table.now) set.now.table.now.moment anchors.now
+        (rrsets_at delegations.now) set.now.rrset.now (values_at keys.old) (values_at keys.new)) }
 {
-    if is_trusted(
-        alloc,
-        room,
-        table,
-        anchors,
-        at(delegations, &WireName::of(set.owner())),
-        set,
-    )? {
-        add_keys(alloc, known, keys, set)?;
+    let owner = WireName::of(set.rrset.owner());
+    if is_trusted(alloc, set, anchors, at(delegations, &owner))? {
+        add_keys(alloc, known, keys, set.rrset)?;
     }
     Ok(())
 }
@@ -145,22 +110,21 @@ fn add_trusted<'a>(
 /// RRsets. No key is digested where none signs it.
 fn is_trusted(
     alloc: Global,
-    room: &mut SigningRoom,
-    table: &Table<'_>,
+    set: &AnsweredRrset<'_, '_>,
     anchors: &Anchors<'_>,
     delegations: &[&Rrset<'_>],
-    set: &Rrset<'_>,
 ) -> Result<bool, AllocError>
-    requires { set.now.rtype ≡ 48 }
-    ensures { IfOk result (λ trusted. IsTrue trusted ↔ IsSignedByVouched (table_answer table.now) table.now.moment
-        anchors.now (map (λ ds. ds.now) delegations.now) set.now) }
+    requires number { IsOfTable set.now }
+    requires rtype { set.now.rrset.now.rtype ≡ 48 }
+    ensures { IfOk result (λ trusted. IsTrue trusted ↔ IsSignedByVouched (table_answer set.now.table.now)
+        set.now.table.now.moment anchors.now (map (λ ds. ds.now) delegations.now) set.now.rrset.now) }
 {
-    let keys = keys_of(alloc, set)?;
-    if !is_signed_under_some(alloc, room, table, set, keys.as_slice())? {
+    let keys = keys_of(alloc, set.rrset)?;
+    if !is_signed_under_some(alloc, set, keys.as_slice())? {
         return Ok(false);
     }
     let vouched = vouched_keys(alloc, anchors, delegations, keys)?;
-    Ok(is_signed_under_some(alloc, room, table, set, vouched.as_slice())?)
+    Ok(is_signed_under_some(alloc, set, vouched.as_slice())?)
 }
 
 /// The keys of the DNSKEY RRset.

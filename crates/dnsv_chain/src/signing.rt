@@ -1,15 +1,18 @@
 //! Which signatures are good under which keys.
 
+pub mod answered;
 pub mod good;
 
-ghost use Rattle.std.specs.Prelude.{◌↔◌, ◌≡◌, IfOk, IsTrue};
-ghost use Rattle.dnsv_verifier.specs.Admissible.{entry_over};
-ghost use Rattle.dnsv_verifier.specs.Table.{table_answer};
+ghost use Rattle.std.specs.Prelude.{◌↔◌, ◌≡◌, IfOk, IfSome, IsTrue};
+ghost use Rattle.dnsv_canonical.specs.Rrsets.{ReceivedRrset};
+ghost use Rattle.dnsv_verifier.specs.Admissible.{IsGood, IsVerifiable, entry_over};
+ghost use Rattle.dnsv_verifier.specs.Table.{HasNumber, table_answer};
 ghost use Rattle.dnsv_chain.specs.ByOwner.{values_at};
-ghost use Rattle.dnsv_chain.specs.Signing.{AreGoodNumbers, IsGoodUnderSome, IsSignedUnderSome, IsValidBy, IsValidBySome, MayHaveMadeOne};
+ghost use Rattle.dnsv_chain.specs.Signing.{AreGoodNumbers, IsGoodUnderSome, IsOfTable, IsSignatureAt, IsSignedUnderSome, IsValidBy, IsValidBySome, MayHaveMadeOne};
 
 use crate::by_owner::{ByOwner, at};
-use dnsv_canonical::{Rrset, SigningRoom, make_signed_data};
+use crate::signing::answered::AnsweredRrset;
+use dnsv_canonical::{SignatureNumber, signed_data};
 use dnsv_records::Rrsig;
 use dnsv_verifier::{
     Answer, KeyRecord, Table, Verifier, a_pair_has_one_entry, entry_over, is_verifiable,
@@ -23,18 +26,17 @@ pub type TrustedKeys<'a> = ByOwner<'a, KeyRecord<'a>>;
 /// The numbers of the signatures, from 1 on, that are good under one of their signer's keys, rising.
 pub fn good_numbers<'a>(
     alloc: Global,
-    room: &mut SigningRoom,
-    table: &Table<'_>,
-    rrset: &'a Rrset<'a>,
+    answered: &AnsweredRrset<'_, 'a>,
     keys: &TrustedKeys<'a>,
 ) -> Result<Vec<usize>, AllocError>
-    ensures { IfOk result (λ numbers. AreGoodNumbers (table_answer table.now) table.now.moment rrset.now
-        (values_at keys.now) numbers.items) }
+    requires { IsOfTable answered.now }
+    ensures { IfOk result (λ numbers. AreGoodNumbers (table_answer answered.now.table.now) answered.now.table.now.moment
+        answered.now.rrset.now (values_at keys.now) numbers.items) }
 {
     let mut numbers = Vec::new(alloc);
-    for (place, rrsig) in rrset.signatures().iter().enumerate() {
+    for (place, rrsig) in answered.rrset.signatures().iter().enumerate() {
         let own = at(keys, &rrsig.signer);
-        if is_good_under_some(alloc, room, table, rrset, rrsig, own)? {
+        if is_good_under_some(alloc, answered, place + 1, rrsig, own)? {
             numbers.push(place + 1)?;
         }
     }
@@ -44,47 +46,101 @@ pub fn good_numbers<'a>(
 /// Whether the RRset has a signature that is good under one of the keys.
 pub fn is_signed_under_some(
     alloc: Global,
-    room: &mut SigningRoom,
-    table: &Table<'_>,
-    rrset: &Rrset<'_>,
+    answered: &AnsweredRrset<'_, '_>,
     keys: &[KeyRecord<'_>],
 ) -> Result<bool, AllocError>
-    ensures { IfOk result (λ signed. IsTrue signed
-        ↔ IsSignedUnderSome (table_answer table.now) table.now.moment rrset.now keys.now) }
+    requires { IsOfTable answered.now }
+    ensures { IfOk result (λ signed. IsTrue signed ↔ IsSignedUnderSome (table_answer answered.now.table.now)
+        answered.now.table.now.moment answered.now.rrset.now keys.now) }
 {
-    for rrsig in rrset.signatures() {
-        if is_good_under_some(alloc, room, table, rrset, rrsig, keys)? {
+    for (place, rrsig) in answered.rrset.signatures().iter().enumerate() {
+        if is_good_under_some(alloc, answered, place + 1, rrsig, keys)? {
             return Ok(true);
         }
     }
     Ok(false)
 }
 
-/// Whether the signature of the RRset is good under one of the keys. What it signs is made once, in the room, and not at
-/// all where none of the keys may have made it.
+/// Whether the signature of the RRset, which has the number in it, is good under one of the keys. Where the table doesn't
+/// know it by its numbers, what it signs is made once, and not at all where none of the keys may have made it.
 #[tactic(auto, using(crate::proofs::SigningLemmas::none_made, crate::proofs::SigningLemmas::not_verifiable, crate::proofs::SigningLemmas::never_signed))]
 fn is_good_under_some(
     alloc: Global,
-    room: &mut SigningRoom,
-    table: &Table<'_>,
-    rrset: &Rrset<'_>,
+    answered: &AnsweredRrset<'_, '_>,
+    number: usize,
     rrsig: &Rrsig<'_>,
     keys: &[KeyRecord<'_>],
 ) -> Result<bool, AllocError>
-    ensures { IfOk result (λ good. IsTrue good
-        ↔ IsGoodUnderSome (table_answer table.now) table.now.moment rrset.now rrsig.now keys.now) }
+    requires rrset { IsOfTable answered.now }
+    requires signature { IsSignatureAt answered.now.rrset.now number rrsig.now }
+    ensures { IfOk result (λ good. IsTrue good ↔ IsGoodUnderSome (table_answer answered.now.table.now)
+        answered.now.table.now.moment answered.now.rrset.now rrsig.now keys.now) }
 {
+    let (rrset, table) = (answered.rrset, answered.table);
     if !has_made_one(keys, rrsig) {
         return Ok(false);
     }
     if !is_verifiable(table.moment(), rrset, rrsig) {
         return Ok(false);
     }
-    a_pair_has_one_entry();
-    if !make_signed_data(alloc, room, rrset, rrsig)? {
-        return Ok(false);
+    if let Some(good) = is_good_by_number(answered, number, rrsig, keys) {
+        return Ok(good);
     }
-    Ok(is_valid_under_some(table, rrsig, room.octets.as_slice(), keys))
+    a_pair_has_one_entry();
+    let Some(octets) = signed_data(alloc, rrset, rrsig)? else {
+        return Ok(false);
+    };
+    Ok(is_valid_under_some(table, rrsig, octets.as_slice(), keys))
+}
+
+/// Whether the signature, which can be verified, is good under one of the keys, by what the table says of its numbers.
+/// `None` where the table doesn't know it by these.
+fn is_good_by_number(
+    answered: &AnsweredRrset<'_, '_>,
+    number: usize,
+    rrsig: &Rrsig<'_>,
+    keys: &[KeyRecord<'_>],
+) -> Option<bool>
+    requires rrset { IsOfTable answered.now }
+    requires signature { IsSignatureAt answered.now.rrset.now number rrsig.now }
+    requires verifiable { IsVerifiable answered.now.table.now.moment answered.now.rrset.now rrsig.now }
+    ensures { IfSome result (λ good. IsTrue good ↔ IsGoodUnderSome (table_answer answered.now.table.now)
+        answered.now.table.now.moment answered.now.rrset.now rrsig.now keys.now) }
+{
+    let number = SignatureNumber {
+        rrset: answered.number,
+        signature: number,
+    };
+    for key in keys {
+        let Some(good) = is_good_at(answered.table, number, rrsig, key) else {
+            return None;
+        };
+        if good {
+            return Some(true);
+        }
+    }
+    Some(false)
+}
+
+/// Whether the signature, which can be verified and has these numbers, is good under the key. `None` where the table doesn't
+/// know it by these.
+fn is_good_at(
+    table: &Table<'_>,
+    number: SignatureNumber,
+    rrsig: &Rrsig<'_>,
+    key: &KeyRecord<'_>,
+) -> Option<bool>
+    ensures { (rrset : ReceivedRrset) → HasNumber table.now.rrsets number rrset rrsig.now
+        → IsVerifiable table.now.moment rrset rrsig.now
+        → IfSome result (λ good. IsTrue good ↔ IsGood (table_answer table.now) table.now.moment rrset rrsig.now key.now) }
+{
+    if !may_have_made(key, rrsig) {
+        return Some(false);
+    }
+    match table.answer_at(number, key) {
+        Some(answer) => Some(answer == Answer::Valid),
+        None => None,
+    }
 }
 
 /// Whether one of the keys may have made the signature.

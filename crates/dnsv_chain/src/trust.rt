@@ -6,8 +6,8 @@ ghost use Rattle.dnsv_chain.specs.Trust.{keys_among, keys_of, signed_of};
 ghost use Rattle.dnsv_chain.specs.Kept.{AreDistinct, AreKeysOf, AreSigned, AreZones, IsKept};
 
 use crate::by_rdata::ByRdata;
+use crate::signing::answered::AnsweredRrset;
 use crate::signing::{TrustedKeys, good_numbers};
-use dnsv_canonical::{Rrset, SigningRoom};
 use dnsv_names::Name;
 use dnsv_records::Dnskey;
 use dnsv_verifier::{KeyRecord, Table};
@@ -47,15 +47,14 @@ impl<'c> Trust<'c> {
     /// What the keys of the trusted RRsets make good.
     pub(crate) fn of(
         alloc: Global,
-        table: &Table<'_>,
-        rrsets: &'c [Rrset<'c>],
+        table: &Table<'c>,
         keys: &TrustedKeys<'c>,
     ) -> Result<Trust<'c>, AllocError>
-        ensures { IfOk result (IsKept (table_answer table.now) table.now.moment rrsets.now (values_at keys.now)) }
+        ensures { IfOk result (IsKept (table_answer table.now) table.now.moment table.now.rrsets (values_at keys.now)) }
     {
         Ok(Trust {
             zones: keys_of_zones(alloc, keys)?,
-            signed: good_numbers_of_each(alloc, table, rrsets, keys)?,
+            signed: good_numbers_of_each(alloc, table, keys)?,
         })
     }
 
@@ -147,17 +146,22 @@ fn copies<'c>(alloc: Global, keys: &[ByRdata<'c>]) -> Result<Vec<Dnskey<'c>>, Al
 /// For each RRset the numbers of its good signatures.
 fn good_numbers_of_each<'a>(
     alloc: Global,
-    table: &Table<'_>,
-    rrsets: &'a [Rrset<'a>],
+    table: &Table<'a>,
     keys: &TrustedKeys<'a>,
 ) -> Result<Vec<Vec<usize>>, AllocError>
-    ensures { IfOk result (λ signed. AreSigned (table_answer table.now) table.now.moment rrsets.now
+    ensures { IfOk result (λ signed. AreSigned (table_answer table.now) table.now.moment table.now.rrsets
         (values_at keys.now) (map (λ numbers. numbers.items) signed.items)) }
 {
-    let mut signed = Vec::new(alloc);
-    let mut room = SigningRoom::new(alloc);
-    for rrset in rrsets {
-        signed.push(good_numbers(alloc, &mut room, table, rrset, keys)?)?;
+    let rrsets = table.capture().rrsets();
+    let mut signed = Vec::with_capacity(alloc, rrsets.len())?;
+    for (place, rrset) in rrsets.iter().enumerate() {
+        let number = place + 1;
+        let set = AnsweredRrset {
+            rrset,
+            number,
+            table,
+        };
+        signed.push(good_numbers(alloc, &set, keys)?)?;
     }
     Ok(signed)
 }

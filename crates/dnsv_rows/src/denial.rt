@@ -49,13 +49,13 @@ pub fn answer(row: &Row) -> Result<Option<String>, RowError> {
 fn deny(row: &Row) -> Result<String, RowError> {
     let bump = Bump::new(row.alloc());
     match capture_or_refusal(row, 0, &bump)? {
-        Ok(capture) => denied(row, &capture),
+        Ok(capture) => denied(row, &bump, &capture),
         Err(refusal) => Ok(refusal),
     }
 }
 
-fn denied(row: &Row, capture: &Capture<'_>) -> Result<String, RowError> {
-    let evidence = evidence_in(row, capture)?;
+fn denied(row: &Row, bump: &Bump, capture: &Capture<'_>) -> Result<String, RowError> {
+    let evidence = evidence_in(row, bump, capture)?;
     let name = row.name(3)?;
     let view = view_of(row.alloc(), &evidence, &name)?;
     denials(row.alloc(), &view, rtype_of(row.text(4)?)?)
@@ -66,14 +66,14 @@ fn denied(row: &Row, capture: &Capture<'_>) -> Result<String, RowError> {
 fn retrust(row: &Row) -> Result<String, RowError> {
     let bump = Bump::new(row.alloc());
     match capture_or_refusal(row, 0, &bump)? {
-        Ok(capture) => denied_again(row, &capture),
+        Ok(capture) => denied_again(row, &bump, &capture),
         Err(refusal) => Ok(refusal),
     }
 }
 
-fn denied_again(row: &Row, capture: &Capture<'_>) -> Result<String, RowError> {
-    let evidence = evidence_in(row, capture)?;
-    let before = trust_in(row, evidence.capture, 5)?;
+fn denied_again(row: &Row, bump: &Bump, capture: &Capture<'_>) -> Result<String, RowError> {
+    let evidence = evidence_in(row, bump, capture)?;
+    let before = trust_in(row, bump, evidence.capture, 5)?;
     let name = row.name(3)?;
     let view = view_with_hashes_of(row.alloc(), &evidence, &before, &name)?;
     denials(row.alloc(), &view, rtype_of(row.text(4)?)?)
@@ -109,13 +109,13 @@ fn make_view<'a>(
 fn closer(row: &Row) -> Result<String, RowError> {
     let bump = Bump::new(row.alloc());
     match capture_or_refusal(row, 0, &bump)? {
-        Ok(capture) => closer_in(row, &capture),
+        Ok(capture) => closer_in(row, &bump, &capture),
         Err(refusal) => Ok(refusal),
     }
 }
 
-fn closer_in(row: &Row, capture: &Capture<'_>) -> Result<String, RowError> {
-    let evidence = evidence_in(row, capture)?;
+fn closer_in(row: &Row, bump: &Bump, capture: &Capture<'_>) -> Result<String, RowError> {
+    let evidence = evidence_in(row, bump, capture)?;
     let name = row.name(3)?;
     let view = view_of(row.alloc(), &evidence, &name)?;
     closer_names(row, &view)
@@ -136,13 +136,13 @@ fn closer_names(row: &Row, view: &View<'_, '_>) -> Result<String, RowError> {
 fn hashes(row: &Row) -> Result<String, RowError> {
     let bump = Bump::new(row.alloc());
     match capture_or_refusal(row, 0, &bump)? {
-        Ok(capture) => hash_count(row, &capture),
+        Ok(capture) => hash_count(row, &bump, &capture),
         Err(refusal) => Ok(refusal),
     }
 }
 
-fn hash_count(row: &Row, capture: &Capture<'_>) -> Result<String, RowError> {
-    let evidence = evidence_in(row, capture)?;
+fn hash_count(row: &Row, bump: &Bump, capture: &Capture<'_>) -> Result<String, RowError> {
+    let evidence = evidence_in(row, bump, capture)?;
     let mut count = Count::new();
     let name = row.name(3)?;
     View::new(

@@ -172,7 +172,7 @@ module _ (rrsets : List ReceivedRrset) (anchors : List Anchor) (meaning : Entry 
 -- ---- the whole
 
 abbrev table_at : TableContents → ℕ → TableContents
-table_at table moment = record { moment = moment; answers = table.answers }
+table_at table moment = record { moment = moment; rrsets = table.rrsets; answers = table.answers }
 
 abbrev explained_at : Explained → ℕ → Explained
 explained_at explained moment = record {
@@ -250,6 +250,7 @@ module _ (basis : Basis) (other : ℕ) (same : AreSignaturesSameValid basis.rrse
       → IsTableOf basis.meaning other basis.rrsets (table_at table other)
   table_too table of = record {
     of_moment = refl;
+    of_rrsets = of.of_rrsets;
     entries = of.entries;
     rising = of.rising;
     asked = λ entry. (

@@ -34,6 +34,7 @@ pub table_alike : (a b : Entry → Answer) (moment : ℕ) (rrsets : List Receive
     → (contents : TableContents) → IsTableOf a moment rrsets contents → IsTableOf b moment rrsets contents
 table_alike a b moment rrsets same contents of = record {
   of_moment = of.of_moment;
+  of_rrsets = of.of_rrsets;
   entries = of.entries;
   rising = of.rising;
   asked = of.asked;

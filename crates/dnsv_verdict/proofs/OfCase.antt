@@ -12,13 +12,19 @@ use Rattle.dnsv_verdict.specs.Case.{CaseContents, HasTrust, IsCaseOf, IsCaseWith
 use Rattle.dnsv_verdict.specs.Verdict.{Basis, basis_of}
 
 -- a case with the table of a verifier is one of what that verifier says
-pub case_with : (basis : Basis) (table : TableContents) (case : CaseContents) → IsCaseWith basis.rrsets basis.anchors table case
+case_with : (basis : Basis) (table : TableContents) (case : CaseContents) → IsCaseWith basis.rrsets basis.anchors table case
     → IsTableOf basis.meaning basis.moment basis.rrsets table → IsCaseOf basis case
 case_with basis table case made of = record {
   rrsets = made.rrsets;
   anchors = made.anchors;
   table = subst (λ each. IsTableOf basis.meaning basis.moment basis.rrsets each) (sym made.table) of;
 }
+
+-- the same of a case with a table and its evidence
+pub case_by : (basis : Basis) (table : TableContents) (case : CaseContents) → IsCaseWith table.rrsets basis.anchors table case
+    → IsTableOf basis.meaning basis.moment basis.rrsets table → IsCaseOf basis case
+case_by basis table case made of =
+    case_with basis table case (subst (λ rrsets. IsCaseWith rrsets basis.anchors table case) of.of_rrsets made) of
 
 -- the table is that of the case's own RRsets
 pub table_in : (basis : Basis) (case : CaseContents) → IsCaseOf basis case → IsTableOf basis.meaning basis.moment case.rrsets case.table

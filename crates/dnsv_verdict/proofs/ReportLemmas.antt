@@ -44,6 +44,7 @@ pub table_of_itself : (meaning : Entry → Answer) (moment : ℕ) (rrsets : List
     → IsTableOf meaning moment rrsets contents → IsTableOf (table_answer contents) contents.moment rrsets contents
 table_of_itself meaning moment rrsets contents says is = record {
   of_moment = refl;
+  of_rrsets = is.of_rrsets;
   entries = is.entries;
   rising = is.rising;
   asked = λ entry. (

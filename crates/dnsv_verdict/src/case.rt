@@ -6,14 +6,14 @@ pub mod open_case;
 pub mod shared;
 mod tracing;
 
-ghost use Rattle.std.specs.Prelude.{◌≡◌, ℕ, IfOk, length};
-ghost use Rattle.dnsv_names.specs.Count.{counted};
+ghost use Rattle.std.specs.Prelude.{◌≡◌, ℕ, IfOk, List, length};
+ghost use Rattle.dnsv_canonical.specs.Rrsets.{ReceivedRrset};
 ghost use Rattle.dnsv_chain.specs.Trust.{SecuredIn};
 ghost use Rattle.dnsv_denial.specs.gathering.ByZone.{AreDenialRecords};
 ghost use Rattle.dnsv_verdict.specs.Case.{HasTrust, IsCaseOf, IsCaseWith};
 ghost use Rattle.dnsv_verdict.specs.Verdict.{basis_of};
 ghost use Rattle.dnsv_verifier.specs.Asked.{IsNumberAsked};
-ghost use Rattle.dnsv_verifier.specs.Table.{IsTableOf};
+ghost use Rattle.dnsv_verifier.specs.Table.{IsTableOf, hopeful};
 ghost use Rattle.dnsv_verifier.specs.declared.answer.Answer.{Answer};
 ghost use Rattle.dnsv_verifier.specs.declared.entry.Entry.{Entry};
 
@@ -31,18 +31,14 @@ use std::marker::Model;
 /// is asked of the verifier again, and no question changes the case.
 #[derive(Drop)]
 pub struct Case<'a> {
-    capture: &'a Capture<'a>,
     anchors: &'a Anchors<'a>,
     table: Table<'a>,
     trust: Trust<'a>,
     /// The records of denials that zones secured by the trust, gathered once for all names that are asked.
     denials: DenialRecords<'a>,
-    /// How many entries the verifier was asked.
-    asked: u64,
 }
 
 impl<'a> Model for Case<'a> {
-    ghost use Rattle.std.specs.Prelude.{◌≡◌, length};
     ghost use Rattle.dnsv_chain.specs.Trust.{SecuredIn};
     ghost use Rattle.dnsv_denial.specs.gathering.ByZone.{AreDenialRecords};
     ghost use Rattle.dnsv_verdict.specs.Case.{CaseContents, HasTrust};
@@ -50,19 +46,18 @@ impl<'a> Model for Case<'a> {
     ghost Value = { CaseContents };
 
     ghost view = { λ case. record {
-      rrsets = case.capture.now.rrsets;
+      rrsets = case.table.rrsets;
       anchors = case.anchors.now;
       table = case.table;
       trust = case.trust;
     } };
 
     ghost invariant = { λ case. HasTrust (record {
-      rrsets = case.capture.now.rrsets;
+      rrsets = case.table.rrsets;
       anchors = case.anchors.now;
       table = case.table;
       trust = case.trust;
-    }) × AreDenialRecords (SecuredIn case.trust) case.capture.now.rrsets case.denials
-        × (case.asked ≡ length case.table.answers) };
+    }) × AreDenialRecords (SecuredIn case.trust) case.table.rrsets case.denials };
 }
 
 impl<'a> Case<'a> {
@@ -82,27 +77,39 @@ impl<'a> Case<'a> {
     {
         let mut asked = Count::new();
         let table = ask_all(alloc, bump, capture, moment, verifier, &mut asked)?;
-        let asked = exact(&asked, &table);
-        let case = with_trust(alloc, capture, anchors, table, asked)?;
+        let case = Case::of(alloc, anchors, table)?;
         Ok(case)
     }
 
-    /// The case of a capture and trust anchors with a table, which says what a verifier says of the capture at a moment.
-    /// Nobody is asked.
+    /// The case of the evidence that the table is of, and trust anchors: the table says what a verifier says of it at a
+    /// moment. Nobody is asked.
     pub fn of(
         alloc: Global,
-        capture: &'a Capture<'a>,
         anchors: &'a Anchors<'a>,
         table: Table<'a>,
     ) -> Result<Case<'a>, AllocError>
-        ensures of { IfOk result (IsCaseWith capture.now.rrsets anchors.now table.entry) }
+        ensures of { IfOk result (IsCaseWith table.entry.rrsets anchors.now table.entry) }
         // Whoever the table is of, it is that verifier's case.
-        ensures basis { (meaning : Entry → Answer) (moment : ℕ)
-            → IsTableOf meaning moment capture.now.rrsets table.entry
-            → IfOk result (IsCaseOf (basis_of capture.now.rrsets anchors.now moment meaning)) }
+        ensures basis { (meaning : Entry → Answer) (moment : ℕ) (rrsets : List ReceivedRrset)
+            → IsTableOf meaning moment rrsets table.entry
+            → IfOk result (IsCaseOf (basis_of rrsets anchors.now moment meaning)) }
     {
-        let asked = table.len() as u64;
-        let case = with_trust(alloc, capture, anchors, table, asked)?;
+        let trust = trusted(alloc, anchors, &table)?;
+        let denials = DenialRecords::of(alloc, table.capture(), &trust)?;
+        Ok(Case {
+            anchors,
+            table,
+            trust,
+            denials,
+        })
+    }
+
+    /// The same evidence and trust anchors with the best that may come of the table.
+    pub(crate) fn hopeful(&self, alloc: Global) -> Result<Case<'a>, AllocError>
+        ensures { IfOk result (IsCaseWith self.now.rrsets self.now.anchors (hopeful self.now.table)) }
+    {
+        let table = self.table.hopeful(alloc)?;
+        let case = Case::of(alloc, self.anchors, table)?;
         Ok(case)
     }
 
@@ -110,7 +117,7 @@ impl<'a> Case<'a> {
     pub fn capture(&self) -> &'a Capture<'a>
         ensures { result.now.rrsets ≡ self.now.rrsets }
     {
-        self.capture
+        self.table.capture()
     }
 
     /// The trust anchors.
@@ -146,39 +153,6 @@ impl<'a> Case<'a> {
     pub fn asked(&self) -> u64
         ensures { result ≡ length self.now.table.answers }
     {
-        self.asked
+        self.table.len() as u64
     }
-}
-
-/// The case with the trust that the evidence, the anchors and the table give.
-fn with_trust<'a>(
-    alloc: Global,
-    capture: &'a Capture<'a>,
-    anchors: &'a Anchors<'a>,
-    table: Table<'a>,
-    asked: u64,
-) -> Result<Case<'a>, AllocError>
-    requires { asked ≡ length table.answers }
-    ensures { IfOk result (IsCaseWith capture.now.rrsets anchors.now table.entry) }
-{
-    let trust = trusted(alloc, capture, anchors, &table)?;
-    let denials = DenialRecords::of(alloc, capture, &trust)?;
-    Ok(Case {
-        capture,
-        anchors,
-        table,
-        trust,
-        denials,
-        asked,
-    })
-}
-
-/// The count of a table's entries: they lie in memory, so their number is below the greatest value of a count.
-fn exact(asked: &Count, table: &Table<'_>) -> u64
-    requires { asked.now ≡ counted 0 (length table.now.answers) }
-    ensures { result ≡ length table.now.answers }
-{
-    // What is true of every table.
-    let _entries = table.len();
-    asked.value()
 }

@@ -8,6 +8,7 @@ pub mod NamedLemmas
 pub mod NumberLemmas
 pub mod NumberedLemmas
 pub mod PanelLemmas
+pub mod PlaceLemmas
 pub mod SaidLemmas
 pub mod SearchLemmas
 pub mod StatementLemmas

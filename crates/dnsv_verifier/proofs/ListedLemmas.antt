@@ -2,6 +2,7 @@
 use Rattle.std.proofs.Common.{◌≡◌, ℕ, ◌<◌, List, [], ◌∷◌, Option, Some, None, cond, length, get_or, map, min, true, false, refl, sym, ap, ◌∙◌, subst, arith, unwrap_or}
 use Rattle.std.proofs.lemmas.Cmp.{tied_itself}
 use Rattle.std.proofs.lemmas.List.{get_or_default, length-map}
+use Rattle.std.proofs.lemmas.List.Elements.{Contains-get_or}
 use Rattle.std.proofs.lemmas.Slice.Zip.{firsts-zip, get_or-zip, length-zip}
 use Rattle.std.specs.List.{Contains, HoldsAt, filter, zip}
 use Rattle.std.specs.List.Sorted.{IsStrictlySortedBy}
@@ -9,14 +10,20 @@ use Rattle.std.specs.Map.{lookup}
 use Rattle.std.specs.Ordering.{is_eq, ordering_reverse}
 use Rattle.std.specs.declared.cmp.Ordering.{Ordering}
 use Rattle.std.specs.declared.cmp.Ordering.TheVariants.{Less, Equal, Greater}
+use Rattle.dnsv_records.specs.declared.number.Algorithm.{Algorithm}
+use Rattle.dnsv_canonical.specs.Rrsets.{ReceivedRrset}
+use Rattle.dnsv_verifier.specs.Admissible.{DnskeyRecord}
 use Rattle.dnsv_verifier.specs.Entry.{entry_cmp}
 use Rattle.dnsv_verifier.specs.EntryLaws.{entry_cmp_total, entry_Equal}
-use Rattle.dnsv_verifier.specs.Numbers.{AllOfParts, AreNumbersOf, AreOfParts, AreRising, PartLists, answers_of, entry_of, key_cmp, listed_answer, numbers_cmp, signature_cmp}
-use Rattle.dnsv_verifier.specs.Table.{hoped_answer, hopeful, is_unknown, with_answers}
+use Rattle.dnsv_verifier.specs.Numbers.{AllOfParts, AreNumbersOf, AreOfParts, AreRising, IsPlaceOf, PartLists, answers_of, entry_of, key_cmp, key_of, listed_answer, numbers_cmp, signature_cmp, signature_of}
+use Rattle.dnsv_verifier.specs.Table.{IsAnswerAt, TableContents, hoped_answer, hopeful, is_unknown, with_answers}
 use Rattle.dnsv_verifier.specs.declared.answer.Answer.{Answer}
 use Rattle.dnsv_verifier.specs.declared.answer.Answer.TheVariants.{Unknown}
 use Rattle.dnsv_verifier.specs.declared.entry.Entry.{Entry}
 use Rattle.dnsv_verifier.specs.declared.entry.parts.EntryNumbers.{EntryNumbers}
+use Rattle.dnsv_verifier.specs.declared.entry.parts.KeyPart.{KeyPart}
+use Rattle.dnsv_verifier.specs.declared.entry.parts.SignaturePart.{SignaturePart}
+use Rattle.dnsv_verifier.specs.declared.table.place.SignaturePlace.{SignaturePlace}
 use Rattle.dnsv_verifier.proofs.NumberLemmas.{at_front, contains_from_map, contains_map, further, hoped_answers, less_entry, numbers_Equal, numbers_cmp_total, rising_entries}
 use Rattle.dnsv_verifier.proofs.SearchLemmas.{found_at, not_listed, pairs_again}
 
@@ -41,11 +48,11 @@ zip_hoped [] answers = refl
 zip_hoped (n ∷ numbers) [] = refl
 zip_hoped (n ∷ numbers) (a ∷ answers) = ap (λ rest. (n, hoped_answer a) ∷ rest) (zip_hoped numbers answers)
 
-pub hoped_table : (moment : ℕ) (parts : PartLists) (numbers : List EntryNumbers) (answers : List Answer)
-    → record { moment = moment; answers = answers_of parts (zip numbers (map hoped_answer answers)) } ≡ hopeful (record { moment = moment; answers = answers_of parts (zip numbers answers) })
-hoped_table moment parts numbers answers =
+pub hoped_table : (moment : ℕ) (rrsets : List ReceivedRrset) (parts : PartLists) (numbers : List EntryNumbers) (answers : List Answer)
+    → record { moment = moment; rrsets = rrsets; answers = answers_of parts (zip numbers (map hoped_answer answers)) } ≡ hopeful (record { moment = moment; rrsets = rrsets; answers = answers_of parts (zip numbers answers) })
+hoped_table moment rrsets parts numbers answers =
     let listed = ap (answers_of parts) (zip_hoped numbers answers) ∙ hoped_answers parts (zip numbers answers) in
-    λ i. record { moment = moment; answers = listed i }
+    λ i. record { moment = moment; rrsets = rrsets; answers = listed i }
 
 -- other answers for the same entries
 other_answers : (parts : PartLists) (numbers : List EntryNumbers) (old new : List Answer) → length old ≡ length numbers
@@ -56,11 +63,11 @@ other_answers parts (n ∷ numbers) (a ∷ old) [] each = refl
 other_answers parts (n ∷ numbers) (a ∷ old) (b ∷ new) each =
     ap (λ rest. (entry_of parts n, b) ∷ rest) (other_answers parts numbers old new (omega (arith, each)))
 
-pub table_with : (moment : ℕ) (parts : PartLists) (numbers : List EntryNumbers) (old new : List Answer) → length old ≡ length numbers
-    → record { moment = moment; answers = answers_of parts (zip numbers new) } ≡ with_answers (record { moment = moment; answers = answers_of parts (zip numbers old) }) new
-table_with moment parts numbers old new each =
+pub table_with : (moment : ℕ) (rrsets : List ReceivedRrset) (parts : PartLists) (numbers : List EntryNumbers) (old new : List Answer) → length old ≡ length numbers
+    → record { moment = moment; rrsets = rrsets; answers = answers_of parts (zip numbers new) } ≡ with_answers (record { moment = moment; rrsets = rrsets; answers = answers_of parts (zip numbers old) }) new
+table_with moment rrsets parts numbers old new each =
     let listed = other_answers parts numbers old new each in
-    λ i. record { moment = moment; answers = listed i }
+    λ i. record { moment = moment; rrsets = rrsets; answers = listed i }
 
 -- as many answers as the table has entries
 pub length_with : (parts : PartLists) (numbers : List EntryNumbers) (old new : List Answer) → length old ≡ length numbers
@@ -171,3 +178,55 @@ module _ (parts : PartLists) (numbers : List EntryNumbers) (answers : List Answe
   pub says_nothing : ((wanted : EntryNumbers) → AreNumbersOf parts entry wanted → ⊥)
       → Unknown ≡ unwrap_or (lookup (λ each. is_eq (entry_cmp entry each)) (answers_of parts (zip numbers answers))) Unknown
   says_nothing none = sym (unlisted parts (zip numbers answers) again entry none)
+
+-- ---- what is said of a signature at its place
+
+module _ (moment : ℕ) (rrsets : List ReceivedRrset) (parts : PartLists) (numbers : List EntryNumbers) (answers : List Answer)
+    (each : length answers ≡ length numbers) (are : AreRising parts numbers) (place : SignaturePlace) (is : IsPlaceOf rrsets parts place)
+    (key : DnskeyRecord) where
+  abbrev Contents : TableContents
+  Contents = record { moment = moment; rrsets = rrsets; answers = answers_of parts (zip numbers answers) }
+
+  abbrev KeyField : KeyPart
+  KeyField = record { algorithm = place.algorithm; key = key.dnskey.key }
+
+  -- under a key that is one of the parts
+  pub says_at : (k : ℕ) → k < length parts.keys → key_of parts k ≡ KeyField
+      → IsAnswerAt Contents place.number key (listed_answer (zip numbers answers) (record { key = k; signature = place.part }))
+  says_at k within its =
+      let wanted : EntryNumbers = record { key = k; signature = place.part } in
+      let entry : Entry = entry_of parts wanted in
+      record {
+        rrset = is.rrset;
+        rrsig = is.rrsig;
+        has_number = is.has_number;
+        entry = entry;
+        asked = record {
+          algorithm = ap (λ (part : KeyPart). part.algorithm.0) its ∙ ap (λ (algorithm : Algorithm). algorithm.0) is.algorithm;
+          key_field = ap (λ (part : KeyPart). part.key) its;
+          signed_data = is.part_of.signed_data;
+          signature = is.part_of.signature;
+        };
+        says = says_listed parts numbers answers each are entry wanted (record { within = record { key = within; signature = is.within }; is = refl });
+      }
+
+  -- under a key that is none of them
+  pub says_none : (Contains parts.keys KeyField → ⊥) → IsAnswerAt Contents place.number key Unknown
+  says_none missing =
+      let part : SignaturePart = signature_of parts place.part in
+      let entry : Entry = record { algorithm = place.algorithm; key = key.dnskey.key; signed_data = part.signed_data; signature = part.signature } in
+      record {
+        rrset = is.rrset;
+        rrsig = is.rrsig;
+        has_number = is.has_number;
+        entry = entry;
+        asked = record {
+          algorithm = ap (λ (algorithm : Algorithm). algorithm.0) is.algorithm;
+          key_field = refl;
+          signed_data = is.part_of.signed_data;
+          signature = is.part_of.signature;
+        };
+        says = says_nothing parts numbers answers each are entry (λ wanted its.
+            let same : key_of parts wanted.key ≡ KeyField = λ i. record { algorithm = (its.is i).algorithm; key = (its.is i).key } in
+            missing (subst (λ (part : KeyPart). Contains parts.keys part) same (Contains-get_or parts.keys wanted.key _ its.within.key)));
+      }

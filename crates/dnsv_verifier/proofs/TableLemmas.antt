@@ -78,7 +78,7 @@ module _ (meaning : Entry → Answer) (moment : ℕ) (rrsets : List ReceivedRrse
       (λ e m. IsMember-from_contains is.entries e ((is.asked e).1 ((its.asked e).0 (Contains-from_member its.entries e m)))) in
       let answers : contents.answers ≡ other.answers =
       is.answers ∙ ap (answered meaning) entries ∙ sym its.answers in
-      λ i. record { moment = (is.of_moment ∙ sym its.of_moment) i; answers = answers i }
+      λ i. record { moment = (is.of_moment ∙ sym its.of_moment) i; rrsets = (is.of_rrsets ∙ sym its.of_rrsets) i; answers = answers i }
 
 -- what stands among the Unknown ones is Unknown
 unknown_is : (meaning : Entry → Answer) (entries : List Entry) (entry : Entry)
@@ -121,6 +121,7 @@ module _ (meaning : Entry → Answer) (moment : ℕ) (rrsets : List ReceivedRrse
       → IsTableOf later moment rrsets (hopeful contents)
   hopeful_is_table later same = record {
     of_moment = is.of_moment;
+    of_rrsets = is.of_rrsets;
     entries = is.entries;
     rising = is.rising;
     asked = is.asked;

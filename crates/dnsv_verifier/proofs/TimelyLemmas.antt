@@ -239,6 +239,7 @@ timely_of rrsets moment entry asked =
 abbrev pub left_at : TableContents → ℕ → TableContents
 left_at table moment = record {
   moment = moment;
+  rrsets = table.rrsets;
   answers = filter (λ (each : Entry × Answer). is_timely moment each.0) table.answers;
 }
 
@@ -246,6 +247,7 @@ pub table_left : (table : TableContents) (moment : ℕ) → IsStrictlySortedBy e
     → IsTableAt table moment (left_at table moment)
 table_left table moment rising = record {
   of_moment = refl;
+  of_rrsets = refl;
   rising = rising_filtered (λ each. is_timely moment each.0) table.answers rising;
   members = λ each.
       let kept = kept_contains (λ (one : Entry × Answer). is_timely moment one.0) table.answers each in (
@@ -259,6 +261,7 @@ pub table_within : (meaning : Entry → Answer) (from to : ℕ) (rrsets : List R
     → IsTableOf meaning moment rrsets (left_at table moment)
 table_within meaning from to rrsets table moment is begins ends = record {
   of_moment = refl;
+  of_rrsets = is.of_rrsets;
   entries = filter (is_timely moment) is.entries;
   rising = IsStrictlySortedBy-filter entry_cmp (is_timely moment) is.entries is.asked.rising;
   asked = λ entry.
@@ -298,22 +301,23 @@ module _ (parts : PartLists) (numbers : List EntryNumbers) (answers : List Answe
   left_each =
       length-map Kept (λ (pair : EntryNumbers × Answer). pair.1) ∙ sym (length-map Kept (λ (pair : EntryNumbers × Answer). pair.0))
 
-  left_table : (before : ℕ) → record {
+  left_table : (before : ℕ) (rrsets : List ReceivedRrset) → record {
     moment = moment;
+    rrsets = rrsets;
     answers = answers_of parts (zip (map (λ (pair : EntryNumbers × Answer). pair.0) Kept) (map (λ (pair : EntryNumbers × Answer). pair.1) Kept));
-  } ≡ left_at (record { moment = before; answers = answers_of parts (zip numbers answers) }) moment
-  left_table before =
+  } ≡ left_at (record { moment = before; rrsets = rrsets; answers = answers_of parts (zip numbers answers) }) moment
+  left_table before rrsets =
       let listed = ap (answers_of parts) (zip_parts Kept)
       ∙ sym (filter_mapped (λ (pair : EntryNumbers × Answer). (entry_of parts pair.0, pair.1)) (λ (one : Entry × Answer). is_timely moment one.0) (zip numbers answers)) in
-      λ i. record { moment = moment; answers = listed i }
+      λ i. record { moment = moment; rrsets = rrsets; answers = listed i }
 
-  pub left_by : (before : ℕ) (copied : PartLists) (kept : List EntryNumbers) (said : List Answer) (table result : TableContents)
+  pub left_by : (before : ℕ) (rrsets : List ReceivedRrset) (copied : PartLists) (kept : List EntryNumbers) (said : List Answer) (table result : TableContents)
       → copied ≡ parts → kept ≡ map (λ (pair : EntryNumbers × Answer). pair.0) Kept → said ≡ map (λ (pair : EntryNumbers × Answer). pair.1) Kept
-      → record { moment = before; answers = answers_of parts (zip numbers answers) } ≡ table
-      → result ≡ record { moment = moment; answers = answers_of copied (zip kept said) } → result ≡ left_at table moment
-  left_by before copied kept said table result same numbers_are answers_are view is =
-      is ∙ (λ i. record { moment = moment; answers = answers_of (same i) (zip (numbers_are i) (answers_are i)) })
-      ∙ left_table before ∙ ap (λ (t : TableContents). left_at t moment) view
+      → record { moment = before; rrsets = rrsets; answers = answers_of parts (zip numbers answers) } ≡ table
+      → result ≡ record { moment = moment; rrsets = rrsets; answers = answers_of copied (zip kept said) } → result ≡ left_at table moment
+  left_by before rrsets copied kept said table result same numbers_are answers_are view is =
+      is ∙ (λ i. record { moment = moment; rrsets = rrsets; answers = answers_of (same i) (zip (numbers_are i) (answers_are i)) })
+      ∙ left_table before rrsets ∙ ap (λ (t : TableContents). left_at t moment) view
 
 -- a range of one moment
 asked_then : (moment : ℕ) (rrsets : List ReceivedRrset) (entry : Entry) → IsAskedWithin moment moment rrsets entry → IsAsked moment rrsets entry
@@ -329,6 +333,7 @@ table_then meaning moment rrsets table of_moment is =
     let itself : moment ≤ moment = omega arith in
     record {
       of_moment = of_moment;
+      of_rrsets = is.of_rrsets;
       entries = is.entries;
       rising = is.asked.rising;
       asked = λ entry. (

@@ -1,5 +1,6 @@
 -- How the entries that are asked are found. No public clause cites this module.
-use Rattle.std.specs.Prelude.{◌≡◌, ◌≤◌, ◌↔◌, ◌⊎◌, ⊤, ℕ, IsTrue, IsBitSet, List, Contains, Some}
+use Rattle.std.specs.Prelude.{◌≡◌, ◌↔◌, ◌⊎◌, ⊤, ℕ, IsTrue, IsBitSet, List, Contains, Some}
+use Rattle.std.specs.List.{AllZip}
 use Rattle.std.specs.Ordering.{nat_cmp, ordering_then}
 use Rattle.std.specs.declared.cmp.Ordering.{Ordering}
 use Rattle.dnsv_names.specs.Name.{Labels}
@@ -8,9 +9,12 @@ use Rattle.dnsv_records.specs.Algorithm.{is_supported}
 use Rattle.dnsv_records.specs.Dnskey.{IsDnskey}
 use Rattle.dnsv_records.specs.Dnskey.KeyTag.{key_tag_of}
 use Rattle.dnsv_records.specs.declared.rrsig.Rrsig.{Rrsig}
-use Rattle.dnsv_canonical.specs.Rrsets.{ReceivedRrset}
+use Rattle.dnsv_canonical.specs.Rrsets.{IsNumbered, ReceivedRrset}
 use Rattle.dnsv_canonical.specs.SignedData.{IsSignedData}
-use Rattle.dnsv_verifier.specs.Admissible.{DnskeyRecord, IsKeyAmong, IsSignatureOf, IsVerifiable, MayHaveMade}
+use Rattle.dnsv_canonical.specs.declared.number.SignatureNumber.{SignatureNumber}
+use Rattle.dnsv_verifier.specs.Admissible.{DnskeyRecord, IsKeyAmong, IsSignatureOf, MayHaveMade}
+use Rattle.dnsv_verifier.specs.Table.{HasNumber}
+use Rattle.dnsv_verifier.specs.Within.{IsVerifiableWithin}
 use Rattle.dnsv_verifier.specs.declared.entry.Entry.{Entry}
 use Rattle.dnsv_verifier.specs.declared.entry.parts.SignaturePart.{SignaturePart}
 
@@ -110,13 +114,6 @@ pub record MadeSignature : Type 0 where
 abbrev pub IsMadeBySome : List DnskeyRecord → Rrsig → Type 0
 IsMadeBySome keys rrsig = (key : DnskeyRecord) × Contains keys key × MayHaveMade key rrsig
 
--- some key might verify the signature of the RRset at some moment of the range
-pub record IsVerifiableWithin (from to : ℕ) (rrset : ReceivedRrset) (rrsig : Rrsig) : Type 0 where
-  pub moment : ℕ
-  pub begins : from ≤ moment
-  pub ends : moment ≤ to
-  pub verifiable : IsVerifiable moment rrset rrsig
-
 -- the signature of the RRset can be verified within the range, and one of the keys may have made it
 pub record IsMadeOf (from to : ℕ) (keys : List DnskeyRecord) (rrset : ReceivedRrset) (rrsig : Rrsig)
     (made : MadeSignature) : Type 0 where
@@ -134,3 +131,20 @@ pub record IsMadeIn (from to : ℕ) (keys : List DnskeyRecord) (rrset : Received
 -- the entry is that of the signature and one of the keys, which may have made it
 abbrev pub IsEntryOfMade : List DnskeyRecord → MadeSignature → Entry → Type 0
 IsEntryOfMade keys made entry = ComesOfSome (IsEntryBy made.rrsig made.part) keys entry
+
+-- the signature is the one with these numbers in the evidence, and its part is what it gives to its entries
+pub record IsMadeAt (rrsets : List ReceivedRrset) (number : SignatureNumber) (made : MadeSignature) : Type 0 where
+  pub rrset : ReceivedRrset
+  pub has_number : HasNumber rrsets number rrset made.rrsig
+  pub part_of : IsPartOf rrset made.rrsig made.part
+
+-- each has its number
+abbrev pub AreMadeAt : List ReceivedRrset → List SignatureNumber → List MadeSignature → Type 0
+AreMadeAt rrsets numbers made = AllZip (IsMadeAt rrsets) numbers made
+
+-- the same of more, all of the RRset with the number, where it was so before
+abbrev pub KeepsNumbers : ℕ → ReceivedRrset → List SignatureNumber → List MadeSignature → List SignatureNumber
+    → List MadeSignature → Type 0
+KeepsNumbers number rrset old_numbers old numbers made =
+    (rrsets : List ReceivedRrset) → IsNumbered rrsets number rrset → AreMadeAt rrsets old_numbers old
+    → AreMadeAt rrsets numbers made

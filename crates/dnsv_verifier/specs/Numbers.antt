@@ -8,14 +8,19 @@ use Rattle.std.specs.declared.cmp.Ordering.{Ordering}
 use Rattle.std.specs.declared.cmp.Ordering.TheVariants.{Equal}
 use Rattle.dnsv_names.specs.Octets.{number_at, octets_cmp}
 use Rattle.dnsv_records.specs.Rrsig.Time.{seconds_on}
+use Rattle.dnsv_records.specs.declared.rrsig.Rrsig.{Rrsig}
+use Rattle.dnsv_canonical.specs.Rrsets.{ReceivedRrset}
+use Rattle.dnsv_canonical.specs.declared.number.SignatureNumber.{SignatureNumber}
 use Rattle.dnsv_verifier.specs.Admissible.{DnskeyRecord}
-use Rattle.dnsv_verifier.specs.Asking.{CanSign, ComesOfSome, MadeSignature, NumberedName, key_name_cmp, name_of_key, named_by}
+use Rattle.dnsv_verifier.specs.Asking.{CanSign, ComesOfSome, IsPartOf, MadeSignature, NumberedName, key_name_cmp, name_of_key, named_by}
+use Rattle.dnsv_verifier.specs.Table.{HasNumber}
 use Rattle.dnsv_verifier.specs.declared.answer.Answer.{Answer}
 use Rattle.dnsv_verifier.specs.declared.answer.Answer.TheVariants.{Unknown}
 use Rattle.dnsv_verifier.specs.declared.entry.Entry.{Entry}
 use Rattle.dnsv_verifier.specs.declared.entry.parts.EntryNumbers.{EntryNumbers}
 use Rattle.dnsv_verifier.specs.declared.entry.parts.KeyPart.{KeyPart}
 use Rattle.dnsv_verifier.specs.declared.entry.parts.SignaturePart.{SignaturePart}
+use Rattle.dnsv_verifier.specs.declared.table.place.SignaturePlace.{SignaturePlace}
 
 -- by algorithm and key
 abbrev pub key_cmp : KeyPart → KeyPart → Ordering
@@ -28,6 +33,10 @@ signature_cmp a b = ordering_then (octets_cmp a.signed_data b.signed_data) (octe
 -- by the key's number and the signature's
 abbrev pub numbers_cmp : EntryNumbers → EntryNumbers → Ordering
 numbers_cmp a b = ordering_then (nat_cmp a.key b.key) (nat_cmp a.signature b.signature)
+
+-- by the number of the RRset and the signature's
+abbrev pub signature_number_cmp : SignatureNumber → SignatureNumber → Ordering
+signature_number_cmp a b = ordering_then (nat_cmp a.rrset b.rrset) (nat_cmp a.signature b.signature)
 
 -- the keys and the signatures that entries are made of
 pub record PartLists : Type 0 where
@@ -123,3 +132,21 @@ pub record IsPairBy (key signature : NumberedName) (pair : EntryNumbers) : Type 
 -- the pair is that of the key and one of the signatures that name it
 abbrev pub IsPairIn : List NumberedName → NumberedName → EntryNumbers → Type 0
 IsPairIn signatures key pair = ComesOfSome (IsPairBy key) signatures pair
+
+-- the number is that of what the signature gives to its entries
+pub record IsPartNumber (parts : PartLists) (made : MadeSignature) (number : ℕ) : Type 0 where
+  pub value : signature_of parts number ≡ made.part
+  pub within : number < length parts.signatures
+
+-- the signature with its numbers in the evidence, and the number of what it gives to its entries
+pub record IsPlaceOf (rrsets : List ReceivedRrset) (parts : PartLists) (place : SignaturePlace) : Type 0 where
+  pub rrset : ReceivedRrset
+  pub rrsig : Rrsig
+  pub has_number : HasNumber rrsets place.number rrset rrsig
+  pub algorithm : place.algorithm ≡ rrsig.algorithm
+  pub part_of : IsPartOf rrset rrsig (signature_of parts place.part)
+  pub within : place.part < length parts.signatures
+
+-- so it is with each
+abbrev pub ArePlaces : List ReceivedRrset → PartLists → List SignaturePlace → Type 0
+ArePlaces rrsets parts places = (place : SignaturePlace) → Contains places place → IsPlaceOf rrsets parts place

@@ -4,16 +4,20 @@ use Rattle.std.specs.List.{zip}
 use Rattle.std.specs.List.Sorted.{IsStrictlySortedBy}
 use Rattle.std.specs.Map.{lookup}
 use Rattle.std.specs.Ordering.{is_eq}
-use Rattle.dnsv_canonical.specs.Rrsets.{ReceivedRrset}
-use Rattle.dnsv_verifier.specs.Admissible.{IsAsked}
+use Rattle.dnsv_records.specs.Rrsig.{IsRrsig}
+use Rattle.dnsv_records.specs.declared.rrsig.Rrsig.{Rrsig}
+use Rattle.dnsv_canonical.specs.Rrsets.{IsNumbered, ReceivedRrset}
+use Rattle.dnsv_canonical.specs.declared.number.SignatureNumber.{SignatureNumber}
+use Rattle.dnsv_verifier.specs.Admissible.{DnskeyRecord, IsAsked, IsEntryOf}
 use Rattle.dnsv_verifier.specs.Entry.{entry_cmp}
 use Rattle.dnsv_verifier.specs.declared.answer.Answer.{Answer}
 use Rattle.dnsv_verifier.specs.declared.answer.Answer.TheVariants.{Valid, Invalid, Unknown}
 use Rattle.dnsv_verifier.specs.declared.entry.Entry.{Entry}
 
--- a moment, and entries with what was said of them
+-- a moment, the RRsets of the evidence, and entries with what was said of them
 pub record TableContents : Type 0 where
   pub moment : ℕ
+  pub rrsets : List ReceivedRrset
   pub answers : List (Entry × Answer)
 
 -- the answer that is listed for the entry, Unknown where none is
@@ -39,22 +43,44 @@ hoped_answer Invalid = Invalid
 abbrev pub hopeful : TableContents → TableContents
 hopeful contents = record {
   moment = contents.moment;
+  rrsets = contents.rrsets;
   answers = map (λ each. (each.0, hoped_answer each.1)) contents.answers;
 }
 
--- the same moment and entries, with other answers: the first is that of the first entry, and so on
+-- the same moment, evidence and entries, with other answers: the first is that of the first entry, and so on
 abbrev pub with_answers : TableContents → List Answer → TableContents
 with_answers contents answers = record {
   moment = contents.moment;
+  rrsets = contents.rrsets;
   answers = zip (map (λ each. each.0) contents.answers) answers;
 }
 
--- The contents are the moment and what a verifier of this meaning says of just those entries that are asked, each
--- once, by rising algorithm, key, signed data and signature.
+-- The contents are the moment, the evidence, and what a verifier of this meaning says of just those entries that are
+-- asked, each once, by rising algorithm, key, signed data and signature.
 pub record IsTableOf (meaning : Entry → Answer) (moment : ℕ) (rrsets : List ReceivedRrset) (contents : TableContents)
     : Type 0 where
   pub of_moment : contents.moment ≡ moment
+  pub of_rrsets : contents.rrsets ≡ rrsets
   pub entries : List Entry
   pub rising : IsStrictlySortedBy entry_cmp entries
   pub asked : (entry : Entry) → Contains entries entry ↔ IsAsked moment rrsets entry
   pub answers : contents.answers ≡ map (λ entry. (entry, meaning entry)) entries
+
+-- the RRset of the evidence and its signature that have these numbers
+pub record HasNumber (rrsets : List ReceivedRrset) (number : SignatureNumber) (rrset : ReceivedRrset) (rrsig : Rrsig)
+    : Type 0 where
+  pub numbered : IsNumbered rrsets number.rrset rrset
+  pub rdata : List ℕ
+  pub signature : IsNumbered rrset.signatures number.signature rdata
+  pub is : IsRrsig rdata rrsig
+
+-- The answer is the one to what a verifier is asked of the signature with these numbers, of the evidence of the contents,
+-- under the key.
+pub record IsAnswerAt (contents : TableContents) (number : SignatureNumber) (key : DnskeyRecord) (answer : Answer)
+    : Type 0 where
+  pub rrset : ReceivedRrset
+  pub rrsig : Rrsig
+  pub has_number : HasNumber contents.rrsets number rrset rrsig
+  pub entry : Entry
+  pub asked : IsEntryOf rrset rrsig key entry
+  pub says : answer ≡ table_answer contents entry

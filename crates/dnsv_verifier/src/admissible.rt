@@ -4,7 +4,7 @@ ghost use Rattle.dnsv_names.specs.Name.{SameName};
 ghost use Rattle.dnsv_records.specs.Rrsig.Time.{ValidAt};
 ghost use Rattle.dnsv_canonical.specs.SignedData.{IsExpanded};
 ghost use Rattle.dnsv_verifier.specs.Admissible.{IsAdmissible, IsOver, IsVerifiable, IsZoneKeyOf, MayHaveMade, MaySign, Names, is_unexpanded};
-ghost use Rattle.dnsv_verifier.specs.Asking.{IsVerifiableWithin};
+ghost use Rattle.dnsv_verifier.specs.Within.{IsVerifiableWithin};
 
 use crate::key::KeyRecord;
 use dnsv_canonical::{Rrset, is_expanded, signed_label_count};
@@ -31,8 +31,9 @@ pub fn is_verifiable(moment: u64, rrset: &Rrset<'_>, rrsig: &Rrsig<'_>) -> bool
     time_valid(rrsig.inception, rrsig.expiration, moment) && is_fit(rrset, rrsig)
 }
 
-/// Whether some key might verify the signature of the RRset at some moment of the range.
-pub(crate) fn is_verifiable_within(range: Range, rrset: &Rrset<'_>, rrsig: &Rrsig<'_>) -> bool
+/// Whether some key might verify the signature of the RRset at some moment of the range: it is valid at one, and all else
+/// that RFC 4035 5.3.1 asks of the two is the same at each moment.
+pub fn is_verifiable_within(range: Range, rrset: &Rrset<'_>, rrsig: &Rrsig<'_>) -> bool
     ensures { IsTrue result ↔ IsVerifiableWithin range.from range.to rrset.now rrsig.now }
 {
     let times = Times {

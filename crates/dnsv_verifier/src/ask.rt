@@ -2,23 +2,26 @@
 
 mod made;
 mod numbers;
+mod places;
 
 ghost use Rattle.std.specs.Prelude.{◌≡◌, ◌↔◌, Contains, IfOk, OnErr, length, map};
 ghost use Rattle.std.specs.List.Sorted.{IsStrictlySortedBy};
 ghost use Rattle.dnsv_names.specs.Count.{counted};
 ghost use Rattle.dnsv_verifier.specs.Admissible.{DnskeyRecord};
 ghost use Rattle.dnsv_verifier.specs.Asking.{MadeSignature};
-ghost use Rattle.dnsv_verifier.specs.Numbers.{AreRising, entry_of, key_cmp, part_of_key, signature_cmp};
+ghost use Rattle.dnsv_verifier.specs.Numbers.{ArePlaces, AreRising, entry_of, key_cmp, part_of_key, signature_cmp};
 ghost use Rattle.dnsv_verifier.specs.Table.{IsTableOf};
 ghost use Rattle.dnsv_verifier.specs.Within.{IsAskedWithin, IsTableWithin};
 ghost use Rattle.dnsv_verifier.specs.declared.entry.Entry.{Entry};
 
 use crate::ask::made::{Made, made_signatures};
-use crate::ask::numbers::entry_numbers;
+use crate::ask::numbers::{entry_numbers, part_numbers};
+use crate::ask::places::places_of;
 use crate::entry::parts::{EntryNumbers, KeyPart, Parts, SignaturePart};
 use crate::key::KeyRecord;
 use crate::key::keys::Keys;
 use crate::table::Table;
+use crate::table::place::SignaturePlace;
 use crate::verifier::Verifier;
 use bumpalo::Bump;
 use dnsv_canonical::{Capture, Rrset};
@@ -74,7 +77,11 @@ pub fn ask_within<'b, V: Verifier>(
     // What is true of every count.
     let _ = count.value();
     let asked = asked_entries(alloc, bump, range, capture.rrsets())?;
-    let Asked { parts, numbers } = asked;
+    let Asked {
+        parts,
+        places,
+        numbers,
+    } = asked;
     let mut answers = Vec::with_capacity(alloc, numbers.len())?;
     let numbers = Rc::new(alloc, numbers)?;
     for each in numbers.iter() {
@@ -85,13 +92,15 @@ pub fn ask_within<'b, V: Verifier>(
             unreachable!();
         };
     }
-    Ok(Table::new(range.from(), parts, numbers, answers))
+    Ok(Table::new(range.from(), capture, parts, places, numbers, answers))
 }
 
 /// The entries that are asked, each once, rising.
 #[derive(Drop)]
 struct Asked<'b> {
     parts: Parts<'b>,
+    /// Where the parts of signatures stand.
+    places: &'b [SignaturePlace],
     numbers: Vec<EntryNumbers>,
 }
 
@@ -103,15 +112,23 @@ fn asked_entries<'b>(
     rrsets: &'b [Rrset<'b>],
 ) -> Result<Asked<'b>, AllocError>
     ensures rising { IfOk result (λ asked. AreRising asked.parts asked.numbers.items) }
+    ensures places { IfOk result (λ asked. ArePlaces rrsets.now asked.parts asked.places.now) }
     ensures asked { IfOk result (λ asked. (entry : Entry)
         → Contains (map (entry_of asked.parts) asked.numbers.items) entry
         ↔ IsAskedWithin range.from range.to rrsets.now entry) }
 {
     let keys = Keys::of(alloc, rrsets)?;
     let made = made_signatures(alloc, bump, range, &keys, rrsets)?;
-    let parts = parts_of(bump, keys.as_slice(), made.as_slice())?;
-    let numbers = entry_numbers(alloc, keys.as_slice(), made.as_slice(), &parts)?;
-    Ok(Asked { parts, numbers })
+    let signatures = made.signatures.as_slice();
+    let parts = parts_of(bump, keys.as_slice(), signatures)?;
+    let found = part_numbers(alloc, signatures, &parts)?;
+    let places = places_of(bump, &made, found.as_slice())?;
+    let numbers = entry_numbers(alloc, keys.as_slice(), signatures, found.as_slice(), &parts)?;
+    Ok(Asked {
+        parts,
+        places,
+        numbers,
+    })
 }
 
 /// The parts of the entries of these signatures under these keys.

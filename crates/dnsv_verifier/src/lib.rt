@@ -1,7 +1,7 @@
 //! Whoever can verify signatures: what is asked of them, and what was said before (RFC 4035 5.3.3).
 #![tactic(auto)]
 
-pub use admissible::{is_admissible, is_verifiable, may_have_made, may_sign};
+pub use admissible::{is_admissible, is_verifiable, is_verifiable_within, may_have_made, may_sign};
 pub use answer::Answer;
 pub use ask::{ask_all, ask_within};
 pub use entries::Entries;

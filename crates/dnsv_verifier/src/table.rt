@@ -1,14 +1,15 @@
 //! What a verifier says of the evidence, worked out once.
 
+pub mod place;
 mod timely;
 
-ghost use Rattle.std.specs.Prelude.{◌≡◌, ◌↔◌, ◌≤◌, ℕ, List, [], IfOk, IsTrue, filter, length, map};
+ghost use Rattle.std.specs.Prelude.{◌≡◌, ◌↔◌, ◌≤◌, ℕ, List, [], IfOk, IfSome, IsTrue, filter, length, map};
 ghost use Rattle.std.specs.List.{zip};
 ghost use Rattle.std.specs.List.Sorted.{IsStrictlySortedBy};
 ghost use Rattle.dnsv_verifier.specs.Entry.{entry_cmp};
-ghost use Rattle.dnsv_verifier.specs.Numbers.{AreRising, answers_of, listed_answer, numbers_cmp};
+ghost use Rattle.dnsv_verifier.specs.Numbers.{ArePlaces, AreRising, answers_of, listed_answer, numbers_cmp};
 ghost use Rattle.dnsv_canonical.specs.Rrsets.{ReceivedRrset};
-ghost use Rattle.dnsv_verifier.specs.Table.{IsTableOf, hoped_answer, hopeful, is_unknown, unknown_entries, with_answers};
+ghost use Rattle.dnsv_verifier.specs.Table.{IsAnswerAt, IsTableOf, hoped_answer, hopeful, is_unknown, unknown_entries, with_answers};
 ghost use Rattle.dnsv_verifier.specs.Within.{IsTableAt, IsTableWithin};
 ghost use Rattle.dnsv_verifier.specs.declared.answer.Answer.{Answer};
 ghost use Rattle.dnsv_verifier.specs.declared.entry.Entry.{Entry};
@@ -17,18 +18,24 @@ use crate::answer::Answer;
 use crate::entries::Entries;
 use crate::entry::Entry;
 use crate::entry::parts::{EntryNumbers, Parts};
+use crate::key::KeyRecord;
+use crate::table::place::{SignaturePlace, place_of};
 use crate::table::timely::{Timely, timely_entries};
 use crate::verifier::Verifier;
+use dnsv_canonical::{Capture, SignatureNumber};
 use std::alloc::{AllocError, Global};
 use std::marker::Model;
 use std::rc::Rc;
 
-/// What a verifier says at a moment, or at the moments of a range: the entries that it was asked, each once, with its
-/// answers. A table is itself a verifier, which says Unknown of any other entry.
+/// What a verifier says of the evidence at a moment, or at the moments of a range: the entries that it was asked, each
+/// once, with its answers. A table is itself a verifier, which says Unknown of any other entry.
 #[derive(Drop)]
 pub struct Table<'b> {
     moment: u64,
+    capture: &'b Capture<'b>,
     parts: Parts<'b>,
+    /// Of the signatures of the RRsets, rising by their numbers, where their parts stand.
+    places: &'b [SignaturePlace],
     /// Of each entry those of its parts. A hopeful table shares them.
     numbers: Rc<Vec<EntryNumbers>>,
     /// One for each entry.
@@ -38,38 +45,46 @@ pub struct Table<'b> {
 impl<'b> Model for Table<'b> {
     ghost use Rattle.std.specs.Prelude.{◌≡◌, length};
     ghost use Rattle.std.specs.List.{zip};
-    ghost use Rattle.dnsv_verifier.specs.Numbers.{AreRising, answers_of};
+    ghost use Rattle.dnsv_verifier.specs.Numbers.{ArePlaces, AreRising, answers_of};
     ghost use Rattle.dnsv_verifier.specs.Table.{TableContents};
 
     ghost Value = { TableContents };
 
     ghost view = { λ table. record {
       moment = table.moment;
+      rrsets = table.capture.now.rrsets;
       answers = answers_of table.parts (zip table.numbers.value.items table.answers.items);
     } };
 
     ghost invariant = { λ table. AreRising table.parts table.numbers.value.items
-        × (length table.answers.items ≡ length table.numbers.value.items) };
+        × (length table.answers.items ≡ length table.numbers.value.items)
+        × ArePlaces table.capture.now.rrsets table.parts table.places.now };
 }
 
 impl<'b> Table<'b> {
-    /// The table of the entries with these numbers, which rise, and their answers.
+    /// The table of the evidence that has the entries with these numbers, which rise, and their answers.
     pub(crate) fn new(
         moment: u64,
+        capture: &'b Capture<'b>,
         parts: Parts<'b>,
+        places: &'b [SignaturePlace],
         numbers: Rc<Vec<EntryNumbers>>,
         answers: Vec<Answer>,
     ) -> Table<'b>
         requires rising { AreRising parts numbers.value.items }
         requires each { length answers.items ≡ length numbers.value.items }
+        requires places { ArePlaces capture.now.rrsets parts places.now }
         ensures { result ≡ record {
           moment = moment;
+          rrsets = capture.now.rrsets;
           answers = answers_of parts.entry (zip numbers.value.items answers.items);
         } }
     {
         Table {
             moment,
+            capture,
             parts,
+            places,
             numbers,
             answers,
         }
@@ -80,6 +95,13 @@ impl<'b> Table<'b> {
         ensures { result ≡ self.now.moment }
     {
         self.moment
+    }
+
+    /// The evidence that it is of.
+    pub fn capture(&self) -> &'b Capture<'b>
+        ensures { result.now.rrsets ≡ self.now.rrsets }
+    {
+        self.capture
     }
 
     /// How many entries it has.
@@ -112,13 +134,35 @@ impl<'b> Table<'b> {
         true
     }
 
-    /// The best that may come of the table: the same moment and entries, each Unknown one Valid. It asks nobody.
+    /// What the table says of the signature with these numbers, of its evidence, under the key. No signed data is made for
+    /// it, and no octets of signatures are compared. `None` of a signature that isn't kept by its numbers: one that is of no
+    /// entry, as where none of the keys of the evidence may have made it, has none.
+    pub fn answer_at(&self, number: SignatureNumber, key: &KeyRecord<'_>) -> Option<Answer>
+        ensures { IfSome result (IsAnswerAt self.now number key.now) }
+    {
+        let Some(place) = place_of(self.places, number) else {
+            return None;
+        };
+        let field = key.dnskey().key.as_slice();
+        let Some(key_number) = self.parts.find_key(place.algorithm, field) else {
+            return Some(Answer::Unknown);
+        };
+        let wanted = EntryNumbers {
+            key: key_number,
+            signature: place.part,
+        };
+        Some(listed(&self.numbers, &self.answers, wanted))
+    }
+
+    /// The best that may come of the table: the same moment, evidence and entries, each Unknown one Valid. It asks nobody.
     pub fn hopeful(&self, alloc: Global) -> Result<Table<'b>, AllocError>
         ensures { IfOk result (λ table. table ≡ hopeful self.now) }
     {
         let numbers = self.numbers.clone()?;
         let answers = hoped_answers(alloc, &self.answers)?;
-        Ok(Table::new(self.moment, self.parts.copied(), numbers, answers))
+        let (moment, capture, places) = (self.moment, self.capture, self.places);
+        let parts = self.parts.copied();
+        Ok(Table::new(moment, capture, parts, places, numbers, answers))
     }
 
     /// The table of the moment, in seconds since 1970: the entries whose signature is valid at it (RFC 4034 3.1.5), with
@@ -138,10 +182,12 @@ impl<'b> Table<'b> {
             &self.answers,
         )?;
         let numbers = Rc::new(alloc, numbers)?;
-        Ok(Table::new(moment, self.parts.copied(), numbers, answers))
+        let (capture, places) = (self.capture, self.places);
+        let parts = self.parts.copied();
+        Ok(Table::new(moment, capture, parts, places, numbers, answers))
     }
 
-    /// The same moment and entries with answers that were given by number: the first is that of the first entry, and so
+    /// The same moment, evidence and entries with answers that were given by number: the first is that of the first entry, and so
     /// on. It asks nobody, and looks no entry up.
     pub fn with_answers(self, answers: Vec<Answer>) -> Table<'b>
         requires { length answers.items ≡ length self.answers }
@@ -149,11 +195,13 @@ impl<'b> Table<'b> {
     {
         let Table {
             moment,
+            capture,
             parts,
+            places,
             numbers,
             ..
         } = self;
-        Table::new(moment, parts, numbers, answers)
+        Table::new(moment, capture, parts, places, numbers, answers)
     }
 }
 

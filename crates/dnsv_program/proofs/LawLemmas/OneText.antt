@@ -94,7 +94,7 @@ module _ (laws : LayerLaws) where
       let answers = laws.verdicts.one_table y.meaning (begin_of moments) (end_of moments) (evidence_of y.messages).rrsets x.table y.table second y.is_table in
       one_listing form format moments (evidence_of y.messages).rrsets (unknown_entries y.table) a b
       (subst (λ messages. ListsEntries form format moments (evidence_of messages).rrsets (unknown_entries y.table) a) messages
-      (subst (λ (each : List (Entry × Answer)). ListsEntries form format moments (evidence_of x.messages).rrsets (unknown_entries (record { moment = y.table.moment; answers = each })) a) answers x.lines)) y.lines
+      (subst (λ (each : List (Entry × Answer)). ListsEntries form format moments (evidence_of x.messages).rrsets (unknown_entries (record { moment = y.table.moment; rrsets = y.table.rrsets; answers = each })) a) answers x.lines)) y.lines
 
   -- ---- check
 

@@ -1,10 +1,10 @@
 //! How questions are judged, and what the program says of one.
-ghost use Rattle.std.specs.Prelude.{◌≡◌, ◌⊎◌, IfErr, IfOk, List, Option, string_bytes};
+ghost use Rattle.std.specs.Prelude.{◌≡◌, ◌⊎◌, ℕ, IfErr, IfOk, List, Option, string_bytes};
 ghost use Rattle.std.specs.Option.{option_map};
-ghost use Rattle.dnsv_canonical.specs.Rrsets.{IsQuestion};
-ghost use Rattle.dnsv_answers.specs.Answered.{IsAnsweredTable};
-ghost use Rattle.dnsv_verifier.specs.Table.{table_answer};
+ghost use Rattle.dnsv_canonical.specs.Rrsets.{IsQuestion, ReceivedRrset};
+ghost use Rattle.dnsv_verifier.specs.Table.{IsTableOf};
 ghost use Rattle.dnsv_verifier.specs.declared.answer.Answer.{Answer};
+ghost use Rattle.dnsv_verifier.specs.declared.entry.Entry.{Entry};
 ghost use Rattle.dnsv_verdict.specs.Way.{IsRefusal, IsRefusedFor, IsVerdictOf};
 ghost use Rattle.dnsv_verdict.specs.declared.error.VerdictError.{VerdictError};
 ghost use Rattle.dnsv_verdict.specs.declared.error.VerdictError.TheVariants.{OutOfMemory};
@@ -83,26 +83,24 @@ impl<'a> Judging<'a> {
         Ok(Judging::Plain(OpenCase::of(alloc, case)))
     }
 
-    /// The case at the moment, under what the table says, which is made of answers. Where it is asked why verdicts stand, the
-    /// table is asked as a verifier.
+    /// The case of the evidence that the table is of, which has what some verifier says of it at a moment. Nobody is asked.
     pub fn by_table(
         alloc: Global,
-        bump: &'a Bump,
         why: bool,
-        moment: Moment,
-        held: &'a Capture<'a>,
         anchors: &'a Anchors<'a>,
         table: Table<'a>,
     ) -> Result<Judging<'a>, AllocError>
-        ensures case { (said : List Answer) → IsAnsweredTable moment held.now.rrsets said table.entry
-            → IfOk result (λ judge. IsCaseOf (basis_of held.now.rrsets anchors.now moment (table_answer table.entry))
-            (case_of judge)) }
+        requires { (basis : Basis) × IsTableOf basis.meaning basis.moment basis.rrsets table }
+        ensures case { (meaning : Entry → Answer) (moment : ℕ) (rrsets : List ReceivedRrset)
+            → IsTableOf meaning moment rrsets table.entry
+            → IfOk result (λ judge. IsCaseOf (basis_of rrsets anchors.now moment meaning) (case_of judge)) }
         ensures why { IfOk result (λ judge. tells_why judge ≡ why) }
     {
+        let case = Case::of(alloc, anchors, table)?;
         if why {
-            return Judging::new(alloc, bump, why, moment, held, anchors, &table);
+            let explainer = Explainer::of(alloc, case)?;
+            return Ok(Judging::Telling(explainer));
         }
-        let case = Case::of(alloc, held, anchors, table)?;
         Ok(Judging::Plain(OpenCase::of(alloc, case)))
     }
 

@@ -91,8 +91,7 @@ fn push_open(numbers: &mut Vec<usize>, number: usize, said: &SaidAnswer) -> Resu
     }
 }
 
-/// The case at the moment, under what the files say of signatures. By answers no entry is looked up, where verdicts alone
-/// are asked for.
+/// The case at the moment, under what the files say of signatures. By answers no entry is looked up.
 ///
 /// The fault is that there are more or fewer answers than entries.
 pub fn open_case<'a>(
@@ -117,7 +116,7 @@ pub fn open_case<'a>(
         }
         Said::Answers(answers) => {
             let table = table_of(alloc, bump, held, &Span::At(moment), answers)?;
-            let judging = Judging::by_table(alloc, bump, why, moment, held, anchors, table)?;
+            let judging = Judging::by_table(alloc, why, anchors, table)?;
             Ok(judging)
         }
     }

@@ -29,12 +29,12 @@ pub fn answer(row: &Row) -> Result<Option<String>, RowError> {
 fn good_signatures(row: &Row) -> Result<String, RowError> {
     let bump = Bump::new(row.alloc());
     let capture = evidence::capture(row, 0, &bump)?;
-    good_signatures_in(row, &capture)
+    good_signatures_in(row, &bump, &capture)
 }
 
-fn good_signatures_in(row: &Row, capture: &Capture<'_>) -> Result<String, RowError> {
+fn good_signatures_in(row: &Row, bump: &Bump, capture: &Capture<'_>) -> Result<String, RowError> {
     let alloc = row.alloc();
-    let trust = trust_in(row, capture, 1)?;
+    let trust = trust_in(row, bump, capture, 1)?;
     let mut texts = Vec::new(alloc);
     for before in 0..capture.rrsets().len() {
         texts.push(numbers(alloc, trust.signed(before.saturating_add(1)))?)?;
@@ -46,11 +46,15 @@ fn good_signatures_in(row: &Row, capture: &Capture<'_>) -> Result<String, RowErr
 fn good_signatures_of(row: &Row) -> Result<String, RowError> {
     let bump = Bump::new(row.alloc());
     let capture = evidence::capture(row, 0, &bump)?;
-    good_signatures_of_in(row, &capture)
+    good_signatures_of_in(row, &bump, &capture)
 }
 
-fn good_signatures_of_in(row: &Row, capture: &Capture<'_>) -> Result<String, RowError> {
-    let trust = trust_in(row, capture, 1)?;
+fn good_signatures_of_in(
+    row: &Row,
+    bump: &Bump,
+    capture: &Capture<'_>,
+) -> Result<String, RowError> {
+    let trust = trust_in(row, bump, capture, 1)?;
     match usize::try_from(row.number(3)?) {
         Ok(rrset) => numbers(row.alloc(), trust.signed(rrset)),
         Err(_) => Err(RowError::Malformed),
@@ -61,12 +65,12 @@ fn good_signatures_of_in(row: &Row, capture: &Capture<'_>) -> Result<String, Row
 fn keys(row: &Row) -> Result<String, RowError> {
     let bump = Bump::new(row.alloc());
     let capture = evidence::capture(row, 0, &bump)?;
-    keys_in(row, &capture)
+    keys_in(row, &bump, &capture)
 }
 
-fn keys_in(row: &Row, capture: &Capture<'_>) -> Result<String, RowError> {
+fn keys_in(row: &Row, bump: &Bump, capture: &Capture<'_>) -> Result<String, RowError> {
     let alloc = row.alloc();
-    let trust = trust_in(row, capture, 1)?;
+    let trust = trust_in(row, bump, capture, 1)?;
     let mut texts = Vec::new(alloc);
     for key in trust.keys(&row.name(3)?) {
         let (flags, protocol, algorithm) = (key.flags.0, key.protocol, key.algorithm.0);
@@ -76,30 +80,30 @@ fn keys_in(row: &Row, capture: &Capture<'_>) -> Result<String, RowError> {
     printed::list(alloc, texts.as_slice())
 }
 
-/// The trust in the capture by the anchors of the argument with so many before it, at the moment that the third one is.
+/// The trust in the capture by the anchors of the argument with so many before it, at the moment that the third one is. What
+/// is asked lies in the arena.
 pub fn trust_in<'c>(
     row: &Row,
+    bump: &'c Bump,
     capture: &'c Capture<'c>,
     anchors: usize,
 ) -> Result<Trust<'c>, RowError> {
-    let alloc = row.alloc();
-    let bump = Bump::new(alloc);
     let moment = row.number(2)?;
-    let anchors = trust_anchors(row, anchors, &bump)?;
-    trust_by(alloc, &bump, capture, &anchors, moment)
+    let anchors = trust_anchors(row, anchors, bump)?;
+    trust_by(row.alloc(), bump, capture, &anchors, moment)
 }
 
 /// The trust in the capture by the anchors at the moment; what is asked lies in the arena.
 fn trust_by<'c>(
     alloc: Global,
-    bump: &Bump,
+    bump: &'c Bump,
     capture: &'c Capture<'c>,
     anchors: &Anchors<'_>,
     moment: u64,
 ) -> Result<Trust<'c>, RowError> {
     let mut count = Count::new();
     let table = ask_all(alloc, bump, capture, moment, &ByFirstOctet, &mut count)?;
-    Ok(trusted(alloc, capture, anchors, &table)?)
+    Ok(trusted(alloc, anchors, &table)?)
 }
 
 /// The numbers parted by `,`, `-` for none.

@@ -16,13 +16,13 @@ use std::alloc::{AllocError, Global};
 pub fn lacks(row: &Row) -> Result<String, RowError> {
     let bump = Bump::new(row.alloc());
     match capture_or_refusal(row, 0, &bump)? {
-        Ok(capture) => lacks_in(row, &capture),
+        Ok(capture) => lacks_in(row, &bump, &capture),
         Err(refusal) => Ok(refusal),
     }
 }
 
-fn lacks_in(row: &Row, capture: &Capture<'_>) -> Result<String, RowError> {
-    let evidence = evidence_in(row, capture)?;
+fn lacks_in(row: &Row, bump: &Bump, capture: &Capture<'_>) -> Result<String, RowError> {
+    let evidence = evidence_in(row, bump, capture)?;
     let mut text = String::new(row.alloc());
     for place in 4..row.count() {
         let name = row.name(place)?;
@@ -76,13 +76,13 @@ fn append(text: &mut String, mark: &str, item: &str) -> Result<(), AllocError> {
 pub fn closers(row: &Row) -> Result<String, RowError> {
     let bump = Bump::new(row.alloc());
     match capture_or_refusal(row, 0, &bump)? {
-        Ok(capture) => closers_in(row, &capture),
+        Ok(capture) => closers_in(row, &bump, &capture),
         Err(refusal) => Ok(refusal),
     }
 }
 
-fn closers_in(row: &Row, capture: &Capture<'_>) -> Result<String, RowError> {
-    let evidence = evidence_in(row, capture)?;
+fn closers_in(row: &Row, bump: &Bump, capture: &Capture<'_>) -> Result<String, RowError> {
+    let evidence = evidence_in(row, bump, capture)?;
     let zone = row.name(3)?;
     let mut text = String::new(row.alloc());
     for place in 4..row.count() {

@@ -5,6 +5,7 @@ ghost use Rattle.dnsv_denial.specs.gathering.ByZone.{AreDenialRecords};
 
 use crate::chain::trust_in;
 use crate::row::{Row, RowError};
+use bumpalo::Bump;
 use dnsv_canonical::Capture;
 use dnsv_chain::Trust;
 use dnsv_denial::DenialRecords;
@@ -18,11 +19,16 @@ pub struct Evidence<'c> {
 }
 
 /// The evidence of a row whose arguments begin with a capture, trust anchors and a moment, of which the capture is read.
-pub fn evidence_in<'c>(row: &Row, capture: &'c Capture<'c>) -> Result<Evidence<'c>, RowError>
+/// What a verifier is asked lies in the arena.
+pub fn evidence_in<'c>(
+    row: &Row,
+    bump: &'c Bump,
+    capture: &'c Capture<'c>,
+) -> Result<Evidence<'c>, RowError>
     ensures { IfOk result (λ evidence. AreDenialRecords (SecuredIn evidence.trust) evidence.capture.now.rrsets
         evidence.denials) }
 {
-    let trust = trust_in(row, capture, 1)?;
+    let trust = trust_in(row, bump, capture, 1)?;
     let denials = DenialRecords::of(row.alloc(), capture, &trust)?;
     Ok(Evidence {
         capture,

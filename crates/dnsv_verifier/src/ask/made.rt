@@ -1,7 +1,9 @@
 //! The signatures of the evidence that some key may have made.
-ghost use Rattle.std.specs.Prelude.{◌≡◌, ◌↔◌, ◌<◌, [], IfOk, IsTrue, MatchOption, OnOk};
+ghost use Rattle.std.specs.Prelude.{◌≡◌, ◌↔◌, ◌<◌, [], IfOk, IsTrue, List, MatchOption, OnOk};
 ghost use Rattle.dnsv_canonical.specs.SignedData.{signed_label_count};
-ghost use Rattle.dnsv_verifier.specs.Asking.{AddsJust, ComesOfSome, IsMadeBySome, IsMadeIn, IsMadeOf, IsPartOf, named_by};
+ghost use Rattle.dnsv_canonical.specs.Rrsets.{ReceivedRrset};
+ghost use Rattle.dnsv_verifier.specs.Asking.{AddsJust, AreMadeAt, ComesOfSome, IsMadeBySome, IsMadeIn, IsMadeOf, IsPartOf, KeepsNumbers, named_by};
+ghost use Rattle.dnsv_verifier.specs.Table.{HasNumber};
 
 use crate::admissible::{is_verifiable_within, may_have_made};
 use crate::entry::parts::SignaturePart;
@@ -9,7 +11,7 @@ use crate::key::KeyRecord;
 use crate::key::keys::Keys;
 use crate::key::numbered::Numbered;
 use bumpalo::Bump;
-use dnsv_canonical::{Rrset, SigningRoom, make_signed_data};
+use dnsv_canonical::{Rrset, SignatureNumber, SigningRoom, make_signed_data};
 use dnsv_records::{Octets, Rrsig};
 use dnsv_timeline::Range;
 use std::alloc::{AllocError, Global};
@@ -45,6 +47,23 @@ impl<'a> Made<'a> {
     }
 }
 
+/// Signatures that were made, and the numbers of each.
+#[derive(Drop)]
+pub(crate) struct MadeSignatures<'a> {
+    pub(crate) signatures: Vec<Made<'a>>,
+    /// One for each, rising by RRset, and then by signature.
+    pub(crate) numbers: Vec<SignatureNumber>,
+}
+
+/// Which signatures are looked for: those that can be verified at some moment of the range, and that one of the keys may
+/// have made. What they give to their entries is kept in the arena.
+#[derive(Drop)]
+struct Sought<'k, 'a> {
+    bump: &'a Bump,
+    range: Range,
+    keys: &'k Keys<'k>,
+}
+
 /// The signatures of the RRsets that can be verified at some moment of the range, and that some key may have made.
 pub(crate) fn made_signatures<'a>(
     alloc: Global,
@@ -52,58 +71,74 @@ pub(crate) fn made_signatures<'a>(
     range: Range,
     keys: &Keys<'_>,
     rrsets: &'a [Rrset<'a>],
-) -> Result<Vec<Made<'a>>, AllocError>
-    ensures { IfOk result (λ made. AddsJust (ComesOfSome (IsMadeIn range.from range.to keys.now) rrsets.now) [] made.items) }
+) -> Result<MadeSignatures<'a>, AllocError>
+    ensures adds { IfOk result (λ made. AddsJust (ComesOfSome (IsMadeIn range.from range.to keys.now) rrsets.now) []
+        made.signatures.items) }
+    ensures numbers { IfOk result (λ made. AreMadeAt rrsets.now made.numbers.items made.signatures.items) }
 {
-    let mut made = Vec::new(alloc);
+    let sought = Sought { bump, range, keys };
     let mut room = SigningRoom::new(alloc);
-    for rrset in rrsets {
-        add_rrset(alloc, bump, &mut room, range, keys, rrset, &mut made)?;
+    let mut made = MadeSignatures {
+        signatures: Vec::new(alloc),
+        numbers: Vec::new(alloc),
+    };
+    for (place, rrset) in rrsets.iter().enumerate() {
+        add_rrset(alloc, &mut room, &sought, place + 1, rrset, &mut made)?;
     }
     Ok(made)
 }
 
-/// Adds such signatures of the RRset.
+/// Adds such signatures of the RRset with the number.
 fn add_rrset<'a>(
     alloc: Global,
-    bump: &'a Bump,
     room: &mut SigningRoom,
-    range: Range,
-    keys: &Keys<'_>,
+    sought: &Sought<'_, 'a>,
+    number: usize,
     rrset: &'a Rrset<'a>,
-    made: &mut Vec<Made<'a>>,
+    made: &mut MadeSignatures<'a>,
 ) -> Result<(), AllocError>
-    ensures { OnOk result (AddsJust (IsMadeIn range.from range.to keys.now rrset.now) made.old.items made.new.items) }
+    ensures adds { OnOk result (AddsJust (IsMadeIn sought.now.range.from sought.now.range.to sought.now.keys.now rrset.now)
+        made.old.signatures.items made.new.signatures.items) }
+    ensures numbers { OnOk result (KeepsNumbers number rrset.now made.old.numbers.items made.old.signatures.items
+        made.new.numbers.items made.new.signatures.items) }
 {
-    for rrsig in rrset.signatures() {
-        add_signature(alloc, bump, room, range, keys, rrset, rrsig, made)?;
+    for (place, rrsig) in rrset.signatures().iter().enumerate() {
+        let number = SignatureNumber {
+            rrset: number,
+            signature: place + 1,
+        };
+        add_signature(alloc, room, sought, number, rrset, rrsig, made)?;
     }
     Ok(())
 }
 
-/// Adds the signature if it is such.
+/// Adds the signature with the number if it is such.
 fn add_signature<'a>(
     alloc: Global,
-    bump: &'a Bump,
     room: &mut SigningRoom,
-    range: Range,
-    keys: &Keys<'_>,
+    sought: &Sought<'_, 'a>,
+    number: SignatureNumber,
     rrset: &Rrset<'_>,
     rrsig: &'a Rrsig<'a>,
-    made: &mut Vec<Made<'a>>,
+    made: &mut MadeSignatures<'a>,
 ) -> Result<(), AllocError>
-    ensures { OnOk result (AddsJust (IsMadeOf range.from range.to keys.now rrset.now rrsig.now) made.old.items made.new.items) }
+    ensures adds { OnOk result (AddsJust (IsMadeOf sought.now.range.from sought.now.range.to sought.now.keys.now rrset.now
+        rrsig.now) made.old.signatures.items made.new.signatures.items) }
+    ensures numbers { OnOk result ((rrsets : List ReceivedRrset) → HasNumber rrsets number rrset.now rrsig.now
+        → AreMadeAt rrsets made.old.numbers.items made.old.signatures.items
+        → AreMadeAt rrsets made.new.numbers.items made.new.signatures.items) }
 {
-    if !is_verifiable_within(range, rrset, rrsig) {
+    if !is_verifiable_within(sought.range, rrset, rrsig) {
         return Ok(());
     }
-    if !is_made_by_some(keys, rrsig) {
+    if !is_made_by_some(sought.keys, rrsig) {
         return Ok(());
     }
-    let Some(part) = part_of(alloc, bump, room, rrset, rrsig)? else {
+    let Some(part) = part_of(alloc, sought.bump, room, rrset, rrsig)? else {
         return Ok(());
     };
-    made.push(Made { rrsig, part })?;
+    made.numbers.push(number)?;
+    made.signatures.push(Made { rrsig, part })?;
     Ok(())
 }
 

@@ -1,9 +1,10 @@
 //! The entries of signatures under keys, by the numbers of their parts.
-ghost use Rattle.std.specs.Prelude.{◌≡◌, ◌↔◌, ◌<◌, [], Contains, IfOk, OnOk, map};
+ghost use Rattle.std.specs.Prelude.{◌≡◌, ◌↔◌, ◌<◌, [], Contains, IfOk, OnOk, length, map};
+ghost use Rattle.std.specs.List.{AllZip};
 ghost use Rattle.std.specs.List.Sorted.{IsSortedByKey, IsStrictlySortedBy};
 ghost use Rattle.dnsv_verifier.specs.Admissible.{DnskeyRecord};
 ghost use Rattle.dnsv_verifier.specs.Asking.{AddsJust, CanSign, ComesOfSome, GivesEach, GivesMore, IsAny, IsEntryOfMade, MadeSignature, key_name_cmp};
-ghost use Rattle.dnsv_verifier.specs.Numbers.{AllOfParts, IsNumberedKey, IsNumberedSignature, IsPairIn, IsPairOf, entry_of, numbers_cmp, part_of_key};
+ghost use Rattle.dnsv_verifier.specs.Numbers.{AllOfParts, IsNumberedKey, IsNumberedSignature, IsPairIn, IsPairOf, IsPartNumber, PartLists, entry_of, numbers_cmp, part_of_key};
 ghost use Rattle.dnsv_verifier.specs.declared.entry.parts.EntryNumbers.{EntryNumbers};
 
 use crate::ask::made::Made;
@@ -12,22 +13,40 @@ use crate::key::KeyRecord;
 use crate::key::numbered::{Numbered, with_name};
 use std::alloc::{AllocError, Global};
 
-/// The numbers of the entries that the signatures have under the keys, each entry once, rising.
+/// The number of what each of the signatures gives to its entries.
+pub(crate) fn part_numbers(
+    alloc: Global,
+    made: &[Made<'_>],
+    parts: &Parts<'_>,
+) -> Result<Vec<u32>, AllocError>
+    requires { (each : MadeSignature) → Contains made.now each → Contains parts.now.signatures each.part }
+    ensures { IfOk result (λ found. AllZip (IsPartNumber parts.now) made.now found.items) }
+{
+    let mut found = Vec::with_capacity(alloc, made.len())?;
+    for each in made {
+        found.push(parts.signature_number(&each.part))?;
+    }
+    Ok(found)
+}
+
+/// The numbers of the entries that the signatures have under the keys, each entry once, rising. The parts of the
+/// signatures have the numbers that were found.
 pub(crate) fn entry_numbers(
     alloc: Global,
     keys: &[KeyRecord<'_>],
     made: &[Made<'_>],
+    found: &[u32],
     parts: &Parts<'_>,
 ) -> Result<Vec<EntryNumbers>, AllocError>
     requires keys { (key : DnskeyRecord) → Contains keys.now key → Contains parts.now.keys (part_of_key key) }
-    requires made { (each : MadeSignature) → Contains made.now each → Contains parts.now.signatures each.part }
+    requires found { AllZip (IsPartNumber parts.now) made.now found.now }
     ensures adds { IfOk result (λ numbers. AddsJust (ComesOfSome (IsEntryOfMade keys.now) made.now) []
         (map (entry_of parts.now) numbers.items)) }
     ensures all { IfOk result (λ numbers. AllOfParts parts.now numbers.items) }
     ensures rising { IfOk result (λ numbers. IsStrictlySortedBy numbers_cmp numbers.items) }
 {
     let keys = numbered_keys(alloc, keys, parts)?;
-    let signatures = numbered_signatures(alloc, made, parts)?;
+    let signatures = numbered_signatures(alloc, made, found)?;
     pairs(alloc, keys.as_slice(), signatures.as_slice())
 }
 
@@ -68,31 +87,32 @@ fn add_key<'a>(
 fn numbered_signatures<'a>(
     alloc: Global,
     made: &[Made<'a>],
-    parts: &Parts<'_>,
+    found: &[u32],
 ) -> Result<Vec<Numbered<'a>>, AllocError>
-    requires { (each : MadeSignature) → Contains made.now each → Contains parts.now.signatures each.part }
-    ensures are { IfOk result (λ numbered. GivesEach (IsNumberedSignature parts.now) IsAny made.now numbered.items) }
+    requires { length found.now ≡ length made.now }
+    ensures are { (parts : PartLists) → AllZip (IsPartNumber parts) made.now found.now
+        → IfOk result (λ numbered. GivesEach (IsNumberedSignature parts) IsAny made.now numbered.items) }
     ensures sorted { IfOk result (λ numbered. IsSortedByKey (λ each. each.name) key_name_cmp numbered.items) }
 {
     let mut numbered = Vec::new(alloc);
-    for each in made {
-        add_signature(each, parts, &mut numbered)?;
+    for (place, each) in made.iter().enumerate() {
+        add_signature(each, found[place], &mut numbered)?;
     }
     numbered.sort_unstable_by(|a, b| a.number().cmp(&b.number()));
     numbered.sort_by(|a, b| a.stands_to(b))?;
     Ok(numbered)
 }
 
-/// Adds the signature.
+/// Adds the signature with the number.
 fn add_signature<'a>(
     made: &Made<'a>,
-    parts: &Parts<'_>,
+    number: u32,
     numbered: &mut Vec<Numbered<'a>>,
 ) -> Result<(), AllocError>
-    requires { Contains parts.now.signatures made.now.part }
-    ensures { OnOk result (GivesMore (IsNumberedSignature parts.now) IsAny made.now numbered.old.items numbered.new.items) }
+    ensures { OnOk result ((parts : PartLists) → IsPartNumber parts made.now number
+        → GivesMore (IsNumberedSignature parts) IsAny made.now numbered.old.items numbered.new.items) }
 {
-    numbered.push(made.with_number(parts.signature_number(&made.part)))?;
+    numbered.push(made.with_number(number))?;
     Ok(())
 }
 

@@ -149,7 +149,7 @@ impl<'b> Parts<'b> {
     }
 
     /// The number of the key, where it is one of the parts.
-    fn find_key(&self, algorithm: Algorithm, key: &[u8]) -> Option<u32>
+    pub(crate) fn find_key(&self, algorithm: Algorithm, key: &[u8]) -> Option<u32>
         ensures { MatchOption result
             (¬ Contains self.now.keys (record { algorithm = algorithm; key = key.now }))
             (λ number. (number < length self.now.keys)

@@ -15,16 +15,16 @@ none_there n b is none = grind (arith, nat_tests)
 
 pub returns : goal.returns
 returns c =
-    let table = c.args.table.now in
-    let ds = c.args.ds.now in
+    let table = c.args.ds.now.table.now in
+    let ds = c.args.ds.now.rrset.now in
     let numbers : List ℕ = c.in_ok-numbers.numbers.items in
     let size : length c.as_slice.result.now ≡ length numbers = ap (λ (list : List ℕ). length list) c.as_slice.ensures.value in
     let test : c.is_empty.result ≡ (length numbers == 0) = c.is_empty.ensures ∙ ap (λ (n : ℕ). n == 0) size in
     elim c.if-not-is_empty.branch [
       | then-not-is_empty+in_ok-add w ↦
-          let adds : (name : Labels) → values_at w.add.new.by_owner name ≡ values_at c.args.delegations.now name ++ (if same_name name ds.owner then c.args.ds ∷ [] else []) =
-          subst (λ (owner : Labels). (name : Labels) → values_at w.add.new.by_owner name ≡ values_at c.args.delegations.now name ++ (if same_name name owner then c.args.ds ∷ [] else [])) w.owner.ensures w.in_ok-add.ensures in
-          rw w.delegations-is (delegation_added (table_answer table) table.moment (values_at c.args.keys.now) ds numbers c.in_ok-numbers.ensures (values_at c.args.delegations.now) (values_at w.add.new.by_owner) c.args.ds (some_there (length numbers) c.is_empty.result test w.if-not-is_empty.true) refl adds)
+          let adds : (name : Labels) → values_at w.add.new.by_owner name ≡ values_at c.args.delegations.now name ++ (if same_name name ds.owner then c.args.ds.now.rrset ∷ [] else []) =
+          subst (λ (owner : Labels). (name : Labels) → values_at w.add.new.by_owner name ≡ values_at c.args.delegations.now name ++ (if same_name name owner then c.args.ds.now.rrset ∷ [] else [])) w.owner.ensures w.in_ok-add.ensures in
+          rw w.delegations-is (delegation_added (table_answer table) table.moment (values_at c.args.keys.now) ds numbers c.in_ok-numbers.ensures (values_at c.args.delegations.now) (values_at w.add.new.by_owner) c.args.ds.now.rrset (some_there (length numbers) c.is_empty.result test w.if-not-is_empty.true) refl adds)
       | else-not-is_empty w ↦
           rw w.delegations-is (delegation_skipped (table_answer table) table.moment (values_at c.args.keys.now) ds numbers c.in_ok-numbers.ensures (rrsets_at c.args.delegations.now) (none_there (length numbers) c.is_empty.result test w.if-not-is_empty.false))
     ]

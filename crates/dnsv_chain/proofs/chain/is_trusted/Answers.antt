@@ -9,8 +9,8 @@ use Rattle.dnsv_chain.proofs.chain.is_trusted.Goals as goal
 
 pub returns : goal.returns
 returns c =
-    let table = c.args.table.now in
-    let set = c.args.set.now in
+    let table = c.args.set.now.table.now in
+    let set = c.args.set.now.rrset.now in
     let delegations : List ReceivedRrset = map (λ (r : Bor ReceivedRrset). r.now) c.args.delegations.now in
     let signed : IsSignedUnderSome (table_answer table) table.moment set c.in_ok-vouched.vouched.items ↔ IsSignedByVouched (table_answer table) table.moment c.args.anchors.now delegations set =
     signed_by_vouched (table_answer table) table.moment c.args.anchors.now delegations set c.in_ok-keys.keys.items c.in_ok-keys.ensures c.in_ok-vouched.vouched.items c.in_ok-vouched.ensures in

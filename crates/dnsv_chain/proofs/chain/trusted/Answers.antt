@@ -1,13 +1,9 @@
-use Rattle.std.proofs.Common.{List, subst}
-use Rattle.dnsv_canonical.specs.Rrsets.{ReceivedRrset}
 use Rattle.dnsv_verifier.specs.Table.{table_answer}
 use Rattle.dnsv_chain.specs.ByOwner.{values_at}
-use Rattle.dnsv_chain.specs.Trust.{IsTrustOf}
 use Rattle.dnsv_chain.proofs.KeptLemmas.{is_trust_of}
 use Rattle.dnsv_chain.proofs.chain.trusted.Goals as goal
 
 pub returns : goal.returns
 returns c =
     let table = c.args.table.now in
-    subst (λ (rrsets : List ReceivedRrset). IsTrustOf (table_answer table) table.moment rrsets c.args.anchors.now c.in_ok-of.field-0) c.rrsets-rrsets.ensures.value
-    (is_trust_of (table_answer table) table.moment c.rrsets-rrsets.result.now c.args.anchors.now (values_at c.in_ok-keys.keys) c.in_ok-keys.ensures c.in_ok-of.field-0 c.in_ok-of.ensures)
+    is_trust_of (table_answer table) table.moment table.rrsets c.args.anchors.now (values_at c.in_ok-keys.keys) c.in_ok-keys.ensures c.in_ok-of.field-0 c.in_ok-of.ensures

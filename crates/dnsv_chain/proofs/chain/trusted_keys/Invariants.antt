@@ -8,6 +8,6 @@ use Rattle.dnsv_chain.proofs.chain.trusted_keys.Given as goal
 abbrev pub invariant-loop-step : goal.invariant-loop-step
 invariant-loop-step l =
     record {
-      walked : IsWalked (table_answer l.table) l.table.moment l.rrsets l.anchors (take l.step-index l.step-items) (values_at l.keys) (rrsets_at l.delegations);
+      walked : IsWalked (table_answer l.table) l.table.moment l.table.rrsets l.anchors (take l.step-index l.step-items) (values_at l.keys) (rrsets_at l.delegations);
       known : AreKnown l.known (values_at l.keys);
     }

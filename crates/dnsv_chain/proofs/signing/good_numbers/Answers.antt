@@ -5,13 +5,18 @@ use Rattle.dnsv_verifier.specs.Table.{table_answer}
 use Rattle.dnsv_chain.specs.ByOwner.{values_at}
 use Rattle.dnsv_chain.specs.Signing.{AreGoodNumbersTo, IsGoodUnderSome}
 use Rattle.dnsv_chain.proofs.SigningLemmas.{number_more, number_skip, all_numbers}
+use Rattle.dnsv_chain.proofs.SigningLemmas.NumberLemmas.{signature_here}
 use Rattle.dnsv_chain.proofs.signing.good_numbers.Goals as goal
 use Rattle.dnsv_chain.proofs.signing.good_numbers.Goals.{then-branch+in_ok-push, else-branch}
 
+pub is_good_under_some-requires-clause-signature : goal.is_good_under_some-requires-clause-signature
+is_good_under_some-requires-clause-signature c =
+    signature_here c.args.answered.now.rrset.now c.signatures-rrsig-items.result.now c.loop-place.place c.rrsig-item.result c.signatures-rrsig-items.ensures c.loop-place-test.true c.rrsig-item.is
+
 pub loop-place-preserved : goal.loop-place-preserved
 loop-place-preserved c =
-    let table = c.args.table.now in
-    let rrset = c.args.rrset.now in
+    let table = c.args.answered.now.table.now in
+    let rrset = c.args.answered.now.rrset.now in
     let rrsig = c.rrsig-item.result in
     let i : ℕ = c.loop-place.place in
     let good = c.in_ok-is_good_under_some.ensures in
@@ -28,5 +33,5 @@ loop-place-preserved c =
 
 pub returns : goal.returns
 returns c =
-    let table = c.args.table.now in
-    all_numbers (table_answer table) table.moment c.args.rrset.now c.signatures-rrsig-items.result.now c.signatures-rrsig-items.ensures (values_at c.args.keys.now) c.loop-place.place c.loop-place.numbers.items c.loop-place-test.false c.loop-place.invariant
+    let table = c.args.answered.now.table.now in
+    all_numbers (table_answer table) table.moment c.args.answered.now.rrset.now c.signatures-rrsig-items.result.now c.signatures-rrsig-items.ensures (values_at c.args.keys.now) c.loop-place.place c.loop-place.numbers.items c.loop-place-test.false c.loop-place.invariant

@@ -5,4 +5,4 @@ use Rattle.dnsv_chain.proofs.signing.good_numbers.Given as goal
 
 abbrev pub invariant-loop-place : goal.invariant-loop-place
 invariant-loop-place l =
-    AreGoodNumbersTo (table_answer l.table) l.table.moment l.rrset (values_at l.keys) l.place l.numbers.items
+    AreGoodNumbersTo (table_answer l.answered.table.now) l.answered.table.now.moment l.answered.rrset.now (values_at l.keys) l.place l.numbers.items

@@ -7,8 +7,8 @@ use Rattle.dnsv_chain.proofs.signing.is_good_under_some.Goals as goal
 
 pub returns : goal.returns
 returns c =
-    let table = c.args.table.now in
-    let rrset = c.args.rrset.now in
+    let table = c.args.answered.now.table.now in
+    let rrset = c.args.answered.now.rrset.now in
     let rrsig = c.args.rrsig.now in
     let test = c.is_valid_under_some.ensures in
     let verifiable : IsVerifiable table.moment rrset rrsig = search rules in

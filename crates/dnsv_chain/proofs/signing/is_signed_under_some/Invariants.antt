@@ -5,7 +5,7 @@ use Rattle.dnsv_chain.specs.Signing.{IsGoodUnderSome}
 use Rattle.dnsv_chain.proofs.signing.is_signed_under_some.Given as goal
 
 -- none of the signatures so far is good
-abbrev pub invariant-loop-rrsig : goal.invariant-loop-rrsig
-invariant-loop-rrsig l =
-    (k : ℕ) (d : Rrsig) → k < l.rrsig-index
-    → IsGoodUnderSome (table_answer l.table) l.table.moment l.rrset (get_or l.rrsig-items k d) l.keys → ⊥
+abbrev pub invariant-loop-place : goal.invariant-loop-place
+invariant-loop-place l =
+    (k : ℕ) (d : Rrsig) → k < l.place
+    → IsGoodUnderSome (table_answer l.answered.table.now) l.answered.table.now.moment l.answered.rrset.now (get_or l.rrsig-items k d) l.keys → ⊥

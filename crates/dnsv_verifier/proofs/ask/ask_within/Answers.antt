@@ -1,4 +1,4 @@
-use Rattle.std.proofs.Common.{◌≡◌, ℕ, ◌≤◌, List, length, map, sym, ap, ◌∙◌, arith, rules}
+use Rattle.std.proofs.Common.{◌≡◌, ℕ, ◌≤◌, List, length, map, refl, sym, ap, ◌∙◌, arith, rules}
 use Rattle.std.proofs.lemmas.List.{length-map, take_all}
 use Rattle.std.specs.List.{zip}
 use Rattle.dnsv_names.specs.Count.{counted, count_limit}
@@ -42,6 +42,7 @@ returns-clause-table g c =
     let rising = c.in_ok-asked.ensures.rising in
     rw (c.new-2.ensures, ← c.rrsets.ensures.value)
     record {
+      of_rrsets = refl;
       entries = map (entry_of parts) all;
       asked = record {
         rising = rising_entries parts rising.keys rising.signatures all rising.within rising.rising;

@@ -11,4 +11,4 @@ returns c =
     let Are : TableContents → List ReceivedRrset → List Anchor → List ℕ → Type 0 =
     λ table rrsets anchors numbers. AreSecured (table_answer table) table.moment rrsets anchors c.args.rrset numbers in
     let Of : Explained → Type 0 = λ all. Are all.table all.rrsets all.anchors c.signed.result.now in
-    subst Of c.self.view_is (subst (Are _ _ _) (sym c.signed.ensures) (c.self.invariant.trust.signed c.args.rrset))
+    subst Of c.self.view_is (subst (Are c.self.inside.table.now c.self.inside.capture.now.rrsets c.self.inside.anchors.now) (sym c.signed.ensures) (c.self.invariant.trust.signed c.args.rrset))

@@ -1,4 +1,5 @@
 use Rattle.std.proofs.lemmas.Result.{err_from_is_err_and}
+use Rattle.dnsv_answers.proofs.AnsweredLaws.{answered_is_table}
 use Rattle.dnsv_answers.specs.declared.heading.Moments.TheVariants.{At}
 use Rattle.dnsv_verifier.specs.Table.{table_answer}
 use Rattle.dnsv_verdict.specs.Case.{IsCaseOf}
@@ -6,6 +7,13 @@ use Rattle.dnsv_verdict.specs.Verdict.{basis_of}
 use Rattle.dnsv_program.specs.Work.Judging.{case_of}
 use Rattle.dnsv_program.proofs.WorkLemmas.Known.{known_answered, known_stated, miscounted}
 use Rattle.dnsv_program.proofs.work.known.open_case.Goals as goal
+
+pub by_table-requires : goal.by_table-requires
+by_table-requires c =
+    let table = c.in_ok-table-in-Answers.table in (
+      basis_of c.args.held.now.rrsets c.args.anchors.now c.args.moment (table_answer table),
+      answered_is_table c.args.moment c.args.held.now.rrsets _ table c.in_ok-table-in-Answers.ensures.table,
+    )
 
 pub returns-in_ok-judging-in-Statements-clause-known : goal.returns-in_ok-judging-in-Statements-clause-known
 returns-in_ok-judging-in-Statements-clause-known c =
@@ -16,7 +24,8 @@ pub returns-in_ok-judging-in-Answers-clause-known : goal.returns-in_ok-judging-i
 returns-in_ok-judging-in-Answers-clause-known c =
     known_answered (λ meaning. IsCaseOf (basis_of c.args.held.now.rrsets c.args.anchors.now c.args.moment meaning) (case_of c.in_ok-judging-in-Answers.judging))
     (At c.args.moment) c.args.held.now.rrsets c.args.said.now c.in-Answers.answers c.in_ok-table-in-Answers.table c.in-Answers.is c.in_ok-table-in-Answers.ensures.table
-    (c.in_ok-judging-in-Answers.ensures.case _ c.in_ok-table-in-Answers.ensures.table)
+    (c.in_ok-judging-in-Answers.ensures.case (table_answer c.in_ok-table-in-Answers.table) c.args.moment c.args.held.now.rrsets
+    (answered_is_table c.args.moment c.args.held.now.rrsets _ c.in_ok-table-in-Answers.table c.in_ok-table-in-Answers.ensures.table))
 
 pub returns-in_err-table-in-Answers-clause-fault : goal.returns-in_err-table-in-Answers-clause-fault
 returns-in_err-table-in-Answers-clause-fault c =

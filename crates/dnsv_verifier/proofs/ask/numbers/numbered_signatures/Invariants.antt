@@ -1,8 +1,11 @@
 use Rattle.std.proofs.Common.{take}
+use Rattle.std.specs.List.{AllZip}
 use Rattle.dnsv_verifier.specs.Asking.{GivesEach, IsAny}
-use Rattle.dnsv_verifier.specs.Numbers.{IsNumberedSignature}
+use Rattle.dnsv_verifier.specs.Numbers.{IsNumberedSignature, IsPartNumber, PartLists}
 use Rattle.dnsv_verifier.proofs.ask.numbers.numbered_signatures.Given as goal
 
 -- the signatures so far
-abbrev pub invariant-loop-each : goal.invariant-loop-each
-invariant-loop-each l = GivesEach (IsNumberedSignature l.parts) IsAny (take l.each-index l.made) l.numbered.items
+abbrev pub invariant-loop-place : goal.invariant-loop-place
+invariant-loop-place l =
+    (parts : PartLists) → AllZip (IsPartNumber parts) l.made l.found
+    → GivesEach (IsNumberedSignature parts) IsAny (take l.place l.made) l.numbered.items

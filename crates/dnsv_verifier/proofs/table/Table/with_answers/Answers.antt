@@ -10,5 +10,5 @@ new-requires-clause-each c =
 
 pub returns : goal.returns
 returns c =
-    c.new.ensures ∙ table_with c.self.inside.moment c.self.inside.parts c.self.inside.numbers.value.items c.self.inside.answers.items c.args.answers.items c.self.invariant.1
+    c.new.ensures ∙ table_with c.self.inside.moment c.self.inside.capture.now.rrsets c.self.inside.parts c.self.inside.numbers.value.items c.self.inside.answers.items c.args.answers.items c.self.invariant.1
     ∙ ap (λ (contents : TableContents). with_answers contents c.args.answers.items) c.self.view_is

@@ -1,7 +1,13 @@
-use Rattle.dnsv_answers.proofs.AnsweredLaws.{answered_is_table}
-use Rattle.dnsv_verifier.specs.Table.{table_answer}
+use Rattle.dnsv_verdict.specs.Verdict.{basis_of}
 use Rattle.dnsv_program.proofs.work.judging.Judging.by_table.Goals as goal
 
+pub of-requires-then-why : goal.of-requires-then-why
+of-requires-then-why c =
+    let basis = c.requires.0 in (
+      basis_of basis.rrsets c.args.anchors.now basis.moment basis.meaning,
+      c.in_ok-case.ensures.basis basis.meaning basis.moment basis.rrsets c.requires.1,
+    )
+
 pub returns-clause-case : goal.returns-clause-case
-returns-clause-case c = λ said is.
-    rw c.of-2.ensures (c.in_ok-case.ensures.basis (table_answer c.args.table) c.args.moment (answered_is_table c.args.moment c.args.held.now.rrsets said c.args.table is))
+returns-clause-case c = λ meaning moment rrsets is.
+    rw c.of-2.ensures (c.in_ok-case.ensures.basis meaning moment rrsets is)
