@@ -3,4 +3,3 @@ pub mod NamedLemmas
 pub mod NumberedLemmas
 pub mod PlaceLemmas
 pub mod SignedLemmas
-pub mod VerifiableLemmas

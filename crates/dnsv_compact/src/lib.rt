@@ -15,4 +15,3 @@ mod list;
 mod named;
 mod place;
 mod signed;
-mod verifiable;

@@ -7,13 +7,12 @@ ghost use Rattle.dnsv_verifier.specs.Asking.{AddsJust};
 ghost use Rattle.dnsv_compact.specs.Signed.{AreSignedIn, IsSignedAmong, IsSignedBy, IsSignedIn, IsFirstSigned, part_cmp, signed_cmp};
 ghost use Rattle.dnsv_compact.specs.declared.signed.Signed.{Signed};
 
-use crate::verifiable::is_verifiable_within;
 use bumpalo::Bump;
 use dnsv_canonical::{Rrset, SigningRoom, make_signed_data};
 use dnsv_names::compare_octets;
 use dnsv_records::{Octets, Rrsig};
 use dnsv_timeline::Range;
-use dnsv_verifier::Entry;
+use dnsv_verifier::{Entry, is_verifiable_within};
 use std::alloc::{AllocError, Global};
 use std::cmp::Ordering;
 

@@ -1,6 +1,6 @@
 use Rattle.std.proofs.Common.{refl, rules, Some}
 use Rattle.dnsv_canonical.specs.SignedData.{IsSignedData}
-use Rattle.dnsv_verifier.specs.Asking.{IsVerifiableWithin}
+use Rattle.dnsv_verifier.specs.Within.{IsVerifiableWithin}
 use Rattle.dnsv_verifier.proofs.AskLemmas.{adds_nothing, adds_one}
 use Rattle.dnsv_compact.specs.Signed.{IsSignedBy}
 use Rattle.dnsv_compact.specs.declared.signed.Signed.{Signed}
