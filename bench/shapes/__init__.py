@@ -21,6 +21,7 @@ SHAPES = {
     "alias-hashes": (denials.alias_hashes, 3),
     "timeline-transfer": (timelines.transfer, 15),
     "timeline-bystanders": (timelines.bystanders, 250),
+    "timeline-hashes": (timelines.hashes, 25),
     "timeline-ends": (timelines.ends, 756),
     "key-file": (files.key_file, 4_000),
     "statements": (files.statements, 250_000),

@@ -10,6 +10,7 @@ from dnssec_check_tools.capturing.frames import framed, frames_of
 from dnssec_check_tools.judging.evidence import Evidence, rdata_of_signature
 from wire import A, DNSKEY, QUESTION, RRSIG, ZONE, anchor, key_tag, label, record, response, rrsig_of, zone_key
 
+from . import denials
 from .shape import Shape
 
 TRANSFER = pathlib.Path(__file__).resolve().parent.parent / "transfer.cap"
@@ -18,6 +19,7 @@ OF_TRANSFER = ("--from", "1790000000", "--to", "1810000000")
 USED = 20  # signatures that the question of bystanders uses
 EACH, SECTIONS = 16, 3  # signatures of an RRset, and RRsets of one name and type in a message
 WEEK, DAY = 7 * 86400, 86400
+DEEP = 31  # labels of the name whose hashes are asked for
 KEY = zone_key(0, 257)
 WHOLE = (0, 2**31 - 2)  # the times of the keys' signature
 
@@ -71,12 +73,18 @@ def bystanders(signatures: int) -> Shape:
         *(response(1 + number, www, address(draw, part)) for number, part in enumerate(parts)),
     ]
     last = DAY * USED + WEEK
-    others = range(signatures - USED - 1)
-    for number in range(0, len(others), EACH * 4):
-        part = others[number : number + EACH * 4]
-        records = [each for other in part for each in bystander(draw, other, last * other // len(others))]
-        capture.append(response(3 + number, ZONE, records))
+    capture += of_others(draw, signatures - USED - 1, last)
     return shape(capture, signatures, ("--from", "0", "--to", str(last)))
+
+
+def of_others(draw: random.Random, count: int, last: int) -> list[bytes]:
+    """Messages with so many addresses of other names, each signed for a week from a moment of its own on."""
+    messages = []
+    for number in range(0, count, EACH * 4):
+        part = range(number, min(number + EACH * 4, count))
+        records = [each for other in part for each in bystander(draw, other, last * other // count)]
+        messages.append(response(3 + number, ZONE, records))
+    return messages
 
 
 def bystander(draw: random.Random, number: int, first: int) -> list[bytes]:
@@ -95,3 +103,14 @@ def ends(signatures: int) -> Shape:
     groups = [sets[first : first + SECTIONS] for first in range(0, len(sets), SECTIONS)]
     capture = [response(1 + number, www, *group) for number, group in enumerate(groups)]
     return shape([keys_message(draw), *capture], signatures + 1, ("--from", "0", "--to", str(3000 + signatures)))
+
+
+def hashes(signatures: int) -> Shape:
+    """So many signatures, of the keys and of addresses of other names, each with times of its own; and the NSEC3 records
+    of `hashes`, which nobody signed. An address of a name of 31 labels is asked for, of which the capture has nothing,
+    so at each moment its hashes are asked for."""
+    draw, last = random.Random(20261129), DAY * USED + WEEK
+    capture = [keys_message(draw), *denials.hashes(DEEP).files["capture"], *of_others(draw, signatures - 1, last)]
+    files = {"capture": capture, "anchors": [anchor("bench.example.", KEY).encode()]}
+    span = ("--from", "0", "--to", str(last))
+    return Shape(files, asked("a." * (DEEP - 2) + "bench.example.", A, span), signatures, 0, listed=span)

@@ -2,6 +2,7 @@
 use Rattle.std.specs.Prelude.{◌≡◌, ℕ, List}
 use Rattle.dnsv_canonical.specs.Rrsets.{ReceivedRrset}
 use Rattle.dnsv_chain.specs.declared.anchor.Anchor.{Anchor}
+use Rattle.dnsv_verdict.specs.Case.{CaseContents}
 use Rattle.dnsv_verdict.specs.Verdict.{Basis, basis_of}
 use Rattle.dnsv_verifier.specs.Table.{TableContents}
 use Rattle.dnsv_verifier.specs.Within.{IsTableWithin}
@@ -19,6 +20,10 @@ pub record MomentsContents : Type 0 where
 -- the table has what a verifier of this meaning says within the range
 pub record IsSaidBy (meaning : Entry → Answer) (moments : MomentsContents) : Type 0 where
   pub table : IsTableWithin meaning moments.from moments.to moments.rrsets moments.table
+
+-- the case is of the same evidence
+abbrev pub IsOfEvidence : MomentsContents → CaseContents → Type 0
+IsOfEvidence moments case = case.rrsets ≡ moments.rrsets
 
 -- by that verifier at the first moment
 abbrev pub basis_with : (Entry → Answer) → MomentsContents → Basis

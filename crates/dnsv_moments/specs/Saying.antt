@@ -19,3 +19,10 @@ told_of format rrsets (outcome.Refused error) = told_refusal error
 abbrev pub IsSaidWithin : MomentsContents → Format → Labels → ℕ → ℕ → Said → Type 0
 IsSaidWithin moments format name t moment said = (meaning : Entry → Answer) → IsSaidBy meaning moments
     → moments.from ≤ moment → moment ≤ moments.to → IsSaidAt format (basis_with meaning moments) name t moment said
+
+-- a question that is asked at each of the moments, with texts of a format
+pub record AskedThroughout : Type 0 where
+  pub moments : MomentsContents
+  pub name : Labels
+  pub rtype : ℕ
+  pub format : Format

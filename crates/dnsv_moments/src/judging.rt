@@ -1,6 +1,7 @@
 //! What is said of a question at one moment.
-ghost use Rattle.std.specs.Prelude.{◌≡◌, ℕ, IfOk, string_bytes};
+ghost use Rattle.std.specs.Prelude.{◌≡◌, ℕ, IfOk, IfSome, string_bytes};
 ghost use Rattle.dnsv_explain.specs.Derived.{IsDerived};
+ghost use Rattle.dnsv_moments.specs.Moments.{IsOfEvidence};
 ghost use Rattle.dnsv_moments.specs.Saying.{IsSaidWithin, told_of};
 ghost use Rattle.dnsv_names.specs.Name.{Labels};
 ghost use Rattle.dnsv_timeline_laws.specs.Said.{IsSaid};
@@ -10,29 +11,34 @@ use crate::moments::Moments;
 use crate::said::Said;
 use crate::shown::signatures_shown;
 use dnsv_canonical::Rrset;
-use dnsv_explain::{Derivation, Outcome};
+use dnsv_explain::{Derivation, Explainer, Outcome};
 use dnsv_names::{Name, RecordType};
 use dnsv_texts::{Format, told_text};
 use dnsv_timeline_laws::{Kind, kind_of};
 use std::alloc::{AllocError, Global};
 
-/// What is said of the question at the moment, or at the nearest one of the range. The error is that memory ran out, or
-/// that the type can't be asked at the name.
-pub(crate) fn said_at(
+/// What is said of the question at the moment, or at the nearest one of the range. Whoever explained at the moment before
+/// hands on the hashes for names, and is nobody after an error. That is that memory ran out, or that the type can't be
+/// asked at the name.
+pub(crate) fn said_at<'a>(
     alloc: Global,
-    moments: &Moments<'_>,
+    moments: &Moments<'a>,
+    before: &mut Option<Explainer<'a>>,
     name: &Name,
     rtype: RecordType,
     format: Format,
     moment: u64,
 ) -> Result<Said, AllocError>
-    ensures { IfOk result (λ said. IsSaidWithin moments.now format name.now rtype.0 moment said) }
+    requires { IfSome before.now (IsOfEvidence moments.now) }
+    ensures said { IfOk result (λ said. IsSaidWithin moments.now format name.now rtype.0 moment said) }
+    ensures before { IfSome before.new (IsOfEvidence moments.now) }
 {
-    let mut explainer = moments.explainer_at(alloc, moment)?;
+    let mut explainer = moments.explainer_at(alloc, moment, before.take())?;
     let Ok(derivation) = explainer.derive(alloc, name, rtype) else {
         return Err(AllocError);
     };
     let said = said_of(alloc, moments.capture().rrsets(), format, &derivation)?;
+    *before = Some(explainer);
     Ok(said)
 }
 

@@ -1,10 +1,10 @@
 //! What questions are judged by at each moment of a range.
-ghost use Rattle.std.specs.Prelude.{◌≡◌, ◌≤◌, IfOk, OnErr, length};
+ghost use Rattle.std.specs.Prelude.{◌≡◌, ◌≤◌, IfOk, IfSome, OnErr, length};
 ghost use Rattle.dnsv_names.specs.Count.{counted};
 ghost use Rattle.dnsv_timeline.specs.Range.{IsRange};
-ghost use Rattle.dnsv_moments.specs.Moments.{AreMomentsBy, AreMomentsOf, IsSaidBy};
+ghost use Rattle.dnsv_moments.specs.Moments.{AreMomentsBy, AreMomentsOf, IsOfEvidence, IsSaidBy};
 ghost use Rattle.dnsv_verdict.specs.Case.{IsCaseOf};
-ghost use Rattle.dnsv_verdict.specs.Verdict.{basis_of};
+ghost use Rattle.dnsv_verdict.specs.Verdict.{Basis, basis_of};
 ghost use Rattle.dnsv_verifier.specs.Within.{IsTableWithin};
 ghost use Rattle.dnsv_verifier.specs.declared.answer.Answer.{Answer};
 ghost use Rattle.dnsv_verifier.specs.declared.entry.Entry.{Entry};
@@ -133,20 +133,42 @@ impl<'a> Moments<'a> {
         &self.table
     }
 
-    /// Who explains questions at the moment, or at the nearest one of the range.
+    /// Who explains questions at the moment, or at the nearest one of the range. It goes on with the hashes for names of
+    /// whoever explained at another moment.
     pub(crate) fn explainer_at(
         &self,
         alloc: Global,
         moment: u64,
+        before: Option<Explainer<'a>>,
     ) -> Result<Explainer<'a>, AllocError>
-        ensures { (meaning : Entry → Answer) → IsSaidBy meaning self.now → self.now.from ≤ moment → moment ≤ self.now.to
+        requires { IfSome before (IsOfEvidence self.now) }
+        ensures case { (meaning : Entry → Answer) → IsSaidBy meaning self.now → self.now.from ≤ moment
+            → moment ≤ self.now.to
             → IfOk result (IsCaseOf (basis_of self.now.rrsets self.now.anchors moment meaning)) }
+        ensures evidence { IfOk result (IsOfEvidence self.now) }
     {
         let nearest = nearest(self.range, moment);
         let table = self.table.at(alloc, nearest)?;
-        let case = Case::of(alloc, self.capture, self.anchors, table)?;
-        let explainer = Explainer::of(alloc, case)?;
+        let case = Case::of(alloc, self.anchors, table)?;
+        let explainer = going_on(alloc, before, case)?;
         Ok(explainer)
+    }
+}
+
+/// Who explains questions of the case, going on with what another explainer of the same evidence kept.
+fn going_on<'a>(
+    alloc: Global,
+    before: Option<Explainer<'a>>,
+    case: Case<'a>,
+) -> Result<Explainer<'a>, AllocError>
+    requires case { (basis : Basis) × IsCaseOf basis case }
+    requires evidence { IfSome before (λ explainer. case.rrsets ≡ explainer.rrsets) }
+    ensures contents { IfOk result (λ explainer. explainer ≡ case.entry) }
+    ensures basis { (basis : Basis) → IsCaseOf basis case.entry → IfOk result (IsCaseOf basis) }
+{
+    match before {
+        Some(explainer) => Ok(explainer.with_case(alloc, case)?),
+        None => Ok(Explainer::of(alloc, case)?),
     }
 }
 

@@ -69,12 +69,7 @@ fn all_said(
         → IfOk result (λ stretches. IsTimelineFor meaning moments.now format name.now rtype.0 stretches.items) }
 {
     let times = times_of_all(alloc, moments.capture())?;
-    let sayer = Sayer {
-        moments,
-        name,
-        rtype,
-        format,
-    };
-    let stretches = timeline_of(alloc, moments.range(), &times, &sayer)?;
+    let mut sayer = Sayer::new(moments, name, rtype, format);
+    let stretches = timeline_of(alloc, moments.range(), &times, &mut sayer)?;
     Ok(stretches)
 }

@@ -13,15 +13,16 @@ use std::alloc::{AllocError, Global};
 
 /// The timeline of what the judge says, from the first moment of the range to its last. At the moments of the range, what
 /// it says depends on the moment through the validity of the signatures alone, so it is asked at the first moment and at
-/// each point of change.
+/// each point of change. The judge stays what it is, also where memory is refused.
 pub fn timeline_of<S: Drop, J: Judge<S>>(
     alloc: Global,
     range: Range,
     signatures: &[Times],
-    judge: &J,
+    judge: &mut J,
 ) -> Result<Vec<Stretch<S>>, AllocError>
     requires { DependsOnWithin range.from range.to (J.says judge.now) signatures.now }
-    ensures { IfOk result (λ stretches. IsTimelineBy (J.says judge.now) range.from range.to stretches.items) }
+    ensures timeline { IfOk result (λ stretches. IsTimelineBy (J.says judge.old) range.from range.to stretches.items) }
+    ensures same { judge.new ≡ judge.old }
 {
     let points = points_of_change(alloc, range, signatures)?;
     joined(alloc, range, &points, judge)
@@ -32,10 +33,11 @@ fn joined<S: Drop, J: Judge<S>>(
     alloc: Global,
     range: Range,
     points: &[u64],
-    judge: &J,
+    judge: &mut J,
 ) -> Result<Vec<Stretch<S>>, AllocError>
     requires { IsSteady (J.says judge.now) range.from range.to points.now }
-    ensures { IfOk result (λ stretches. IsTimelineBy (J.says judge.now) range.from range.to stretches.items) }
+    ensures timeline { IfOk result (λ stretches. IsTimelineBy (J.says judge.old) range.from range.to stretches.items) }
+    ensures same { judge.new ≡ judge.old }
 {
     let mut stretches = Vec::new(alloc);
     let from = range.from();

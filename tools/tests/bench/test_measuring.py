@@ -28,6 +28,7 @@ SMALL = {
     "alias-hashes": (2, "Bogus 0.a. 1"),
     "timeline-transfer": (6, "timeline host-0001.big.test. 1"),
     "timeline-bystanders": (40, "timeline www.bench.example. 1"),
+    "timeline-hashes": (4, f"timeline {'a.' * 29}bench.example. 1"),
     "timeline-ends": (40, "timeline www.bench.example. 1"),
     "key-file": (10, "Indeterminate www.bench.example. 1"),
     "statements": (10, "Indeterminate www.bench.example. 1"),

@@ -14,7 +14,7 @@ from wire import key_tag
 A, CNAME, TXT, NSEC, NSEC3 = 1, 5, 16, 47, 50
 OF_MESSAGES = ("long-data", "pairs", "exponents", "digests", "alike", "key-sets", "key-sets-apart",
                "key-sets-aliases", "key-anchors", "keys-to-check", "expanded-nsec", "expanded-nsec3", "hashes", "question-hashes", "aliases",
-               "alias-hashes", "timeline-transfer", "timeline-bystanders", "timeline-ends")
+               "alias-hashes", "timeline-transfer", "timeline-bystanders", "timeline-hashes", "timeline-ends")
 
 Record = namedtuple("Record", "owner rtype rdata")
 
@@ -73,6 +73,19 @@ class Timelines(unittest.TestCase):
         www = [each for records in messages_of(timelines.bystanders(1000)) for each in records
                if each.rtype == TYPE_RRSIG and name_text(each.owner) == "www.bench.example."]
         self.assertEqual(len(www), timelines.USED)
+
+    def test_of_hashes_each_has_times_of_its_own_and_nobody_signed_an_nsec3_record(self):
+        shape = timelines.hashes(100)
+        count, signatures_there = self.changes(shape)
+        self.assertEqual(signatures_there, 100)
+        self.assertGreater(count, 150)
+        messages = messages_of(shape)
+        salts = {each.rdata[5:5 + each.rdata[4]] for each in of_type(messages, NSEC3)}
+        covered = {int.from_bytes(each.rdata[:2], "big") for each in of_type(messages, TYPE_RRSIG)}
+        self.assertEqual((len(salts), {len(each) for each in salts}, covered), (8, {255}, {A, TYPE_DNSKEY}))
+        name = shape.words[shape.words.index("--name") + 1]
+        self.assertEqual(name.count("."), timelines.DEEP)
+        self.assertNotIn(name, {name_text(each.owner) for records in messages for each in records})
 
     def test_of_ends_all_are_over_one_name(self):
         shape = timelines.ends(3024)

@@ -82,6 +82,25 @@ impl<'a> Explainer<'a> {
         })
     }
 
+    /// That of another case of the same evidence, as at another moment, as `of` gives it: the ways are worked out by the new
+    /// case. The hashes for names depend on the evidence alone, so those that are kept stay. The case is of what some
+    /// verifier says of its evidence, as that of `of` is.
+    pub fn with_case(self, alloc: Global, case: Case<'a>) -> Result<Explainer<'a>, AllocError>
+        requires case { (basis : Basis) × IsCaseOf basis case }
+        requires evidence { case.rrsets ≡ self.rrsets }
+        ensures contents { IfOk result (λ explainer. explainer ≡ case.entry) }
+        // Whoever the case is of, it is that verifier's.
+        ensures basis { (basis : Basis) → IsCaseOf basis case.entry → IfOk result (IsCaseOf basis) }
+    {
+        let ways = ways_of(alloc, &case)?;
+        let open_case = self.open_case.with_case(case);
+        Ok(Explainer {
+            open_case,
+            ways,
+            hoped: Vec::new(alloc),
+        })
+    }
+
     /// The verdict on a question, as `Case::judge` gives it, and why it stands, as `explain` says it of one question. The
     /// verifier isn't asked again. What it gives depends on the case and the question alone. The case stays, also where
     /// the question is refused or memory is.

@@ -48,6 +48,16 @@ impl<'a> OpenCase<'a> {
         }
     }
 
+    /// Another case of the same evidence, as at another moment, of which nothing was asked yet. The hashes for names depend
+    /// on the evidence alone, so those that are kept stay. No memory is taken.
+    pub fn with_case(self, case: Case<'a>) -> OpenCase<'a>
+        requires { case.rrsets ≡ self.rrsets }
+        ensures { result ≡ case.entry }
+    {
+        let shared = self.shared.for_another();
+        OpenCase { case, shared }
+    }
+
     /// The case.
     pub fn case(&self) -> &Case<'a>
         ensures { result.now ≡ self.now }

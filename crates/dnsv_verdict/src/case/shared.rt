@@ -44,6 +44,19 @@ impl<'a> Shared<'a> {
         }
     }
 
+    /// What another case of the same evidence may go on with: the names with their hashes. The hopeful case is of this
+    /// case's table, so it is let go.
+    pub(crate) fn for_another(self) -> Shared<'a>
+        ensures { (case other : CaseContents) → IsSharedOf case self.entry → other.rrsets ≡ case.rrsets
+            → IsSharedOf other result }
+    {
+        Shared {
+            keeps: self.keeps,
+            hopeful: None,
+            names: self.names,
+        }
+    }
+
     /// The case with the hopeful table, which is made where no question needed it yet.
     pub(crate) fn hopeful_of(
         &mut self,
@@ -91,7 +104,7 @@ impl<'a> Shared<'a> {
         Ok(hashes)
     }
 
-    /// Keeps the hashes of one name more, if anything is kept. Where there are many, those before go first.
+    /// Keeps the hashes of one name more, if anything is kept. Where there are many, the oldest go first.
     fn keep(&mut self, made: HashedName<'a>) -> Result<(), AllocError>
         ensures { (case : CaseContents) → IsSharedOf case self.old → made.entry.rrsets ≡ case.rrsets
             → IsSharedOf case self.new }
@@ -109,8 +122,7 @@ impl<'a> Shared<'a> {
 fn hopeful_case<'a>(alloc: Global, case: &Case<'a>) -> Result<Rc<Case<'a>>, AllocError>
     ensures { IfOk result (λ hopeful. IsHopeful case.now hopeful.value) }
 {
-    let table = case.table().hopeful(alloc)?;
-    let hopeful = Case::of(alloc, case.capture(), case.anchors(), table)?;
+    let hopeful = case.hopeful(alloc)?;
     Ok(Rc::new(alloc, hopeful)?)
 }
 
@@ -121,11 +133,11 @@ fn kept_for<'s, 'a>(names: &'s [HashedName<'a>], name: &Name) -> Option<&'s Hash
     names.iter().find(|kept| kept.is_for(name))
 }
 
-/// Lets all names go where there are as many as are kept.
+/// Lets the oldest name go where there are as many as are kept.
 fn make_room(names: &mut Vec<HashedName<'_>>)
     ensures { (rrsets : List ReceivedRrset) → AreHashedIn rrsets names.old.items → AreHashedIn rrsets names.new.items }
 {
     if names.len() >= NAMES_KEPT {
-        names.clear();
+        names.remove(0);
     }
 }

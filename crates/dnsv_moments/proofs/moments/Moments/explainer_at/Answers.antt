@@ -1,20 +1,22 @@
-use Rattle.std.proofs.Common.{sym}
+use Rattle.std.proofs.Common.{◌∙◌, ap, sym}
+use Rattle.dnsv_verdict.specs.Case.{CaseContents}
 use Rattle.dnsv_verdict.specs.Verdict.{basis_of}
+use Rattle.dnsv_moments.specs.Moments.{MomentsContents}
 use Rattle.dnsv_moments.proofs.SayingLemmas.{case_at}
 use Rattle.dnsv_moments.proofs.moments.Moments.explainer_at.Goals as goal
 
-pub of-requires-2 : goal.of-requires-2
-of-requires-2 c =
+pub going_on-requires-clause-case : goal.going_on-requires-clause-case
+going_on-requires-clause-case c =
     let held = c.self.invariant.1 in
     let inside = c.self.inside in (
       basis_of inside.capture.now.rrsets inside.anchors.now c.nearest-nearest.result held.0,
-      c.in_ok-case.ensures.basis held.0 c.nearest-nearest.result
+      c.in_ok-case.ensures.basis held.0 c.nearest-nearest.result inside.capture.now.rrsets
           (c.in_ok-table.ensures.within held.0 inside.range.from inside.range.to inside.capture.now.rrsets held.1
           c.nearest-nearest.ensures.from c.nearest-nearest.ensures.to),
     )
 
-pub returns : goal.returns
-returns c = λ meaning by begun within.
+pub returns-clause-case : goal.returns-clause-case
+returns-clause-case c = λ meaning by begun within.
     let inside = c.self.inside in
     case_at c.args.self.now (record {
       rrsets = inside.capture.now.rrsets;
@@ -25,6 +27,16 @@ returns c = λ meaning by begun within.
     }) (sym c.self.view_is) meaning c.args.moment c.nearest-nearest.result c.in_ok-explainer.explainer by begun within
     c.nearest-nearest.ensures.same
     (λ is. c.in_ok-explainer.ensures.basis (basis_of inside.capture.now.rrsets inside.anchors.now c.nearest-nearest.result meaning)
-    (c.in_ok-case.ensures.basis meaning c.nearest-nearest.result
+    (c.in_ok-case.ensures.basis meaning c.nearest-nearest.result inside.capture.now.rrsets
     (c.in_ok-table.ensures.within meaning inside.range.from inside.range.to inside.capture.now.rrsets is
     c.nearest-nearest.ensures.from c.nearest-nearest.ensures.to)))
+
+pub returns-clause-evidence : goal.returns-clause-evidence
+returns-clause-evidence c =
+    let held = c.self.invariant.1 in
+    let inside = c.self.inside in
+    let case = c.in_ok-case.ensures.basis held.0 c.nearest-nearest.result inside.capture.now.rrsets
+    (c.in_ok-table.ensures.within held.0 inside.range.from inside.range.to inside.capture.now.rrsets held.1
+    c.nearest-nearest.ensures.from c.nearest-nearest.ensures.to) in
+    ap (λ (case : CaseContents). case.rrsets) c.in_ok-explainer.ensures.contents
+    ∙ case.rrsets ∙ ap (λ (moments : MomentsContents). moments.rrsets) c.self.view_is
