@@ -20,7 +20,7 @@ use Rattle.dnsv_commands.specs.Paths.{anchors_of, answers_of, capture_of, keys_o
 use Rattle.dnsv_files.specs.Told.{IsOpenFault, IsUnopened}
 use Rattle.dnsv_files.specs.declared.status.InputFile.{InputFile}
 use Rattle.dnsv_files.specs.declared.status.InputFile.TheVariants.{Anchors, Answers, Capture, Keys, Macs, Questions, Statements}
-use Rattle.dnsv_program.specs.Run.{AsksMany, IsTextAskedFor, IsTextOfFirst, IsFirstFault}
+use Rattle.dnsv_program.specs.Run.{AsksMany, IsTextAskedFor, IsTextOfFewer, IsTextOfFirst, IsFirstFault}
 use Rattle.dnsv_files.specs.Status.{fault_code, outcome_code, status_code}
 
 -- what is said of the words that were handed out holds of those that the machine tells
@@ -113,10 +113,10 @@ pub began : (given : Option (List (List ℕ))) (octets_at : List ℕ → Option 
 began None octets_at old new request accepted text = tt
 began (Some words) octets_at old new request accepted text = record { request = request; accepted = accepted; text = text }
 
--- the text of some of many questions was written
+-- the text of fewer than all of many questions was written
 pub wrote_first : (given : Option (List (List ℕ))) (octets_at : List ℕ → Option (List ℕ)) (old new : Option (List ℕ)) (request : Request)
     → IfSome given (λ words. IsAccepted words request) → AsksMany request
-    → ((files : Files) → AreFilesAt octets_at request files → (text : List ℕ) × IsTextOfFirst request files text × Appends old new text)
+    → ((files : Files) → AreFilesAt octets_at request files → (text : List ℕ) × IsTextOfFewer request files text × Appends old new text)
     → IfSome given (λ words. WroteFirst words octets_at old new)
 wrote_first None octets_at old new request accepted many text = tt
 wrote_first (Some words) octets_at old new request accepted many text = record { request = request; accepted = accepted; many = many; text = text }

@@ -19,7 +19,7 @@ use Rattle.dnsv_files.specs.Files.Faults.{OfFailedRead, OfOctets}
 use Rattle.dnsv_files.specs.Files.{Files}
 use Rattle.dnsv_commands.specs.CommandLine.{IsAccepted, IsRefused, command_line_code}
 use Rattle.dnsv_commands.specs.Paths.{anchors_of, answers_of, capture_of, keys_of, macs_of, questions_of, statements_of}
-use Rattle.dnsv_program.specs.Run.{AsksMany, AsksRefused, IsTextAskedFor, IsTextOfFirst, IsFirstFault, IsReached}
+use Rattle.dnsv_program.specs.Run.{AsksMany, AsksRefused, IsTextAskedFor, IsTextOfFewer, IsTextOfFirst, IsFirstFault, IsReached}
 use Rattle.dnsv_files.specs.Status.{fault_line, status_code}
 
 -- ---- files
@@ -75,14 +75,14 @@ pub record BeganText (words : List Text) (octets_at : List ℕ → Option (List 
   pub text : (files : Files) → AreFilesAt octets_at request files
       → (text : List ℕ) × IsTextOfFirst request files text × AppendsBeginning old new text
 
--- the words ask many questions, and the output got the whole text of some of them, from the first on
+-- the words ask many questions, and the output got the whole text of fewer than all of them, from the first on
 pub record WroteFirst (words : List Text) (octets_at : List ℕ → Option (List ℕ))
     (old new : Option (List ℕ)) : Type 0 where
   pub request : Request
   pub accepted : IsAccepted words request
   pub many : AsksMany request
   pub text : (files : Files) → AreFilesAt octets_at request files
-      → (text : List ℕ) × IsTextOfFirst request files text × Appends old new text
+      → (text : List ℕ) × IsTextOfFewer request files text × Appends old new text
 
 -- the words ask many questions, of which one is refused by itself, and the output got the text of all of them
 pub record WroteRefused (words : List Text) (octets_at : List ℕ → Option (List ℕ))

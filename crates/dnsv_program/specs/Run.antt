@@ -26,7 +26,7 @@ use Rattle.dnsv_files.specs.Files.Anchors.{HasAnchors, IsFaultOfAnchors}
 use Rattle.dnsv_files.specs.Files.Capture.{AnyMessage, NewEvidence, Holds, IsFaultOfCapture}
 use Rattle.dnsv_canonical.specs.Question.{Asked}
 use Rattle.dnsv_files.specs.Files.Questions.{HasQuestions, IsFaultOfQuestions}
-use Rattle.dnsv_program.specs.Work.Asking.{AreAnswered, AreFirstAnswered}
+use Rattle.dnsv_program.specs.Work.Asking.{AreAnswered, AreFewerAnswered, AreFirstAnswered}
 use Rattle.dnsv_program.specs.Work.Checking.{IsCheck, IsStopped}
 use Rattle.dnsv_program.specs.Work.Known.{IsFaultOfKnown, IsKnownReached}
 use Rattle.dnsv_files.specs.Files.{Files, IsGiven, octets_or_none}
@@ -109,6 +109,16 @@ IsTextOfFirst (request.Check capture anchors moment (asking.One asked rtype) kno
     (end : Status) × IsAnswered format why (string_bytes asked) rtype.0 moment files end text
 IsTextOfFirst (request.Check capture anchors moment (asking.Each questions) known keys macs format why) files text =
     AreFirstAnswered format why moment files text
+
+-- the text is that of fewer questions than many that are asked, from the first on
+abbrev pub IsTextOfFewer : Request → Files → List ℕ → Type 0
+IsTextOfFewer (request.Show capture) files text = ⊥
+IsTextOfFewer (request.List capture moment statements lists format) files text = ⊥
+IsTextOfFewer (request.ListRange capture from to statements form format) files text = ⊥
+IsTextOfFewer (request.Timeline capture anchors from to asked rtype known kinds format) files text = ⊥
+IsTextOfFewer (request.Check capture anchors moment (asking.One asked rtype) known keys macs format why) files text = ⊥
+IsTextOfFewer (request.Check capture anchors moment (asking.Each questions) known keys macs format why) files text =
+    AreFewerAnswered format why moment files text
 
 -- ---- the first fault
 

@@ -9,7 +9,7 @@ ghost use Rattle.dnsv_commands.specs.CommandLine.{IsAccepted, IsRefused, command
 ghost use Rattle.dnsv_program.specs.Program.{AreFilesAt, BeganText, IsEnd, RefusedFiles, RefusedWords, WroteFirst, WroteRefused, WroteText};
 ghost use Rattle.dnsv_program.specs.Program.{FailedRequest, FailedWords, HasToldIn, HasWritten, LeavesOutput, TellsQuestion};
 ghost use Rattle.dnsv_program.specs.Program.{first_unopened, given_path, paths_of};
-ghost use Rattle.dnsv_program.specs.Run.{AsksMany, IsTextAskedFor, IsTextOfFirst, IsFirstFault, IsReached};
+ghost use Rattle.dnsv_program.specs.Run.{AsksMany, IsTextAskedFor, IsTextOfFewer, IsTextOfFirst, IsFirstFault, IsReached};
 ghost use Rattle.dnsv_files.specs.Status.{fault_code, outcome_code};
 ghost use Rattle.dnsv_files.specs.Told.{IsOpenFault, IsUnopened};
 ghost use Rattle.dnsv_files.specs.declared.status.Fault.TheVariants as Fault;
@@ -134,7 +134,7 @@ fn answer<M: Machine, W: Write>(
         × AppendsBeginning (W.contents (inner_of output.old)) (W.contents (inner_of output.new)) text }
     ensures whole { result ≡ Err Fault.OutOfMemory → (output.new ≡ output.old) ⊎ (AsksMany request.now
         × ((files : Files) → AreFilesAt (M.octets_at machine.now) request.now files → (text : List ℕ)
-        × IsTextOfFirst request.now files text
+        × IsTextOfFewer request.now files text
         × Appends (W.contents (inner_of output.old)) (W.contents (inner_of output.new)) text)) }
     ensures refused_one { result ≡ Ok Status.Refused → AsksMany request.now }
     ensures untouched { IfErr result (λ fault. (fault ≡ Fault.WriteFailed → ⊥) → (fault ≡ Fault.OutOfMemory → ⊥)

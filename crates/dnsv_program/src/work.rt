@@ -4,7 +4,7 @@ ghost use Rattle.std.specs.Io.KnownBytes.{Appends};
 ghost use Rattle.dnsv_message.specs.Streams.Counted.{inner_of, failures_of, AppendsBeginning};
 ghost use Rattle.dnsv_files.specs.Files.Faults.{OfFailedRead, TellsFaults};
 ghost use Rattle.dnsv_files.specs.Files.{AreTold, Files};
-ghost use Rattle.dnsv_program.specs.Run.{AsksMany, AsksRefused, EndsAsDone, IsFirstFault, IsManyAsked, IsReached, IsTextAskedFor, IsTextOfFirst};
+ghost use Rattle.dnsv_program.specs.Run.{AsksMany, AsksRefused, EndsAsDone, IsFirstFault, IsManyAsked, IsReached, IsTextAskedFor, IsTextOfFewer, IsTextOfFirst};
 ghost use Rattle.dnsv_files.specs.declared.status.Status.{Status};
 
 pub mod asking;
@@ -75,10 +75,10 @@ pub fn run<R: Read, W: Write>(
         → (text : List ℕ) × IsTextOfFirst request.now files text
         × AppendsBeginning (W.contents (inner_of output.old)) (W.contents (inner_of output.new)) text }
 
-    // Where memory is wanting nothing is written, but of many questions the whole text of some, from the first on.
+    // Where memory is wanting nothing is written, but of many questions the whole text of fewer than all, from the first on.
     ensures whole { result ≡ Err Fault.OutOfMemory → (output.new ≡ output.old) ⊎ (AsksMany request.now
         × ((files : Files) → AreTold R.remaining inputs.old files → (text : List ℕ)
-        × IsTextOfFirst request.now files text
+        × IsTextOfFewer request.now files text
         × Appends (W.contents (inner_of output.old)) (W.contents (inner_of output.new)) text)) }
 
     // A question that is refused by itself is one of many.

@@ -1,5 +1,5 @@
 -- What is told of the file of questions, and of the files behind it.
-use Rattle.std.proofs.Common.{◌≡◌, ◌⊎◌, ℕ, Bool, List, Option, inl, inr, subst, sym, take}
+use Rattle.std.proofs.Common.{◌≡◌, ◌⊎◌, ◌<◌, ℕ, Bool, List, Option, inl, inr, length, subst, sym, take}
 use Rattle.std.specs.Prelude.{Err, IfErr, IfOk, Ok, Result, ⊤}
 use Rattle.std.specs.Io.KnownBytes.{Appends}
 use Rattle.dnsv_answers.specs.declared.heading.Moments.TheVariants.{At}
@@ -18,7 +18,7 @@ use Rattle.dnsv_files.specs.Files.{AreTold, AreToldBeside, Files, given_failures
 use Rattle.dnsv_files.specs.Files.Faults.{OfFailedRead, TellsFailedReads, TellsFaults, TellsFaultsBeside, TellsReads}
 use Rattle.dnsv_files.specs.Files.Questions.{HasQuestions}
 use Rattle.dnsv_program.specs.Run.{IsFirstFaultOfEach, IsFirstFaultOfFiles}
-use Rattle.dnsv_program.specs.Work.Asking.{AreAnswered, AreAnswers, AreFirstAnswered}
+use Rattle.dnsv_program.specs.Work.Asking.{AreAnswered, AreAnswers, AreFewerAnswered, AreFirstAnswered}
 use Rattle.dnsv_program.specs.Work.Checking.{AreReadFrom, basis_in}
 use Rattle.dnsv_program.specs.Work.Known.{Ground}
 use Rattle.dnsv_files.specs.Told.{IsFaultOf}
@@ -149,14 +149,18 @@ pub first_whole : {Same : Type 0} {AreSo : Files → Type 0} (format : Format) (
     {anchors : List Anchor} {said : Said} (old new : Option (List ℕ))
     → ((files : Files) → AreSo files → HasQuestions (octets_or_none files.questions) asked)
     → ((files : Files) → AreSo files → AreReadFrom (At moment) files rrsets anchors said)
-    → Same ⊎ ((knowing : Ground (At moment) rrsets said) × (count : ℕ) × (end : Status) × (text : List ℕ)
+    → Same ⊎ ((knowing : Ground (At moment) rrsets said) × (count : ℕ) × (count < length asked) × (end : Status) × (text : List ℕ)
     × AreAnswers format why knowing.numbers (basis_of rrsets anchors moment knowing.meaning) (take count asked) end text × Appends old new text)
-    → Same ⊎ ((files : Files) → AreSo files → (text : List ℕ) × AreFirstAnswered format why moment files text × Appends old new text)
+    → Same ⊎ ((files : Files) → AreSo files → (text : List ℕ) × AreFewerAnswered format why moment files text × Appends old new text)
+unfolding first_answered_by
 first_whole format why moment asked old new has given (inl same) = inl same
 first_whole format why moment asked old new has given (inr whole) = inr (λ files are. (
-  whole.3,
-  first_answered_by format why moment files asked (has files are) (given files are) whole.0 whole.1 whole.2 whole.3 whole.4,
-  whole.5,
+  whole.4,
+  record {
+    firsts = first_answered_by format why moment files asked (has files are) (given files are) whole.0 whole.1 whole.3 whole.4 whole.5;
+    fewer = whole.2;
+  },
+  whole.6,
 ))
 
 -- ---- one case

@@ -111,9 +111,10 @@ module _ (format : Format) (why : Bool) (numbers : Option (List ℕ)) (basis : B
     so_far.grown,
   )
 
-  pub ToldSoFar-whole : (asked : List Asked) (done : ℕ) (end : Status) (old now : Option (List ℕ)) → ToldSoFar asked done end old now
-      → (count : ℕ) × (end : Status) × (text : List ℕ) × AreAnswers format why numbers basis (take count asked) end text × Appends old now text
-  ToldSoFar-whole asked done end old now so_far = (done, end, so_far.text, so_far.answers, so_far.grown)
+  pub ToldSoFar-whole : (asked : List Asked) (done : ℕ) (end : Status) (old now : Option (List ℕ)) → done < length asked → ToldSoFar asked done end old now
+      → (count : ℕ) × (count < length asked) × (end : Status) × (text : List ℕ) × AreAnswers format why numbers basis (take count asked) end text
+      × Appends old now text
+  ToldSoFar-whole asked done end old now fewer so_far = (done, fewer, end, so_far.text, so_far.answers, so_far.grown)
 
   -- a beginning of one more is one of all of them
   pub ToldSoFar-begun : (asked : List Asked) (done : ℕ) (end new : Status) (old now after : Option (List ℕ)) (x : Asked) → done < length asked → get_or asked done x ≡ x

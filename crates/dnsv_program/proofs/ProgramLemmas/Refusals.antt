@@ -5,7 +5,7 @@ use Rattle.std.specs.Io.KnownBytes.{Appends}
 use Rattle.dnsv_commands.specs.CommandLine.{IsAccepted}
 use Rattle.dnsv_files.specs.Files.{Files}
 use Rattle.dnsv_program.specs.Program.{AreFilesAt, RefusedFiles, WroteFirst, WroteRefused}
-use Rattle.dnsv_program.specs.Run.{AsksMany, IsFirstFault, IsTextAskedFor, IsTextOfFirst}
+use Rattle.dnsv_program.specs.Run.{AsksMany, IsFirstFault, IsTextAskedFor, IsTextOfFewer}
 use Rattle.dnsv_files.specs.Status.{outcome_code}
 use Rattle.dnsv_commands.specs.declared.request.Request.{Request}
 use Rattle.dnsv_files.specs.declared.status.Fault.{Fault}
@@ -16,10 +16,10 @@ use Rattle.dnsv_files.specs.declared.status.Status.{Status}
 use Rattle.dnsv_files.specs.declared.status.Status.TheVariants.{Refused}
 use Rattle.dnsv_program.proofs.ProgramLemmas.{ended_refused, refused, wrote_first, wrote_refused}
 
--- where memory was wanting, nothing was written, or the text of some of many questions
+-- where memory was wanting, nothing was written, or the text of fewer than all of many questions
 pub first_wrote : {Same : Type 0} (given : Option (List (List ℕ))) (octets_at : List ℕ → Option (List ℕ)) (old new : Option (List ℕ)) (request : Request)
     → IfSome given (λ words. IsAccepted words request)
-    → Same ⊎ (AsksMany request × ((files : Files) → AreFilesAt octets_at request files → (text : List ℕ) × IsTextOfFirst request files text × Appends old new text))
+    → Same ⊎ (AsksMany request × ((files : Files) → AreFilesAt octets_at request files → (text : List ℕ) × IsTextOfFewer request files text × Appends old new text))
     → Same ⊎ IfSome given (λ words. WroteFirst words octets_at old new)
 first_wrote given octets_at old new request accepted (inl same) = inl same
 first_wrote given octets_at old new request accepted (inr whole) = inr (wrote_first given octets_at old new request accepted whole.0 whole.1)

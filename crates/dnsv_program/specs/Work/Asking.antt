@@ -1,5 +1,5 @@
 -- What the answers to many questions are: each by itself, one text behind the other, and the greatest exit status.
-use Rattle.std.specs.Prelude.{◌≡◌, ◌⊎◌, ◌≤◌, ℕ, Bool, List, [], ◌∷◌, Contains, Option, map, take}
+use Rattle.std.specs.Prelude.{◌≡◌, ◌⊎◌, ◌<◌, ◌≤◌, ℕ, Bool, List, [], ◌∷◌, Contains, Option, length, map, take}
 use Rattle.std.specs.List.{flat_map}
 use Rattle.dnsv_answers.specs.declared.heading.Moments.TheVariants.{At}
 use Rattle.dnsv_canonical.specs.Question.{Asked}
@@ -74,3 +74,8 @@ pub record AreFirstAnswered (format : Format) (why : Bool) (moment : ℕ) (files
   pub count : ℕ
   pub end : Status
   pub answers : AreAnswers format why given.numbers (basis_in given) (take count asked) end text
+
+-- the same of fewer questions than there are
+pub record AreFewerAnswered (format : Format) (why : Bool) (moment : ℕ) (files : Files) (text : List ℕ) : Type 0 where
+  pub firsts : AreFirstAnswered format why moment files text
+  pub fewer : firsts.count < length firsts.asked

@@ -1,5 +1,5 @@
 //! The work of `check` and of `explain` over a file of questions: each is judged by one case, and reported before the next.
-ghost use Rattle.std.specs.Prelude.{◌≡◌, ◌⊎◌, ◌<◌, ℕ, Err, IfErr, IfOk, List, string_bytes, take};
+ghost use Rattle.std.specs.Prelude.{◌≡◌, ◌⊎◌, ◌<◌, ℕ, Err, IfErr, IfOk, List, length, string_bytes, take};
 ghost use Rattle.std.specs.Io.KnownBytes.{Appends};
 ghost use Rattle.dnsv_message.specs.Streams.Counted.{inner_of, failures_of, AppendsBeginning};
 ghost use Rattle.dnsv_answers.specs.declared.heading.Moments.TheVariants.{At};
@@ -11,7 +11,7 @@ ghost use Rattle.dnsv_files.specs.Files.Faults.{OfFailedRead, TellsFaults};
 ghost use Rattle.dnsv_files.specs.Files.Questions.{HasQuestions};
 ghost use Rattle.dnsv_files.specs.Files.{AreTold, Files, octets_or_none};
 ghost use Rattle.dnsv_program.specs.Run.{IsFirstFaultOfEach, IsReachedByEach};
-ghost use Rattle.dnsv_program.specs.Work.Asking.{AreAnswered, AreAnswers, AreFirstAnswered, IsAnswer, IsRefusedOne};
+ghost use Rattle.dnsv_program.specs.Work.Asking.{AreAnswered, AreAnswers, AreFewerAnswered, AreFirstAnswered, IsAnswer, IsRefusedOne};
 ghost use Rattle.dnsv_files.specs.Told.{IsFaultOf};
 ghost use Rattle.dnsv_program.specs.Work.Judging.{case_of, tells_why};
 ghost use Rattle.dnsv_program.specs.Work.Known.{AreMiscountedIn, Ground};
@@ -37,7 +37,7 @@ use std::io::{Read, Write};
 ///
 /// The answer is the greatest status of all. The fault is the first in the order of the work: of the questions, and then
 /// of the files that they are judged by. Where memory runs out behind that, or a write fails, the output has the whole
-/// texts of the first questions; and where a write failed, a beginning of the next.
+/// texts of the first questions, but not of all; and where a write failed, a beginning of the next.
 pub fn check_each<R: Read, W: Write>(
     alloc: Global,
     telling: Telling,
@@ -59,7 +59,7 @@ pub fn check_each<R: Read, W: Write>(
         × AppendsBeginning (W.contents (inner_of output.old)) (W.contents (inner_of output.new)) text }
     ensures whole { result ≡ Err Fault.OutOfMemory → (output.new ≡ output.old) ⊎ ((files : Files)
         → AreTold R.remaining inputs.old files → (text : List ℕ)
-        × AreFirstAnswered telling.format telling.why moment files text
+        × AreFewerAnswered telling.format telling.why moment files text
         × Appends (W.contents (inner_of output.old)) (W.contents (inner_of output.new)) text) }
     ensures untouched { IfErr result (λ fault. (fault ≡ Fault.WriteFailed → ⊥) → (fault ≡ Fault.OutOfMemory → ⊥)
         → output.new ≡ output.old) }
@@ -101,7 +101,8 @@ fn answer_all<W: Write>(
         knowing.meaning) (take count questions.now) end text
         × AppendsBeginning (W.contents (inner_of output.old)) (W.contents (inner_of output.new)) text }
     ensures whole { result ≡ Err Fault.OutOfMemory → (output.new ≡ output.old)
-        ⊎ ((knowing : Ground (At moment) given.now.held.rrsets given.now.said) × (count : ℕ) × (end : Status) × (text : List ℕ)
+        ⊎ ((knowing : Ground (At moment) given.now.held.rrsets given.now.said) × (count : ℕ)
+        × (count < length questions.now) × (end : Status) × (text : List ℕ)
         × AreAnswers telling.format telling.why knowing.numbers (basis_of given.now.held.rrsets given.now.anchors moment
         knowing.meaning) (take count questions.now) end text
         × Appends (W.contents (inner_of output.old)) (W.contents (inner_of output.new)) text) }
@@ -154,7 +155,8 @@ fn tell_each<W: Write>(
         × AreAnswers telling.format telling.why numbers.now basis (take count questions.now) end text
         × AppendsBeginning (W.contents (inner_of output.old)) (W.contents (inner_of output.new)) text }
     ensures whole { (basis : Basis) → IsCaseOf basis (case_of judge.old) → rrsets.now ≡ basis.rrsets
-        → basis.moment ≡ moment → result ≡ Err Fault.OutOfMemory → (count : ℕ) × (end : Status) × (text : List ℕ)
+        → basis.moment ≡ moment → result ≡ Err Fault.OutOfMemory → (count : ℕ) × (count < length questions.now)
+        × (end : Status) × (text : List ℕ)
         × AreAnswers telling.format telling.why numbers.now basis (take count questions.now) end text
         × Appends (W.contents (inner_of output.old)) (W.contents (inner_of output.new)) text }
 {

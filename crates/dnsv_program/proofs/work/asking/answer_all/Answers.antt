@@ -54,7 +54,7 @@ returns-clause-whole g c = λ memory.
     let known = c.in_ok-judge.ensures.known in
     let basis : Basis = basis_of given.held.rrsets given.anchors c.args.moment known.0 in
     let whole = rw c.in_ok-numbers.ensures at (c.tell_each.ensures.whole basis known.2 c.rrsets.ensures.value refl memory) in
-    inr (record { meaning = known.0; numbers = numbers_said given.said; knows = known.1 }, whole.0, whole.1, whole.2, whole.3, whole.4)
+    inr (record { meaning = known.0; numbers = numbers_said given.said; knows = known.1 }, whole.0, whole.1, whole.2, whole.3, whole.4, whole.5)
 
 pub returns-clause-untouched : goal.returns-clause-untouched
 returns-clause-untouched g c = told_untouched _ c.tell_each.result c.tell_each.ensures.only

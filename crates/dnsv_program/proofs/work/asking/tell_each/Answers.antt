@@ -37,7 +37,7 @@ returns-in_err-told-clause-whole g c = λ basis is same at.
     let p = err_from_is_err_and c.from_residual.result c.from_residual.ensures.1 in
     rw (p.1, p.2) (λ memory.
     rw (c.in_err-told.ensures.untouched memory) (ToldSoFar-whole c.args.telling.format c.args.telling.why c.args.numbers.now basis c.args.questions.now
-    c.loop-question.question-index c.loop-question.end _ _ (c.loop-question.invariant.0 basis is same at)))
+    c.loop-question.question-index c.loop-question.end _ _ c.loop-question-test.true (c.loop-question.invariant.0 basis is same at)))
 
 pub returns-clause-done : goal.returns-clause-done
 returns-clause-done g c = λ basis is same at.
