@@ -1,3 +1,4 @@
+pub mod bears
 pub mod checks
 pub mod needs
 pub mod truth

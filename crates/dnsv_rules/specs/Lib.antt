@@ -1,3 +1,4 @@
+pub mod Borne
 pub mod Checked
 pub mod Explained
 pub mod Planted

@@ -8,11 +8,14 @@ ghost use Rattle.dnsv_canonical.specs.Rrsets.{ReceivedRrset};
 ghost use Rattle.dnsv_chain.specs.Trusted.{IsTrusted};
 ghost use Rattle.dnsv_derivations.specs.Denials.{number_told};
 ghost use Rattle.dnsv_derivations.specs.Explained.{Explained, Setting};
+ghost use Rattle.dnsv_explain.specs.Explained.{basis_in};
 ghost use Rattle.dnsv_explain.specs.Explanation.{IsExplanation, its_setting};
+ghost use Rattle.dnsv_rules.specs.Borne.{BearsOut, IsSetBorne, IsSetTrue};
 ghost use Rattle.dnsv_rules.specs.Checked.{Asked, Checks};
 ghost use Rattle.dnsv_rules.specs.Explained.{asked_by};
 ghost use Rattle.dnsv_rules.specs.Planted.{HoldsType, NeedsEncloser, ShowsNode};
 ghost use Rattle.dnsv_rules.specs.Truth.{IsTrueProof};
+ghost use Rattle.dnsv_verdict.specs.Way.{IsVerdictOf};
 ghost use Rattle.dnsv_verdict.specs.declared.link.Link.{Link};
 
 use dnsv_canonical::RecordNumber;
@@ -40,6 +43,29 @@ pub fn explanations_check()
     ensures { (explained : Explained) (t : ℕ) (links : List Link) (last : Labels) (verdict : Verdict) (lines : List Line)
         → IsExplanation explained t links last verdict lines
         → Checks (its_setting explained verdict) (asked_by links last t) lines }
+{}
+
+/// The lines of an explanation bear out its verdict, and the alias of each link: an answer by the RRset and a signature of
+/// it, with what is told against closer names; a denial by a proof of it; and that the name may be unsigned by a case.
+pub fn explanations_bear_out_their_verdicts()
+    ensures verdict { (explained : Explained) (t : ℕ) (name : Labels) (links : List Link) (last : Labels)
+        (verdict : Verdict) (lines : List Line) → IsVerdictOf (basis_in explained) name t links last verdict
+        → IsExplanation explained t links last verdict lines
+        → BearsOut explained.rrsets (asked_by links last t) lines verdict }
+    ensures links { (explained : Explained) (t : ℕ) (name : Labels) (links : List Link) (last : Labels)
+        (verdict : Verdict) (lines : List Line) (link : Link)
+        → IsVerdictOf (basis_in explained) name t links last verdict
+        → IsExplanation explained t links last verdict lines → Contains links link
+        → IsSetBorne explained.rrsets lines link.name 5 link.rrset link.signature }
+{}
+
+/// Where the lines of a text that checks bear out an answer or an alias, it is so: the signature is good under a trusted key
+/// of its signer, and no wildcard is behind it, or each zone that has a record which the signer signed answers for the name
+/// from that wildcard.
+pub fn answers_that_are_borne_out_are_so()
+    ensures { (setting : Setting) (asked : Asked) (lines : List Line) (name : Labels) (t k s : ℕ)
+        → Checks setting asked lines → IsSetBorne setting.rrsets lines name t k s
+        → IsSetTrue setting lines name t k s }
 {}
 
 /// A text with a proof doesn't check without parts, nor where no line calls a signature of the proof's zone good.

@@ -1,11 +1,11 @@
 -- A form that is shown stands over what part lines tell, where they tell its parts and lines show its records to be
 -- signed.
-use Rattle.std.proofs.Common.{◌≡◌, ◌+◌, ℕ, List, [], ◌∷◌, ◌++◌, Option, Some, None, inl, inr, refl, subst}
+use Rattle.std.proofs.Common.{◌+◌, ℕ, List, [], ◌∷◌, ◌++◌, Option, Some, None, inl, inr, refl}
 use Rattle.std.specs.List.{AllByRecursion}
 use Rattle.std.specs.Option.{option_map}
 use Rattle.dnsv_names.specs.Name.{Labels, SameName, rightmost}
 use Rattle.dnsv_names.specs.Tree.{wildcard_of}
-use Rattle.dnsv_zones.specs.forms.Forms.{EndsAt}
+use Rattle.dnsv_zones.specs.forms.Forms.{EndsAt, NoCloserForm}
 use Rattle.dnsv_zones.specs.forms.RecordWords.{RecordWords, words}
 use Rattle.dnsv_zones.specs.zones.Types.{Denies}
 use Rattle.dnsv_canonical.specs.Rrsets.{ReceivedRrset}
@@ -24,11 +24,12 @@ use Rattle.dnsv_denial.specs.records.RecordsAt.{listed}
 use Rattle.dnsv_denial.specs.words.EvidenceWords.{Chain, evidence_said, number_cmp}
 use Rattle.dnsv_denial.specs.words.EvidenceWords.Chain.{ByNsec, ByNsec3}
 use Rattle.dnsv_denial.specs.declared.forms.proof_form.ProofForm.{ProofForm}
+use Rattle.dnsv_denial.specs.declared.forms.proof_form.ProofForm.TheVariants.{NoCloser}
 use Rattle.dnsv_denial.specs.declared.forms.proof_form.WildcardParts.{WildcardParts}
 use Rattle.dnsv_denial.specs.declared.proving.proof_part.PartRelation.{PartRelation}
 use Rattle.dnsv_denial.specs.declared.proving.proof_part.PartRelation.TheVariants as related
 use Rattle.dnsv_denial.specs.declared.proving.proof_part.ProofPart.{ProofPart}
-use Rattle.dnsv_derivations.specs.Denials.{told_form, told_relation}
+use Rattle.dnsv_derivations.specs.Denials.{told_form}
 use Rattle.dnsv_derivations.proofs.lemmas.denials.PartLemmas.{nsec_by, nsec3_by, word_by}
 use Rattle.dnsv_lines.specs.declared.line.Line.{Line}
 use Rattle.dnsv_lines.specs.declared.line.denial.Form.{Form}
@@ -224,6 +225,14 @@ module _ (S : ℕ → ℕ → Type 0) (rrsets : List ReceivedRrset) (lines : Lis
 
   -- ---- against answers from wildcards, by a zone in whatever spelling
 
+  pub no_closer_form : (chain : Chain) (labels : ℕ) (shape : ProofForm RecordNumber) → AllByRecursion Counts (form_records shape)
+      → Tells (form_parts (kind_of chain) shape) → ShowsNoCloser number_cmp (evidence_said S rrsets apex chain) apex name labels shape
+      → NoCloserForm (words (told chain)) apex name labels
+  no_closer_form chain labels _ counts tells (closer_shown number x) = record {
+    above = x.above;
+    next_closer = (number, absent_told chain (rightmost name (labels + 1)) number counts.0 x.next_closer.says tells.0);
+  }
+
   module _ (zone : Labels) (same : SameName apex zone) where
     pub no_closer_stands : (asked : Asked) → IsOnWay asked name → (chain : Chain) (labels : ℕ) (shape : ProofForm RecordNumber)
         → AllByRecursion Counts (form_records shape) → Tells (form_parts (kind_of chain) shape)
@@ -233,10 +242,8 @@ module _ (S : ℕ → ℕ → Type 0) (rrsets : List ReceivedRrset) (lines : Lis
       name,
       on_way,
       labels,
-      closer_as rrsets lines apex zone same chain name labels (record {
-        above = x.above;
-        next_closer = (number, absent_told chain (rightmost name (labels + 1)) number counts.0 x.next_closer.says tells.0);
-      }),
+      closer_as rrsets lines apex zone same chain name labels
+          (no_closer_form chain labels (NoCloser labels number) counts tells (closer_shown number x)),
       refl,
     )
 

@@ -1,5 +1,5 @@
 -- What is shown of a name can be told: by a chain of a zone, in a form that stands.
-use Rattle.std.proofs.Common.{◌≡◌, ◌∙◌, ◌+◌, ℕ, List, inl, refl, sym, ap, subst}
+use Rattle.std.proofs.Common.{◌∙◌, ◌+◌, ℕ, List, inl, refl, sym, ap, subst}
 use Rattle.std.specs.List.{Contains}
 use Rattle.dnsv_names.specs.Name.{Labels, SameName, lower_case, rightmost}
 use Rattle.dnsv_zones.specs.forms.Forms.{IsAbove}
@@ -33,6 +33,12 @@ use Rattle.dnsv_rules.proofs.checks.StepLemmas.{Tellable}
 no_closer_above : (S : ℕ → ℕ → Type 0) (setting : Setting) (zone name : Labels) (chain : Chain) (labels : ℕ) (shape : ProofForm RecordNumber)
     → ShowsNoCloser number_cmp (evidence_said S setting.rrsets zone chain) zone name labels shape → IsAbove zone name labels
 no_closer_above S setting zone name chain labels _ (closer_shown number x) = x.above
+
+-- the zone of the proof is that which shows it
+pub closer_same : (S : ℕ → ℕ → Type 0) (setting : Setting) (name : Labels) (labels : ℕ) (zone : Labels) (shown : ShownDenial)
+    → IsShownNoCloser S setting.rrsets name labels zone shown → SameName zone shown.proof.zone
+closer_same S setting name labels zone shown is =
+    spelled name zone labels (no_closer_above S setting zone name is.chain labels shown.form is.shows) ∙ sym (ap lower_case is.zone)
 
 module _ (setting : Setting) (trust : KeptTrust) (good : IsTrustIn setting trust) (all : List Line) where
   abbrev Kept : ℕ → ℕ → Type 0
@@ -119,8 +125,7 @@ module _ (setting : Setting) (trust : KeptTrust) (good : IsTrustIn setting trust
   pub no_closer_told : (asked : Asked) (name : Labels) (on_way : IsOnWay asked name) (shown : ShownDenial) (labels : ℕ) (zone : Labels)
       → IsShownNoCloser Kept setting.rrsets name labels zone shown → Tellable setting asked all name on_way shown
   no_closer_told asked name on_way shown labels zone is =
-      let above = no_closer_above Kept setting zone name is.chain labels shown.form is.shows in
-      let same : SameName zone shown.proof.zone = spelled name zone labels above ∙ sym (ap lower_case is.zone) in
+      let same = closer_same Kept setting name labels zone shown is in
       let Among : RecordNumber → List RecordNumber → Type 0 = λ number each. Contains each number in record {
         chain = is.chain;
         kind = is.kind;

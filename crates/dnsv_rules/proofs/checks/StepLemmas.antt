@@ -1,8 +1,8 @@
 -- What each line of a step says of the question is so.
-use Rattle.std.proofs.Common.{◌≡◌, ◌∙◌, ◌+◌, ℕ, List, [], ◌∷◌, ◌++◌, Option, Some, None, inl, length, refl, sym, ap, subst, append_assoc, ⊎_elim}
+use Rattle.std.proofs.Common.{◌≡◌, ◌+◌, List, [], ◌∷◌, ◌++◌, Option, Some, None, length, refl, sym, subst, ⊎_elim}
 use Rattle.std.specs.List.{AllByRecursion, Contains}
 use Rattle.std.specs.Option.{option_map}
-use Rattle.dnsv_names.specs.Name.{Labels, lower_case, rightmost}
+use Rattle.dnsv_names.specs.Name.{Labels, rightmost}
 use Rattle.dnsv_names.specs.Tree.AncestorLaws.{rightmost_above, rightmost_below}
 use Rattle.dnsv_canonical.specs.declared.number.RecordNumber.{RecordNumber}
 use Rattle.dnsv_denial.specs.forms.ProofForms.{form_encloser, form_records}
@@ -15,7 +15,7 @@ use Rattle.dnsv_denial.specs.declared.proving.proof_part.PartName.TheVariants as
 use Rattle.dnsv_denial.specs.declared.proving.proof_part.ProofPart.{ProofPart}
 use Rattle.dnsv_denial.specs.declared.proving.shown_denial.ShownDenial.{ShownDenial}
 use Rattle.dnsv_denial.specs.declared.records.chain_kind.ChainKind.{ChainKind}
-use Rattle.dnsv_derivations.specs.Denials.{IsDenialTold, IsPartLine, IsPartSaid, IsPartTold, IsProofLine, IsProofOf, IsProofSaid, IsProofTold, IsProofWithParts, told_chain, told_form, told_role}
+use Rattle.dnsv_derivations.specs.Denials.{IsDenialTold, IsPartSaid, IsPartTold, IsProofLine, IsProofOf, IsProofSaid, IsProofTold, IsProofWithParts, told_chain, told_form, told_role}
 use Rattle.dnsv_derivations.specs.Explained.{Setting}
 use Rattle.dnsv_derivations.specs.Following.Parts.{IsOfKind}
 use Rattle.dnsv_derivations.specs.Saying.{AreBoth, AreEach}
@@ -23,9 +23,7 @@ use Rattle.dnsv_derivations.specs.derivations.OwnDerivations.{AreRecordsDerived}
 use Rattle.dnsv_verifier.proofs.NumberLemmas.{at_front, further}
 use Rattle.dnsv_lines.specs.declared.line.Line.{Line}
 use Rattle.dnsv_lines.specs.declared.line.Line.TheVariants as line
-use Rattle.dnsv_lines.specs.declared.line.denial.Chain.{Chain as ToldChain}
 use Rattle.dnsv_lines.specs.declared.line.denial.Form.{Form}
-use Rattle.dnsv_lines.specs.declared.line.denial.Part.{Part}
 use Rattle.dnsv_lines.specs.declared.line.denial.Proof.{Proof}
 use Rattle.dnsv_lines.specs.declared.line.denial.Role.{Role}
 use Rattle.dnsv_explain.proofs.lemmas.keys.EachLemmas.{Each, both_each, none_each, one_each}

@@ -1,9 +1,7 @@
 -- What each line says of a name that may be unsigned is so.
-use Rattle.std.proofs.Common.{◌≡◌, ◌+◌, ℕ, List, [], ◌∷◌, ◌++◌, Option, Some, None, inl, map, refl, sym, subst}
-use Rattle.std.specs.List.{Contains}
+use Rattle.std.proofs.Common.{◌+◌, ℕ, List, ◌++◌, Option, Some, None, inl, refl, sym, subst}
 use Rattle.dnsv_names.specs.Name.{Labels, IsAtOrBelow, rightmost}
 use Rattle.dnsv_names.specs.Tree.AncestorLaws.{rightmost_above}
-use Rattle.dnsv_canonical.specs.declared.number.SignatureNumber.{SignatureNumber}
 use Rattle.dnsv_chain.specs.Trust.{KeptTrust, SecuredIn as KeptIn}
 use Rattle.dnsv_denial.specs.unsigned_cuts.ShownCut.{IsShownCut}
 use Rattle.dnsv_denial.specs.unsigned_cuts.ShownCut.IsShownCut.{no_ds, no_usable_ds, opt_out}
@@ -26,7 +24,7 @@ use Rattle.dnsv_rules.specs.Checked.{Asked}
 use Rattle.dnsv_rules.proofs.checks.DerivedLemmas.{records_so, signature_so}
 use Rattle.dnsv_rules.proofs.checks.ShownLemmas.{delegation_told, opt_out_told, out_closer_told}
 use Rattle.dnsv_rules.proofs.checks.StepLemmas.{So, Tellable, both_so, with_parts_so}
-use Rattle.dnsv_rules.proofs.checks.TellLemmas.{AreWithin, records_own, within_back, within_front}
+use Rattle.dnsv_rules.proofs.checks.TellLemmas.{AreWithin, records_own, within_front}
 
 module _ (setting : Setting) (aliases : List Labels) (name : Labels) (t : ℕ) (all : List Line) where
   abbrev here : Asked

@@ -1,5 +1,5 @@
 -- Each proof rests on a record of its zone.
-use Rattle.std.proofs.Common.{◌≡◌, ◌+◌, ◌⊎◌, ℕ, List, [], Option, Some, subst, sym, ⊎_elim}
+use Rattle.std.proofs.Common.{◌+◌, ℕ, List, [], Option, subst, ⊎_elim}
 use Rattle.std.specs.List.{Contains}
 use Rattle.dnsv_names.specs.Name.{Labels, SameName, rightmost}
 use Rattle.dnsv_names.specs.Tree.{wildcard_of}
@@ -16,7 +16,6 @@ use Rattle.dnsv_denial.specs.words.EvidenceWords.{Chain, evidence_said}
 use Rattle.dnsv_denial.specs.words.EvidenceWords.Chain.{ByNsec, ByNsec3}
 use Rattle.dnsv_denial.proofs.lemmas.gathering.EvidenceLemmas.{one_nsec_of}
 use Rattle.dnsv_denial.proofs.lemmas.gathering.NumberedLemmas.{nsec_or_nsec3, one_nsec3_of}
-use Rattle.dnsv_derivations.specs.Denials.{number_told}
 use Rattle.dnsv_derivations.specs.Explained.{Setting}
 use Rattle.dnsv_derivations.specs.Following.{EachFollows}
 use Rattle.dnsv_lines.specs.declared.line.Line.{Line}
@@ -25,7 +24,6 @@ use Rattle.dnsv_lines.specs.declared.line.denial.Form.{Form}
 use Rattle.dnsv_lines.specs.declared.line.denial.Form.TheVariants as form
 use Rattle.dnsv_lines.specs.declared.line.denial.Part.{Part}
 use Rattle.dnsv_lines.specs.declared.line.denial.Proof.{Proof}
-use Rattle.dnsv_lines.specs.declared.line.denial.Relation.TheVariants as relation
 use Rattle.dnsv_lines.specs.declared.line.derivation.SignedRrset.{SignedRrset}
 use Rattle.dnsv_rules.specs.Checked.{Asked, Checks, StandsFor}
 use Rattle.dnsv_rules.specs.Planted.{HoldsType}

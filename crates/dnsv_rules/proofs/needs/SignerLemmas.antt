@@ -1,5 +1,5 @@
 -- Who signed what lines show to be good.
-use Rattle.std.proofs.Common.{◌≡◌, ◌∙◌, ℕ, List, [], ◌∷◌, ◌++◌, sym, ap, subst, refl, arith, ⊎_elim}
+use Rattle.std.proofs.Common.{◌≡◌, ◌∙◌, ℕ, List, [], ◌∷◌, ◌++◌, sym, ap, subst, arith, ⊎_elim}
 use Rattle.std.specs.List.{Contains}
 use Rattle.dnsv_names.specs.Name.{Labels, SameName, lower_case}
 use Rattle.dnsv_records.specs.Rrsig.{IsRrsig}
@@ -19,7 +19,7 @@ use Rattle.dnsv_lines.specs.declared.line.derivation.SignedRrset.{SignedRrset}
 use Rattle.dnsv_rules.specs.Truth.{IsShownSecured}
 
 -- the signature with the numbers
-one_signature : (rrsets : List ReceivedRrset) (k s : ℕ) (a b : ReceivedRrset) (x y : List ℕ) (f g : Rrsig) → IsNumbered rrsets k a
+pub one_signature : (rrsets : List ReceivedRrset) (k s : ℕ) (a b : ReceivedRrset) (x y : List ℕ) (f g : Rrsig) → IsNumbered rrsets k a
     → IsNumbered rrsets k b → IsNumbered a.signatures s x → IsNumbered b.signatures s y → IsRrsig x f → IsRrsig y g → f ≡ g
 one_signature rrsets k s a b x y f g is_a is_b at_a at_b read_f read_g =
     let rrset : a ≡ b = same_number rrsets k a b is_a is_b in

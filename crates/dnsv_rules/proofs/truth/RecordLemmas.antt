@@ -9,10 +9,7 @@ use Rattle.dnsv_zones.specs.forms.Nsec.{IsAbsentBy, IsEmptyNonTerminalBy, IsNode
 use Rattle.dnsv_zones.specs.forms.Nsec3.{Covers, Matches}
 use Rattle.dnsv_zones.specs.forms.RecordWords.{RecordWords}
 use Rattle.dnsv_zones.specs.zones.Types.{IsClosed}
-use Rattle.dnsv_canonical.specs.Rrsets.{ReceivedRrset}
 use Rattle.dnsv_canonical.specs.declared.number.RecordNumber.{RecordNumber}
-use Rattle.dnsv_canonical.specs.declared.number.SignatureNumber.{SignatureNumber}
-use Rattle.dnsv_chain.specs.Trusted.{IsSecured}
 use Rattle.dnsv_denial.specs.gathering.Evidence.{IsSecuredBy}
 use Rattle.dnsv_denial.specs.words.EvidenceWords.{Chain, SaidByNsec, SaidByNsec3}
 use Rattle.dnsv_denial.specs.words.EvidenceWords.Chain.{ByNsec, ByNsec3}
@@ -45,7 +42,7 @@ parts_record lines related x n told = record { part = told.part; among = told.am
 
 module _ (setting : Setting) (lines : List Line) (follows : EachFollows setting [] lines) (zone : Labels) where
   -- what a line shows to be good is good under a trusted key
-  is_secured : (k s : ℕ) → IsShownGood lines k s → IsShownSecured setting lines k s
+  pub is_secured : (k s : ℕ) → IsShownGood lines k s → IsShownSecured setting lines k s
   is_secured k s good = (good, said_secured setting lines (all_true setting [] lines (no_lines setting) follows) k s good)
 
   secured_here : (k : ℕ) → IsSecuredBy (IsShownGood lines) setting.rrsets zone k → IsSecuredBy (IsShownSecured setting lines) setting.rrsets zone k

@@ -1,21 +1,20 @@
 -- Each proof of a text that checks is true.
-use Rattle.std.proofs.Common.{◌≡◌, ◌+◌, ◌⊎◌, ℕ, List, [], ◌∷◌, Option, Some, refl, sym, subst, ⊎_elim}
+use Rattle.std.proofs.Common.{◌≡◌, ◌+◌, ℕ, List, [], ◌∷◌, Option, Some, refl, sym, subst, ⊎_elim}
 use Rattle.std.specs.List.{Contains}
-use Rattle.dnsv_names.specs.Name.{Labels, SameName, rightmost}
+use Rattle.dnsv_names.specs.Name.{Labels, rightmost}
 use Rattle.dnsv_names.specs.Tree.{wildcard_of}
 use Rattle.dnsv_zones.specs.chains.Nsec3Chain.{IsUnsignedEnd}
-use Rattle.dnsv_zones.specs.forms.Forms.{EmptyForm, EmptyWildcardForm, EndsAt, NoCloserForm, NoDataForm, NoNameForm, NoWildcardDataForm, Words}
+use Rattle.dnsv_zones.specs.forms.Forms.{EmptyForm, EndsAt, NoCloserForm, NoDataForm, Words}
 use Rattle.dnsv_zones.specs.forms.Parts.{OptsOut, OptsOutNextCloser}
-use Rattle.dnsv_zones.specs.forms.RecordWords.{RecordWords, words}
+use Rattle.dnsv_zones.specs.forms.RecordWords.{RecordWords}
 use Rattle.dnsv_zones.specs.zones.Types.{Denies}
 use Rattle.dnsv_zones.specs.zones.Zone.{IsNode, Zone}
 use Rattle.dnsv_zones.proofs.lemmas.meaning.MeaningLemmas.{empty, empty_wildcard, held_at_wildcard, no_data, no_name, no_wildcard_data}
 use Rattle.dnsv_canonical.specs.declared.number.RecordNumber.{RecordNumber}
-use Rattle.dnsv_canonical.proofs.CanonicalLemmas.{IsMember, IsMember-from_contains}
+use Rattle.dnsv_canonical.proofs.CanonicalLemmas.{IsMember-from_contains}
 use Rattle.dnsv_denial.specs.proving.FirstProof.{ProofRecords}
 use Rattle.dnsv_denial.specs.proving.ProofMeaning.{HasProofRecords, HasProofWithoutCollision}
 use Rattle.dnsv_denial.specs.words.EvidenceWords.{Chain}
-use Rattle.dnsv_denial.proofs.lemmas.forms.PartsForm.{SayNoMore}
 use Rattle.dnsv_denial.proofs.meaning.CutMeaningLemmas.{absent_end, opted_out_end}
 use Rattle.dnsv_derivations.specs.Denials.{SameEncloser}
 use Rattle.dnsv_derivations.specs.Explained.{Setting}

@@ -1,5 +1,5 @@
 -- What records say of names is so of each zone that has them in its chain.
-use Rattle.std.proofs.Common.{◌≡◌, ◌≢◌, ℕ, List, [], inl}
+use Rattle.std.proofs.Common.{◌≡◌, ℕ, List, [], inl}
 use Rattle.std.specs.List.{AllZip}
 use Rattle.dnsv_names.specs.Name.{Labels, SameName}
 use Rattle.dnsv_zones.specs.chains.HashedNames.{sha1_hash}
