@@ -106,9 +106,9 @@ def ends(signatures: int) -> Shape:
 
 
 def hashes(signatures: int) -> Shape:
-    """So many signatures, of the keys and of addresses of other names, each with times of its own; and the NSEC3 records
-    of `hashes`, which nobody signed. An address of a name of 31 labels is asked for, of which the capture has nothing,
-    so at each moment its hashes are asked for."""
+    """So many signatures, of the keys and of addresses of other names, each with times of its own; and the NSEC3
+    records of `hashes`, which nobody signed. An address of a name of 31 labels is asked for, of which the capture has
+    nothing, so at each moment its hashes are asked for."""
     draw, last = random.Random(20261129), DAY * USED + WEEK
     capture = [keys_message(draw), *denials.hashes(DEEP).files["capture"], *of_others(draw, signatures - 1, last)]
     files = {"capture": capture, "anchors": [anchor("bench.example.", KEY).encode()]}
