@@ -11,7 +11,7 @@ use Rattle.dnsv_names.specs.NameError.{code_of}
 use Rattle.dnsv_message.specs.Errors.{decode_error_code}
 use Rattle.dnsv_tsig.specs.Errors.{key_file_error_code, tsig_error_code}
 use Rattle.dnsv_canonical.specs.CaptureError.{capture_error_code}
-use Rattle.dnsv_verifier.specs.StatementsError.{statements_error_code}
+use Rattle.dnsv_statements.specs.StatementsError.{statements_error_code}
 use Rattle.dnsv_answers.specs.AnswersError.{answers_error_code}
 use Rattle.dnsv_chain.specs.AnchorsError.{anchors_error_code}
 use Rattle.dnsv_verdict.specs.VerdictError.{verdict_error_code}

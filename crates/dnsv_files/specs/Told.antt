@@ -16,8 +16,8 @@ use Rattle.dnsv_canonical.specs.declared.capture.CaptureError.TheVariants as cap
 use Rattle.dnsv_canonical.specs.Evidence.{Evidence}
 use Rattle.dnsv_files.specs.declared.opening.Opening.{Opening}
 use Rattle.dnsv_files.specs.Files.Capture.{Demand, FrameRefused}
-use Rattle.dnsv_verifier.specs.declared.statements.StatementsError.{StatementsError}
-use Rattle.dnsv_verifier.specs.declared.statements.StatementsError.TheVariants as statements
+use Rattle.dnsv_statements.specs.declared.statements.StatementsError.{StatementsError}
+use Rattle.dnsv_statements.specs.declared.statements.StatementsError.TheVariants as statements
 use Rattle.dnsv_answers.specs.declared.error.AnswersError.{AnswersError}
 use Rattle.dnsv_answers.specs.declared.error.AnswersError.TheVariants as answers
 use Rattle.dnsv_chain.specs.declared.anchors.AnchorsError.{AnchorsError}

@@ -10,7 +10,7 @@ use dnsv_names::NameError;
 use dnsv_questions::QuestionsError;
 use dnsv_tsig::{KeyFileError, TsigError};
 use dnsv_verdict::VerdictError;
-use dnsv_verifier::StatementsError;
+use dnsv_statements::StatementsError;
 use std::alloc::{AllocError, AllocFailed};
 
 /// How a run ended that wrote its whole text.

@@ -7,9 +7,10 @@ use bumpalo::Bump;
 use dnsv_canonical::{Capture, Rrset};
 use dnsv_names::Count;
 use dnsv_records::{Algorithm, Octets};
+use dnsv_statements::{Statements, StatementsError};
 use dnsv_verifier::{
-    Answer, Entry, KeyRecord, Panel, Statements, StatementsError, Table, Verifier, ask_all,
-    is_admissible, is_verifiable, may_have_made,
+    Answer, Entry, KeyRecord, Panel, Table, Verifier, ask_all, is_admissible, is_verifiable,
+    may_have_made,
 };
 use std::alloc::Global;
 

@@ -9,9 +9,6 @@ pub mod NumberLemmas
 pub mod NumberedLemmas
 pub mod PanelLemmas
 pub mod PlaceLemmas
-pub mod SaidLemmas
 pub mod SearchLemmas
-pub mod StatementLemmas
-pub mod StatementsLemmas
 pub mod TableLemmas
 pub mod TimelyLemmas

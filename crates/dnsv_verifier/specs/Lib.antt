@@ -6,9 +6,5 @@ pub mod EntryLaws
 pub mod HexField
 pub mod Numbers
 pub mod Panel
-pub mod Statements
-pub mod StatementsError
-pub mod StatementsLaws
-pub mod StatementsReading
 pub mod Table
 pub mod Within

@@ -1,6 +1,5 @@
 //! What a verifier is asked.
 
-pub mod packed_entry;
 pub mod parts;
 
 ghost use Rattle.std.specs.Prelude.{◌≡◌, refl};
@@ -31,7 +30,7 @@ pub struct Entry<'b> {
 
 impl Entry<'_> {
     /// How this entry stands to the other: by algorithm, key, signed data and signature.
-    pub(crate) fn stands_to(&self, other: &Entry<'_>) -> Ordering
+    pub fn stands_to(&self, other: &Entry<'_>) -> Ordering
         ensures { result ≡ entry_cmp self.now other.now }
     {
         let (key, other_key) = (self.key.as_slice(), other.key.as_slice());

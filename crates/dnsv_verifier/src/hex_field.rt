@@ -22,7 +22,7 @@ pub fn hex_octets<'b>(bump: &'b Bump, field: &[u8]) -> Result<Option<Octets<'b>>
 
 /// The digits of the octets that a field says, `None` where it says none.
 #[tactic(auto, using(crate::proofs::HexFieldLemmas::dash_says_none))]
-pub(crate) fn digits_of(field: &[u8]) -> Option<&[u8]>
+pub fn digits_of(field: &[u8]) -> Option<&[u8]>
     ensures { MatchOption result (hex_value field.now ≡ None) (λ digits. AreDigitsOf field.now digits.now) }
 {
     match field {
@@ -72,7 +72,7 @@ fn decoded<'b>(bump: &'b Bump, digits: &[u8]) -> Result<Octets<'b>, AllocError>
 }
 
 /// Adds the octets of pairs of hex digits.
-pub(crate) fn push_decoded(octets: &mut Vec<u8>, digits: &[u8]) -> Result<(), AllocError>
+pub fn push_decoded(octets: &mut Vec<u8>, digits: &[u8]) -> Result<(), AllocError>
     requires { IsOk (decode_of digits.now) }
     ensures { OnOk result (AddsDecoded digits.now octets.old.items octets.new.items) }
 {

@@ -6,7 +6,7 @@ pub use answer::Answer;
 pub use ask::{ask_all, ask_within};
 pub use entries::Entries;
 pub use entry::{Entry, entry_over};
-pub use hex_field::hex_octets;
+pub use hex_field::{digits_of, hex_octets, push_decoded};
 pub use key::KeyRecord;
 pub use key::keys::{add_keys, all_keys};
 pub use laws::{
@@ -15,8 +15,6 @@ pub use laws::{
     several_verifiers_say_what_one_does, unknown_entries_may_turn_out_valid,
 };
 pub use panel::Panel;
-pub use statements::statement::Word;
-pub use statements::{Statements, StatementsError, a_text_is_one_list_of_statements};
 pub use table::Table;
 pub use verifier::Verifier;
 
@@ -29,6 +27,5 @@ mod hex_field;
 mod key;
 mod laws;
 mod panel;
-mod statements;
 mod table;
 mod verifier;

@@ -1,14 +1,14 @@
 -- A text of statements says one thing of each entry, or has one fault.
 use Rattle.std.proofs.Common.{◌≡◌, ◌⊎◌, ℕ, List, Result, Err, refl, subst}
-use Rattle.dnsv_verifier.specs.Statements.{Agree, BeginsWithStatement, IsFaultOf, IsSaid}
-use Rattle.dnsv_verifier.specs.StatementsLaws.{AreStatementsOf-no_fault, AreStatementsOf-only, IsFaultOf-only}
+use Rattle.dnsv_statements.specs.Statements.{Agree, BeginsWithStatement, IsFaultOf, IsSaid}
+use Rattle.dnsv_statements.specs.StatementsLaws.{AreStatementsOf-no_fault, AreStatementsOf-only, IsFaultOf-only}
 use Rattle.dnsv_verifier.specs.declared.answer.Answer.{Answer}
 use Rattle.dnsv_verifier.specs.declared.answer.Answer.TheVariants.{Valid, Invalid, Unknown}
 use Rattle.dnsv_verifier.specs.declared.entry.Entry.{Entry}
-use Rattle.dnsv_verifier.specs.declared.statements.statement.Word.{Word}
-use Rattle.dnsv_verifier.specs.declared.statements.statement.Word.TheVariants.{Good, Bad}
-use Rattle.dnsv_verifier.specs.declared.statements.StatementsError.{StatementsError}
-use Rattle.dnsv_verifier.specs.declared.statements.StatementsError.TheVariants as statements
+use Rattle.dnsv_statements.specs.declared.statements.statement.Word.{Word}
+use Rattle.dnsv_statements.specs.declared.statements.statement.Word.TheVariants.{Good, Bad}
+use Rattle.dnsv_statements.specs.declared.statements.StatementsError.{StatementsError}
+use Rattle.dnsv_statements.specs.declared.statements.StatementsError.TheVariants as statements
 use Rattle.dnsv_files.specs.declared.status.Fault.{Fault}
 use Rattle.dnsv_files.specs.declared.status.Fault.TheVariants as fault
 use Rattle.dnsv_files.specs.declared.status.InputFile.TheVariants.{Statements}

@@ -1,12 +1,12 @@
 -- Files of statements: what they say of entries, and what they are refused for.
 use Rattle.std.specs.Prelude.{◌≡◌, ◌≤◌, ℕ, List, length, Some, None}
 use Rattle.dnsv_message.specs.Streams.Frames.{file_limit}
-use Rattle.dnsv_verifier.specs.Statements.{AreStatementsOf, IsFaultOf, IsSaid}
+use Rattle.dnsv_statements.specs.Statements.{AreStatementsOf, IsFaultOf, IsSaid}
 use Rattle.dnsv_verifier.specs.declared.answer.Answer.{Answer}
 use Rattle.dnsv_verifier.specs.declared.entry.Entry.{Entry}
-use Rattle.dnsv_verifier.specs.declared.statements.statement.Word.{Word}
-use Rattle.dnsv_verifier.specs.declared.statements.StatementsError.{StatementsError}
-use Rattle.dnsv_verifier.specs.declared.statements.StatementsError.TheVariants as statements
+use Rattle.dnsv_statements.specs.declared.statements.statement.Word.{Word}
+use Rattle.dnsv_statements.specs.declared.statements.StatementsError.{StatementsError}
+use Rattle.dnsv_statements.specs.declared.statements.StatementsError.TheVariants as statements
 use Rattle.dnsv_files.specs.declared.status.Fault.{Fault}
 use Rattle.dnsv_files.specs.declared.status.InputFile.TheVariants.{Statements}
 use Rattle.dnsv_files.specs.declared.status.Place.{Place}

@@ -1,16 +1,16 @@
 //! Files of statements.
 ghost use Rattle.std.specs.Prelude.{◌≡◌};
-ghost use Rattle.dnsv_verifier.specs.StatementsError.{statements_error_code};
+ghost use Rattle.dnsv_statements.specs.StatementsError.{statements_error_code};
 ghost use Rattle.dnsv_files.specs.Status.{fault_number};
 ghost use Rattle.dnsv_files.specs.Told.{IsStatementsFault};
 
 use crate::files::text::{FromText, refused_line};
 use crate::status::{Fault, Refusal};
-use dnsv_verifier::{Statements, StatementsError};
+use dnsv_statements::{Statements, StatementsError};
 use std::alloc::Global;
 
 impl FromText for Statements {
-    ghost use Rattle.dnsv_verifier.specs.Statements.{BeginsWithStatement, listed_answer};
+    ghost use Rattle.dnsv_statements.specs.Statements.{BeginsWithStatement, listed_answer};
     ghost use Rattle.dnsv_files.specs.Files.Statements.{AreStatementsRefused, IsMeaningOf};
 
     ghost says = { λ text listed. IsMeaningOf text (listed_answer listed) };

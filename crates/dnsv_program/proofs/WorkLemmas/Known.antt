@@ -8,10 +8,10 @@ use Rattle.dnsv_canonical.specs.Rrsets.{ReceivedRrset}
 use Rattle.dnsv_answers.specs.declared.heading.Moments.{Moments}
 use Rattle.dnsv_answers.specs.AnswerFile.{AnswersContents, answers_in}
 use Rattle.dnsv_answers.specs.Answered.{IsAnsweredTableWithin}
-use Rattle.dnsv_verifier.specs.Statements.{listed_answer}
+use Rattle.dnsv_statements.specs.Statements.{listed_answer}
 use Rattle.dnsv_verifier.specs.Table.{TableContents, table_answer}
 use Rattle.dnsv_verifier.specs.declared.entry.Entry.{Entry}
-use Rattle.dnsv_verifier.specs.declared.statements.statement.Word.{Word}
+use Rattle.dnsv_statements.specs.declared.statements.statement.Word.{Word}
 use Rattle.dnsv_files.specs.Files.Answers.{AreSaidFor, AreTooManyOrFew, IsFaultBeforeCount}
 use Rattle.dnsv_files.specs.Files.Faults.{OfOctets}
 use Rattle.dnsv_files.specs.Files.{IsGiven, octets_or_none}

@@ -4,7 +4,7 @@ use Rattle.dnsv_canonical.specs.Rrsets.{ReceivedRrset}
 use Rattle.dnsv_answers.specs.AnswerFile.{AnswersContents, answers_in}
 use Rattle.dnsv_answers.specs.Answered.{IsAnsweredTableWithin}
 use Rattle.dnsv_answers.specs.declared.heading.Moments.{Moments}
-use Rattle.dnsv_verifier.specs.Statements.{listed_answer}
+use Rattle.dnsv_statements.specs.Statements.{listed_answer}
 use Rattle.dnsv_verifier.specs.Table.{TableContents, table_answer}
 use Rattle.dnsv_verifier.specs.declared.answer.Answer.{Answer}
 use Rattle.dnsv_verifier.specs.declared.answer.Answer.TheVariants.{Invalid, Unknown, Valid}

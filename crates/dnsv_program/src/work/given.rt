@@ -19,7 +19,7 @@ use dnsv_files::{
     text_in,
 };
 use dnsv_message::Counted;
-use dnsv_verifier::Statements;
+use dnsv_statements::Statements;
 use std::alloc::Global;
 use std::io::Read;
 

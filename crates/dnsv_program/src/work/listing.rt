@@ -24,7 +24,8 @@ use dnsv_compact::CompactList;
 use dnsv_files::{Fault, InputFile, Inputs, Moment, Opening, evidence_in, text_in};
 use dnsv_names::Count;
 use dnsv_texts::{Format, compact_text, listing_text, todo_text};
-use dnsv_verifier::{Entries, Statements, Verifier, ask_within};
+use dnsv_statements::Statements;
+use dnsv_verifier::{Entries, Verifier, ask_within};
 use std::alloc::{AllocError, Global};
 use std::io::Read;
 

@@ -1,5 +1,5 @@
-use Rattle.dnsv_verifier.specs.Statements.{BeginsWithStatement, IsFaultOf}
-use Rattle.dnsv_verifier.specs.declared.statements.StatementsError.TheVariants.{OutOfMemory}
+use Rattle.dnsv_statements.specs.Statements.{BeginsWithStatement, IsFaultOf}
+use Rattle.dnsv_statements.specs.declared.statements.StatementsError.TheVariants.{OutOfMemory}
 use Rattle.dnsv_files.specs.Files.Statements.{TellsStatementsError}
 use Rattle.dnsv_files.proofs.FileLemmas.Statements.{every_statements_fault, wanted_for_statements}
 use Rattle.dnsv_files.proofs.FileLemmas.Text.{never_told}

@@ -1,0 +1,4 @@
+pub mod Statements
+pub mod StatementsError
+pub mod StatementsLaws
+pub mod StatementsReading
