@@ -1,6 +1,6 @@
 -- Octets that lie in two pieces: their order, and the numbers in front.
-use Rattle.std.proofs.Common.{◌≡◌, ℕ, ◌+◌, ◌<◌, ◌≤◌, ⊎_elim, List, [], ◌∷◌, ◌++◌, length, take, drop, refl, sym, ap, ◌∙◌, arith}
-use Rattle.std.proofs.lemmas.List.{length-append, length-drop, take-append-le, drop-append-le}
+use Rattle.std.proofs.Common.{◌≡◌, ℕ, ◌+◌, ◌<◌, ◌≤◌, ◌⊎◌, ⊎_elim, inl, inr, List, [], ◌∷◌, ◌++◌, length, take, drop, refl, sym, ap, ◌∙◌, arith}
+use Rattle.std.proofs.lemmas.List.{append-nil, length-append, length-drop, take-append-le, drop-append-le}
 use Rattle.std.specs.Int.Digits.{number_from_digits}
 use Rattle.std.specs.Ordering.{nat_cmp, ordering_then, ordering_reverse}
 use Rattle.std.specs.declared.cmp.Ordering.{Ordering}
@@ -57,3 +57,17 @@ module _ (front octets : List ℕ) (is : IsFront front octets) where
       ap (drop place) (sym is.whole) ∙ drop-append-le place front is.rest (omega (arith, long, within)) in
       ap (number_from_digits 256)
       (sym (ap (take 4) behind ∙ take-append-le 4 (drop place front) is.rest (omega (arith, long, within, left))))
+
+-- ---- no octets
+
+pub none_there : (octets : List ℕ) → length octets ≡ 0 → octets ≡ []
+none_there [] none = refl
+none_there (octet ∷ octets) none = absurd (omega (arith, none))
+
+pub none_behind : (front records : List ℕ) → (16 ≤ length front) ⊎ (records ≡ []) → front ≡ [] → front ++ records ≡ []
+none_behind front records (inl long) none = let count = ap length none in absurd (omega (arith, long, count))
+none_behind front records (inr nothing) none = ap (λ all. front ++ all) nothing ∙ append-nil front ∙ none
+
+pub none_in_front : (front records : List ℕ) → front ++ records ≡ [] → front ≡ []
+none_in_front [] records none = refl
+none_in_front (octet ∷ front) records none = let count = ap length none in absurd (omega (arith, count))

@@ -35,14 +35,18 @@ impl Entry<'_> {
         ensures { result ≡ entry_cmp self.now other.now }
     {
         let (key, other_key) = (self.key.as_slice(), other.key.as_slice());
-        let (signed_data, other_data) = (&self.signed_data, &other.signed_data);
         let (signature, other_signature) = (self.signature.as_slice(), other.signature.as_slice());
-        self.algorithm
+        let keys = self
+            .algorithm
             .0
             .cmp(&other.algorithm.0)
-            .then_with(|| compare_octets(key, other_key))
-            .then_with(|| signed_data.stand_to(other_data))
-            .then_with(|| compare_octets(signature, other_signature))
+            .then_with(|| compare_octets(key, other_key));
+        let signed = match keys {
+            Ordering::Less => Ordering::Less,
+            Ordering::Equal => self.signed_data.stand_to(&other.signed_data),
+            Ordering::Greater => Ordering::Greater,
+        };
+        signed.then_with(|| compare_octets(signature, other_signature))
     }
 }
 

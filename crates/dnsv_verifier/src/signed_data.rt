@@ -63,7 +63,8 @@ impl<'b> SignedData<'b> {
     pub fn is_empty(&self) -> bool
         ensures { IsTrue result ↔ (self.now ≡ []) }
     {
-        self.front.is_empty() && self.records.is_empty()
+        // Where the first piece has none, there is no second.
+        self.front.is_empty()
     }
 
     /// The two pieces, of which the second may have no octets.
