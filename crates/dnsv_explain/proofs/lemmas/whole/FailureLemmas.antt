@@ -1,5 +1,5 @@
 -- What fails is said without a line twice.
-use Rattle.std.proofs.Common.{◌≡◌, ◌≢◌, ℕ, true, false, List, map, inl, inr, refl, sym, ap, ◌∙◌, subst, ⊎_elim, arith}
+use Rattle.std.proofs.Common.{◌≡◌, ◌≢◌, ℕ, List, inl, inr, refl, sym, ap, ◌∙◌, subst, ⊎_elim, arith}
 use Rattle.std.proofs.lemmas.List.Elements.{Contains-append_cases}
 use Rattle.std.specs.List.{Contains}
 use Rattle.dnsv_names.specs.Name.{Labels}
@@ -20,23 +20,14 @@ use Rattle.dnsv_reasons.specs.Failures.{AreFailures}
 use Rattle.dnsv_explain.proofs.lemmas.keys.EachLemmas.{Each, none_each, numbered_each, one_each}
 use Rattle.dnsv_explain.proofs.lemmas.telling.FaultLemmas.{IsFault, failures_fault}
 use Rattle.dnsv_explain.proofs.lemmas.whole.FreshLemmas.{HaveKinds, kind}
-use Rattle.dnsv_explain.proofs.lemmas.whole.ListLemmas.{once_append, once_apart, once_map, once_numbered, once_one}
+use Rattle.dnsv_explain.proofs.lemmas.whole.ListLemmas.{once_append, once_numbered, once_one}
 
 -- ---- what fails
 
 fault_kind : (each : Line) → IsFault each → kind each ≡ 5
 fault_kind (line.Reason told) is = refl
 fault_kind (line.Follows told) is = refl
-fault_kind (line.Trusted told) is = absurd is
-fault_kind (line.Signed told) is = absurd is
-fault_kind (line.Proof told) is = absurd is
-fault_kind (line.Part told) is = absurd is
-fault_kind (line.Case told) is = absurd is
-fault_kind (line.Unusable told) is = absurd is
-fault_kind (line.Hope told) is = absurd is
-fault_kind (line.Holds told) is = absurd is
-fault_kind (line.Key told) is = absurd is
-fault_kind (line.Rrset told) is = absurd is
+fault_kind each is = absurd is
 
 faults_kind : (setting : Setting) (name : Labels) (t : ℕ) (lines : List Line) → AreFailures (asking_in setting name t) lines
     → HaveKinds (λ n. n ≡ 5) lines
