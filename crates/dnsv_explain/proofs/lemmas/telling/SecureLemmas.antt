@@ -1,5 +1,5 @@
 -- What is secure has its lines: nothing is missing that a verdict says is there.
-use Rattle.std.proofs.Common.{◌≡◌, ◌<◌, ℕ, zero, suc, List, [], ◌∷◌, Option, Some, None, arith, get_or, length, refl, sym, subst, inl, inr, ⊎_elim, Bool, true, false}
+use Rattle.std.proofs.Common.{◌≡◌, ◌<◌, ℕ, zero, suc, List, [], ◌∷◌, Option, Some, None, arith, get_or, length, sym, subst, inl, inr, ⊎_elim, Bool, true, false}
 use Rattle.std.specs.List.{AllZip}
 use Rattle.std.specs.Prelude.{◌↔◌, is_some}
 use Rattle.dnsv_names.specs.Name.{Labels}
@@ -26,7 +26,6 @@ use Rattle.dnsv_derivations.specs.Explained.{Explained, Setting, setting_in}
 use Rattle.dnsv_explain.specs.Explained.{basis_in, explained_by}
 use Rattle.dnsv_explain.specs.Explanation.{IsSettledTold, IsSignatureAt, IsVerdictTold, told_kind}
 use Rattle.dnsv_derivations.specs.Saying.{Adds}
-use Rattle.dnsv_derivations.specs.derivations.HeldTo.{IsHeldTo}
 use Rattle.dnsv_derivations.specs.derivations.OwnDerivations.{SecuredIn}
 use Rattle.dnsv_lines.specs.declared.line.Kind.{Kind}
 use Rattle.dnsv_lines.specs.declared.line.Kind.TheVariants as kind
@@ -116,13 +115,6 @@ module _ (explained : Explained) (name : Labels) (t : ℕ) where
   settled_told Bogus old new settled told = absurd settled
   settled_told Indeterminate old new settled told = absurd settled
   settled_told verdict old new settled told = told
-
-  pub held_told : (verdict : Verdict) (old new : List Line) → ¬ IsSettledVerdict verdict → ((unknown : List Entry) → verdict ≡ Pending unknown → ⊥)
-      → Adds (IsHeldTo (setting_in explained) name) old new → Adds (IsVerdictTold explained name t verdict) old new
-  held_told (Pending unknown) old new open_still none told = absurd (none unknown refl)
-  held_told Bogus old new open_still none told = told
-  held_told Indeterminate old new open_still none told = told
-  held_told verdict old new open_still none told = absurd (open_still tt)
 
   never_some : (word : Kind) → Path (Option Kind) (Some word) None → ⊥
   never_some word is = cc

@@ -1,5 +1,5 @@
 -- What fails is said without a line twice.
-use Rattle.std.proofs.Common.{◌≡◌, ◌≢◌, ℕ, List, inl, inr, refl, sym, ap, ◌∙◌, subst, ⊎_elim, arith}
+use Rattle.std.proofs.Common.{◌≡◌, ◌≢◌, ℕ, List, inl, inr, refl, sym, ap, subst, ⊎_elim, arith}
 use Rattle.std.proofs.lemmas.List.Elements.{Contains-append_cases}
 use Rattle.std.specs.List.{Contains}
 use Rattle.dnsv_names.specs.Name.{Labels}
@@ -14,7 +14,6 @@ use Rattle.dnsv_explain.specs.KeyLines.{AreLinesOfKeysAsked, AreLinesOfSet, IsKe
 use Rattle.dnsv_explain.specs.Listing.{AreOfNumbered}
 use Rattle.dnsv_lines.specs.declared.line.Line.{Line}
 use Rattle.dnsv_lines.specs.declared.line.Line.TheVariants as line
-use Rattle.dnsv_lines.specs.declared.line.fault.signature.UntrustedSigner.{UntrustedSigner}
 use Rattle.dnsv_reason_laws.proofs.OnceLemmas.{failures_differ}
 use Rattle.dnsv_reasons.specs.Failures.{AreFailures}
 use Rattle.dnsv_explain.proofs.lemmas.keys.EachLemmas.{Each, none_each, numbered_each, one_each}
@@ -111,14 +110,3 @@ module _ (setting : Setting) (name : Labels) (t : ℕ) (before lines : List Line
       (λ (right : Contains told.keys each).
       let six = asked_kind setting told.faults told.keys told.of_keys each right in omega (arith, six, is))
       (Contains-append_cases told.faults told.keys each (subst In told.are there))
-
-  -- that a signer isn't trusted is one of the faults
-  pub follows_fails : (untrusted : UntrustedSigner) → Contains lines (line.Follows untrusted) → Contains told.faults (line.Follows untrusted)
-  follows_fails untrusted there =
-      let this : Line = line.Follows untrusted in
-      let In : List Line → Type 0 = λ all. Contains all this in
-      ⊎_elim
-      (λ (left : Contains told.faults this). left)
-      (λ (right : Contains told.keys this).
-      let six : 5 ≡ 6 = asked_kind setting told.faults told.keys told.of_keys this right in absurd (omega (arith, six)))
-      (Contains-append_cases told.faults told.keys this (subst In told.are there))
