@@ -109,9 +109,7 @@ IsSettledTold setting name t (SecureAlias k s) = IsSetTold setting name (signatu
 IsSettledTold setting name t (SecureNoName proof) = IsNoNameTold setting name
 IsSettledTold setting name t (SecureNoData proof) = IsNoDataTold setting name t
 IsSettledTold setting name t (Insecure cut) = IsUnsignedFromTold setting name t
-IsSettledTold setting name t (Pending entries) = λ before lines. ⊥
-IsSettledTold setting name t Bogus = λ before lines. ⊥
-IsSettledTold setting name t Indeterminate = λ before lines. ⊥
+IsSettledTold setting name t verdict = λ before lines. ⊥
 
 -- ---- what holds for any verdict
 
@@ -122,9 +120,7 @@ told_kind (SecureAlias k s) = Some kind.SecureAlias
 told_kind (SecureNoName proof) = Some kind.SecureNoName
 told_kind (SecureNoData proof) = Some kind.SecureNoData
 told_kind (Insecure cut) = Some kind.Insecure
-told_kind (Pending entries) = None
-told_kind Bogus = None
-told_kind Indeterminate = None
+told_kind _ = None
 
 -- what the verdict at the name would be with each of these entries, which the verifier doesn't know, valid; and what
 -- holds for that one then

@@ -55,10 +55,6 @@ module _ (setting : Setting) (key : DnskeyRecord) where
     its_rrset : (place : ℕ) (is : ByDs place) → is.1.rrset ≡ ds
     its_rrset place is = same_number setting.rrsets k is.1.rrset ds is.1.at.is_rrset is_ds
 
-    -- an RRset of another type has none
-    pub other_type : ds.rtype ≢ 43 → (place : ℕ) → ¬ ByDs place
-    other_type other place is = other (sym (ap (λ (each : ReceivedRrset). each.rtype) (its_rrset place is)) ∙ is.1.rtype)
-
     pub ds_counted : (place : ℕ) → ByDs place → 1 ≤ place
     ds_counted place is = is.1.at.is_rdata.0
 

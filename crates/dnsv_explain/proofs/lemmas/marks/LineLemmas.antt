@@ -10,7 +10,7 @@ use Rattle.dnsv_denial.specs.declared.unsigned_cuts.shown_cut.ShownCut.{ShownCut
 use Rattle.dnsv_denial.specs.declared.unsigned_cuts.shown_cut.ShownCut.TheVariants as cut
 use Rattle.dnsv_verdict.specs.declared.link.Link.{Link}
 use Rattle.dnsv_verdict.specs.declared.verdict.Verdict.{Verdict}
-use Rattle.dnsv_verdict.specs.declared.verdict.Verdict.TheVariants.{SecureAnswer, SecureAlias, SecureNoName, SecureNoData, Insecure, Pending, Bogus, Indeterminate}
+use Rattle.dnsv_verdict.specs.declared.verdict.Verdict.TheVariants.{SecureAnswer, SecureAlias, SecureNoName, SecureNoData, Insecure}
 use Rattle.dnsv_derivations.specs.Denials.{IsDenialTold, IsPartSaid, IsPartTold, IsProofOf, IsProofSaid, IsProofTold, IsProofWithParts, told_form}
 use Rattle.dnsv_derivations.specs.Explained.{Setting}
 use Rattle.dnsv_explain.specs.Explanation.{IsLinkTold, IsSetTold, IsSettledTold, IsUnsignedFromTold, signature_of}
@@ -153,9 +153,7 @@ module _ (Of : Setting → Type 0) where
       settled_told t (SecureNoName proof) before lines told = denial_told told.shown before lines told.told
       settled_told t (SecureNoData proof) before lines told = denial_told told.shown before lines told.told
       settled_told t (Insecure cut) before lines told = unsigned_from_told t before lines told
-      settled_told t (Pending entries) before lines told = absurd told
-      settled_told t Bogus before lines told = absurd told
-      settled_told t Indeterminate before lines told = absurd told
+      settled_told t verdict before lines told = absurd told
 
     pub links_told : (links : List Link) (before lines : List Line) → AreEach (IsLinkTold setting) links before lines → Are lines
     links_told links before lines told =

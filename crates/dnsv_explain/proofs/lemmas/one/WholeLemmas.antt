@@ -168,9 +168,7 @@ module _ (setting : Setting) (apart : AreApart setting.todo) (name : Labels) whe
     one_settled (SecureNoName proof) before a b x y = one_no_name before a b x y
     one_settled (SecureNoData proof) before a b x y = one_no_data t before a b x y
     one_settled (Insecure cut) before a b x y = one_unsigned_from before a b x y
-    one_settled (Pending entries) before a b x y = absurd x
-    one_settled Bogus before a b x y = absurd x
-    one_settled Indeterminate before a b x y = absurd x
+    one_settled verdict before a b x y = absurd x
 
 -- ---- entries that have one number each
 
@@ -219,24 +217,16 @@ module _ (explained : Explained) (none : AreApart explained.todo) (t : ℕ) wher
   NeedsApart verdict = Unit {0}
 
   one_verdict_told : (name : Labels) (verdict : Verdict) → NeedsApart verdict → IsOne (IsVerdictTold explained name t verdict)
-  one_verdict_told name (SecureAnswer k s) apart before a b x y = one_settled (setting_in explained) none name t (SecureAnswer k s) before a b x y
-  one_verdict_told name (SecureAlias k s) apart before a b x y = one_settled (setting_in explained) none name t (SecureAlias k s) before a b x y
-  one_verdict_told name (SecureNoName proof) apart before a b x y = one_settled (setting_in explained) none name t (SecureNoName proof) before a b x y
-  one_verdict_told name (SecureNoData proof) apart before a b x y = one_settled (setting_in explained) none name t (SecureNoData proof) before a b x y
-  one_verdict_told name (Insecure cut) apart before a b x y = one_settled (setting_in explained) none name t (Insecure cut) before a b x y
   one_verdict_told name (Pending unknown) apart before a b x y = one_hope name unknown apart before a b x y
   one_verdict_told name Bogus apart before a b x y = one_held (setting_in explained) none name before a b x y
   one_verdict_told name Indeterminate apart before a b x y = one_held (setting_in explained) none name before a b x y
+  one_verdict_told name verdict apart before a b x y = one_settled (setting_in explained) none name t verdict before a b x y
 
   one_end_told : (verdict : Verdict) → IsOne (IsEndTold explained verdict)
-  one_end_told (SecureAnswer k s) before a b x y = one_end explained.rrsets explained.table.moment before a b x y
-  one_end_told (SecureAlias k s) before a b x y = one_end explained.rrsets explained.table.moment before a b x y
-  one_end_told (SecureNoName proof) before a b x y = one_end explained.rrsets explained.table.moment before a b x y
-  one_end_told (SecureNoData proof) before a b x y = one_end explained.rrsets explained.table.moment before a b x y
-  one_end_told (Insecure cut) before a b x y = one_end explained.rrsets explained.table.moment before a b x y
   one_end_told (Pending unknown) before a b x y = one_places_told explained.rrsets before a b x y
   one_end_told Bogus before a b x y = one_places_told explained.rrsets before a b x y
   one_end_told Indeterminate before a b x y = one_places_told explained.rrsets before a b x y
+  one_end_told verdict before a b x y = one_end explained.rrsets explained.table.moment before a b x y
 
   pub one_links : (links : List Link) → IsOne (AreEach (IsLinkTold (setting_in explained)) links)
   one_links links before a b x y =
@@ -263,25 +253,14 @@ module _ (explained : Explained) (none : AreApart explained.todo) (t : ℕ) wher
 
   one_explanation : (links : List Link) (last : Labels) (verdict : Verdict) → NeedsApart verdict → (a b : List Line)
       → IsExplanation explained t links last verdict a → IsExplanation explained t links last verdict b → a ≡ b
-  one_explanation links last (SecureAnswer k s) apart a b x y = one_holding links last (SecureAnswer k s) apart [] a b x y
-  one_explanation links last (SecureAlias k s) apart a b x y = one_holding links last (SecureAlias k s) apart [] a b x y
-  one_explanation links last (SecureNoName proof) apart a b x y = one_holding links last (SecureNoName proof) apart [] a b x y
-  one_explanation links last (SecureNoData proof) apart a b x y = one_holding links last (SecureNoData proof) apart [] a b x y
-  one_explanation links last (Insecure cut) apart a b x y = one_holding links last (Insecure cut) apart [] a b x y
-  one_explanation links last (Pending unknown) apart a b x y = one_holding links last (Pending unknown) apart [] a b x y
   one_explanation links last Bogus apart a b x y = one_failed links last Bogus apart [] a b x y
   one_explanation links last Indeterminate apart a b x y = one_failed links last Indeterminate apart [] a b x y
+  one_explanation links last verdict apart a b x y = one_holding links last verdict apart [] a b x y
 
 pub needs_apart : (explained : Explained) (none : AreApart explained.todo) (basis : Basis) (name : Labels) (t : ℕ) (verdict : Verdict)
     → IsVerdictAt basis name t verdict → NeedsApart explained none t verdict
-needs_apart explained none basis name t (SecureAnswer k s) is = tt
-needs_apart explained none basis name t (SecureAlias k s) is = tt
-needs_apart explained none basis name t (SecureNoName proof) is = tt
-needs_apart explained none basis name t (SecureNoData proof) is = tt
-needs_apart explained none basis name t (Insecure cut) is = tt
 needs_apart explained none basis name t (Pending unknown) is = rising_apart unknown is.2.rising
-needs_apart explained none basis name t Bogus is = tt
-needs_apart explained none basis name t Indeterminate is = tt
+needs_apart explained none basis name t verdict is = tt
 
 pub one_of_report : (basis : Basis) (name : Labels) (t : ℕ) (report : Report) (a b : List Line)
     → IsVerdictOf basis name t report.links report.last report.verdict → IsExplanationOf basis t report a → IsExplanationOf basis t report b → a ≡ b

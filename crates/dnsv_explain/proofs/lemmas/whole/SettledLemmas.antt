@@ -12,7 +12,7 @@ use Rattle.dnsv_denial.specs.declared.unsigned_cuts.shown_cut.ShownCut.{ShownCut
 use Rattle.dnsv_denial.specs.declared.unsigned_cuts.shown_cut.ShownCut.TheVariants as cut
 use Rattle.dnsv_verdict.specs.declared.link.Link.{Link}
 use Rattle.dnsv_verdict.specs.declared.verdict.Verdict.{Verdict}
-use Rattle.dnsv_verdict.specs.declared.verdict.Verdict.TheVariants.{SecureAnswer, SecureAlias, SecureNoName, SecureNoData, Insecure, Pending, Bogus, Indeterminate}
+use Rattle.dnsv_verdict.specs.declared.verdict.Verdict.TheVariants.{SecureAnswer, SecureAlias, SecureNoName, SecureNoData, Insecure}
 use Rattle.dnsv_derivations.specs.Denials.{IsDenialTold, IsPartSaid, IsPartTold, IsProofOf, IsProofSaid, IsProofTold, IsProofWithParts, SameEncloser, told_form}
 use Rattle.dnsv_derivations.specs.Explained.{Setting}
 use Rattle.dnsv_explain.specs.Explanation.{IsLinkTold, IsSetTold, IsSettledTold, IsUnsignedFromTold, signature_of}
@@ -227,9 +227,7 @@ module _ (setting : Setting) where
     settled_fresh t (SecureNoName proof) before lines uncut told = settling before lines (denial_fresh told.shown before lines told.told)
     settled_fresh t (SecureNoData proof) before lines uncut told = settling before lines (denial_fresh told.shown before lines told.told)
     settled_fresh t (Insecure cut) before lines uncut told = unsigned_from_fresh t before lines uncut told
-    settled_fresh t (Pending entries) before lines uncut told = absurd told
-    settled_fresh t Bogus before lines uncut told = absurd told
-    settled_fresh t Indeterminate before lines uncut told = absurd told
+    settled_fresh t verdict before lines uncut told = absurd told
 
   pub links_fresh : (links : List Link) (before lines : List Line) → AreEach (IsLinkTold setting) links before lines
       → IsFresh IsBasic before lines
