@@ -159,9 +159,7 @@ module _ (rrsets : List ReceivedRrset) (anchors : List Anchor) (meaning : Entry 
     settled_told t (SecureNoName proof) before lines told = no_name_told before lines told
     settled_told t (SecureNoData proof) before lines told = no_data_told t before lines told
     settled_told t (Insecure cut) before lines told = unsigned_from t before lines told
-    settled_told t (Pending entries) before lines told = told
-    settled_told t Bogus before lines told = told
-    settled_told t Indeterminate before lines told = told
+    settled_told t verdict before lines told = told
 
   pub links_told : (links : List Link) (before lines : List Line) → AreEach (IsLinkTold Here) links before lines
       → AreEach (IsLinkTold There) links before lines
@@ -225,16 +223,10 @@ module _ (explained : Explained) (other : ℕ) (to : StayValid explained.rrsets 
 
   told_too : (t : ℕ) (links : List Link) (last : Labels) (verdict : Verdict) (lines : List Line)
       → IsDerivationTold explained t links last verdict lines → IsDerivationTold (explained_at explained other) t links last verdict lines
-  told_too t links last (SecureAnswer k s) lines told = way_too t links last (SecureAnswer k s) (settled_too last t (SecureAnswer k s)) lines told
-  told_too t links last (SecureAlias k s) lines told = way_too t links last (SecureAlias k s) (settled_too last t (SecureAlias k s)) lines told
-  told_too t links last (SecureNoName proof) lines told =
-      way_too t links last (SecureNoName proof) (settled_too last t (SecureNoName proof)) lines told
-  told_too t links last (SecureNoData proof) lines told =
-      way_too t links last (SecureNoData proof) (settled_too last t (SecureNoData proof)) lines told
-  told_too t links last (Insecure cut) lines told = way_too t links last (Insecure cut) (settled_too last t (Insecure cut)) lines told
   told_too t links last (Pending unknown) lines told = way_too t links last (Pending unknown) (hope_too last t unknown) lines told
   told_too t links last Bogus lines told = all_links links [] lines told
   told_too t links last Indeterminate lines told = all_links links [] lines told
+  told_too t links last verdict lines told = way_too t links last verdict (settled_too last t verdict) lines told
 
 -- ---- with the table
 

@@ -31,14 +31,6 @@ ds_match owner ds key is same = record {
   digest = is.digest;
 }
 
-pub ds_match_itself : (owner : Labels) (ds : Ds) (key : DnskeyRecord) → IsMatch owner ds key → IsMatch key.owner ds key
-ds_match_itself owner ds key is = ds_match key.owner ds key (record {
-  same_owner = refl;
-  algorithm = is.algorithm;
-  key_tag = is.key_tag;
-  digest = is.digest;
-}) refl
-
 module _ (setting : Setting) (set : KeySet) (is : IsKeySet setting set) (items : List SetKey) (same : items ≡ set.keys.items)
     (Matches : DnskeyRecord → Type 0) where
   abbrev Such : DnskeyRecord → Type 0
