@@ -170,7 +170,7 @@ fn moments_by<'a>(
         }
         Said::Answers(answers) => {
             let table = table_of(alloc, bump, held, &Span::Within(range), answers)?;
-            Ok(Moments::of(held, anchors, range, table))
+            Ok(Moments::of(anchors, range, table))
         }
     }
 }
