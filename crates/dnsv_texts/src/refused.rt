@@ -1,5 +1,5 @@
 //! What is reported of a question that has no verdict, where it is one of many.
-ghost use Rattle.std.specs.Prelude.{◌≡◌, IfOk, string_bytes};
+ghost use Rattle.std.specs.Prelude.{◌≡◌, ◌++◌, IfOk, string_bytes};
 ghost use Rattle.dnsv_texts.specs.Refused as specs;
 
 use crate::checking::Heading;
