@@ -1,5 +1,5 @@
 -- An explanation has one text.
-use Rattle.std.proofs.Common.{◌≡◌, ◌∙◌, ◌+◌, ◌-◌, ◌<◌, ◌≤◌, ⊎_elim, ℕ, List, [], ◌∷◌, Some, arith, get_or, refl, sym, ap, subst}
+use Rattle.std.proofs.Common.{◌≡◌, ◌∙◌, ◌-◌, ◌<◌, ◌≤◌, ⊎_elim, ℕ, List, [], ◌∷◌, Some, arith, get_or, refl, sym, ap, subst}
 use Rattle.std.proofs.lemmas.Bool.{cases_lt}
 use Rattle.std.proofs.lemmas.Cmp.{tied_itself}
 use Rattle.std.proofs.lemmas.Map.Keys.{Less-from_sorted}
@@ -7,7 +7,7 @@ use Rattle.std.proofs.lemmas.Option.{get_or_from_slice_get, slice_get_within}
 use Rattle.std.specs.List.{Contains}
 use Rattle.std.specs.List.Sorted.{IsStrictlySortedBy}
 use Rattle.std.specs.declared.cmp.Ordering.TheVariants.{Less, Equal}
-use Rattle.dnsv_names.specs.Name.{Labels, rightmost}
+use Rattle.dnsv_names.specs.Name.{Labels}
 use Rattle.dnsv_records.specs.declared.rrsig.Rrsig.{Rrsig}
 use Rattle.dnsv_canonical.specs.Rrsets.{IsNumbered, ReceivedRrset}
 use Rattle.dnsv_canonical.specs.SignedData.{IsExpanded}
@@ -39,15 +39,13 @@ use Rattle.dnsv_explain.specs.Explanation.{IsEndTold, IsExplanation, IsExplanati
 use Rattle.dnsv_explain.specs.Explanation.IsSetTold.{as_owned, by_wildcard}
 use Rattle.dnsv_explain.specs.Explanation.IsUnsignedFromTold.{by_cut, by_wildcard as loosely}
 use Rattle.dnsv_derivations.specs.Saying.{AreBoth, AreEach}
-use Rattle.dnsv_derivations.specs.derivations.OwnDerivations.{IsSignatureTold}
-use Rattle.dnsv_derivations.specs.unsigned_cuts.ShownCuts.{IsCutTold, IsUnsignedTold}
+use Rattle.dnsv_derivations.specs.unsigned_cuts.ShownCuts.{IsCutTold}
 use Rattle.dnsv_lines.specs.declared.line.Kind.{Kind}
 use Rattle.dnsv_lines.specs.declared.line.Line.{Line}
 use Rattle.dnsv_lines.specs.declared.line.Line.TheVariants as line
-use Rattle.dnsv_lines.specs.declared.line.cut.InsecureCase.TheVariants as case
 use Rattle.dnsv_canonical.specs.declared.number.SignatureNumber.{SignatureNumber}
 use Rattle.dnsv_explain.proofs.lemmas.one.FailureLemmas.{one_failure_told}
-use Rattle.dnsv_derivations.proofs.lemmas.one.CutLemmas.{one_cut_told, one_unsigned}
+use Rattle.dnsv_derivations.proofs.lemmas.one.CutLemmas.{one_cut_told}
 use Rattle.dnsv_derivations.proofs.lemmas.one.DenialLemmas.{one_denial, one_expanded}
 use Rattle.dnsv_derivations.proofs.lemmas.one.DerivationLemmas.{one_held, one_signature}
 use Rattle.dnsv_explain.proofs.lemmas.one.PlaceLemmas.{one_end, one_places_told}
@@ -120,10 +118,6 @@ module _ (setting : Setting) (apart : AreApart setting.todo) (name : Labels) whe
         (one_signature_at setting.rrsets (signature_of k s) (signature_of j r) x.such.rrset y.such.rrset x.such.rdata y.such.rdata
         x.such.rrsig y.such.rrsig same (x.such.is_rrset, x.such.is_signature, x.such.read) (y.such.is_rrset, y.such.is_signature, y.such.read)).1
 
-    abbrev Loose : SignatureNumber → Rrsig → ShownDenial → List Line → List Line → Type 0
-    Loose number rrsig shown =
-        AreBoth (IsSignatureTold setting number) (IsUnsignedTold setting name shown case.OptOutWildcard (rightmost name (rrsig.labels + 1)))
-
     one_unsigned_from : IsOne (IsUnsignedFromTold setting name t)
     one_unsigned_from before a b (by_cut p is told) (by_cut q its said) =
         let signed : signed_of is.0 ≡ signed_of its.0 = one_trust setting is.0 its.0 is.1 its.1 in
@@ -151,14 +145,10 @@ module _ (setting : Setting) (apart : AreApart setting.todo) (name : Labels) whe
         let shown : p ≡ q =
         one_shown_out (Kept (signed_of kept)) setting.rrsets name other.such.rrsig.labels other.such.rrsig.signer p q
         (subst Of rrsig (subst By signed is)) its in
-        let there : Loose (signature_of j r) other.such.rrsig q before a =
-        subst (λ each. Loose (signature_of j r) other.such.rrsig each before a) shown
-        (subst (λ each. Loose (signature_of j r) each p before a) rrsig (subst (λ each. Loose each first.such.rrsig p before a) number told)) in
-        one_both (IsSignatureTold setting (signature_of j r))
-        (IsUnsignedTold setting name q case.OptOutWildcard (rightmost name (other.such.rrsig.labels + 1)))
-        (one_signature setting apart (signature_of j r))
-        (one_unsigned setting apart name q case.OptOutWildcard (rightmost name (other.such.rrsig.labels + 1)))
-        before a b there said
+        let there : IsExpandedTold setting name (signature_of j r) q before a =
+        subst (λ each. IsExpandedTold setting name (signature_of j r) each before a) shown
+        (subst (λ each. IsExpandedTold setting name each p before a) number told) in
+        one_expanded setting apart name (signature_of j r) q before a b there said
 
     -- ---- the verdict
 

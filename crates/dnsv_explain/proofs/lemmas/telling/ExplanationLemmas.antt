@@ -1,13 +1,13 @@
 -- Each line of an explanation follows from those before it.
 use Rattle.std.proofs.Common.{◌≡◌, ◌+◌, ◌∙◌, ℕ, List, [], ◌∷◌, ◌++◌, append_assoc, ap, map, refl, sym, subst}
 use Rattle.std.specs.List.{Contains}
-use Rattle.dnsv_names.specs.Name.{Labels, rightmost}
+use Rattle.dnsv_names.specs.Name.{Labels}
 use Rattle.dnsv_canonical.specs.Rrsets.{ReceivedRrset}
 use Rattle.dnsv_verifier.specs.declared.entry.Entry.{Entry}
 use Rattle.dnsv_verdict.specs.declared.link.Link.{Link}
 use Rattle.dnsv_verdict.specs.declared.verdict.Verdict.{Verdict}
 use Rattle.dnsv_verdict.specs.declared.verdict.Verdict.TheVariants.{SecureAnswer, SecureAlias, SecureNoName, SecureNoData, Insecure, Pending, Bogus, Indeterminate}
-use Rattle.dnsv_derivations.specs.Denials.IsShownBy.{no_name, no_data, no_closer}
+use Rattle.dnsv_derivations.specs.Denials.IsShownBy.{no_name, no_data, no_closer, closer_opted_out}
 use Rattle.dnsv_derivations.specs.Explained.{Explained, Setting, setting_in}
 use Rattle.dnsv_explain.specs.Explained.{hoped}
 use Rattle.dnsv_explain.specs.Explanation.{IsEnd, IsEndTold, IsExplanation, IsFailureTold, IsHoldingTold, IsHopeTold, IsLinkTold, IsSetTold, IsSettledTold, IsUnsignedFromTold, IsVerdictTold, IsWayTold, its_setting, signature_of}
@@ -18,17 +18,15 @@ use Rattle.dnsv_derivations.specs.Places.{ArePlacesOf, ArePlacesTold}
 use Rattle.dnsv_derivations.specs.Saying.{Adds, AreBoth, AreEach}
 use Rattle.dnsv_derivations.specs.derivations.Derivations.Subject.{signature}
 use Rattle.dnsv_derivations.specs.intervals.Holding.{AreShownValidAt, IsHoldingOf}
-use Rattle.dnsv_derivations.specs.unsigned_cuts.ShownCuts.IsShownUnsigned.{closer_opted_out}
 use Rattle.dnsv_lines.specs.declared.line.interval.Interval.{Interval}
 use Rattle.dnsv_lines.specs.declared.line.Line.{Line}
 use Rattle.dnsv_lines.specs.declared.line.Line.TheVariants as line
-use Rattle.dnsv_lines.specs.declared.line.cut.InsecureCase.TheVariants as case
 use Rattle.dnsv_canonical.specs.declared.number.SignatureNumber.{SignatureNumber}
 use Rattle.dnsv_lines.specs.declared.line.place.RrsetPlace.{RrsetPlace}
 use Rattle.dnsv_explain.proofs.lemmas.telling.QuietLemmas.{failure_follows}
 use Rattle.dnsv_derivations.proofs.lemmas.derivations.HeldLemmas.{held_follows}
 use Rattle.dnsv_explain.proofs.lemmas.marks.HopeLemmas.{still_follow}
-use Rattle.dnsv_derivations.proofs.lemmas.denials.FollowLemmas.{behind, both_follow, denial_follows, each_follow, expanded_follows, first_of, unsigned_follows}
+use Rattle.dnsv_derivations.proofs.lemmas.denials.FollowLemmas.{behind, both_follow, denial_follows, each_follow, expanded_follows, first_of}
 use Rattle.dnsv_derivations.proofs.lemmas.derivations.DerivationLemmas.{derivation_follows}
 use Rattle.dnsv_derivations.proofs.lemmas.unsigned_cuts.CutFollowLemmas.{cut_follows}
 
@@ -53,11 +51,8 @@ module _ (setting : Setting) where
       → EachFollows setting before lines
   unsigned_from_follows name t before lines (by_cut shown is told) = cut_follows setting name shown before lines is told
   unsigned_from_follows name t before lines (by_open_wildcard trust good none k s first shown is told) =
-      let labels = first.such.rrsig.labels in
-      both_follow setting _ _ before lines told
-      (derivation_follows setting before (signature (signature_of k s)) told.first told.says_first)
-      (unsigned_follows setting name shown case.OptOutWildcard (rightmost name (labels + 1)) (before ++ told.first) told.second
-      (closer_opted_out trust good labels first.such.rrsig.signer is) told.says_second)
+      expanded_follows setting name (signature_of k s) shown before lines
+      (trust, good, closer_opted_out first.such.rrsig.labels first.such.rrsig.signer is) told
 
   settled_follows : (name : Labels) (t : ℕ) (verdict : Verdict) (before lines : List Line)
       → IsSettledTold setting name t verdict before lines → EachFollows setting before lines
