@@ -1,12 +1,18 @@
--- The lines of a denial: the derivation of each of its records, the proof, and its parts (RFC 4035 5.4, RFC 5155 8).
+-- The lines of a denial: the derivation of each of its records, the case of one from which on a name may be unsigned, the
+-- proof, and its parts (RFC 4035 5.2, 5.4, RFC 5155 8, 9.2).
 use Rattle.std.specs.Prelude.{◌≡◌, ◌≤◌, ℕ, List, [], Option, Some, None, Contains, length}
 use Rattle.std.specs.Option.{option_map}
 use Rattle.dnsv_names.specs.Name.{Labels, SameName, rightmost}
+use Rattle.dnsv_zones.specs.forms.Parts.{OptsOut}
 use Rattle.dnsv_canonical.specs.Rrsets.{IsNumbered, ReceivedRrset}
 use Rattle.dnsv_chain.specs.Trust.{KeptTrust, SecuredIn}
+use Rattle.dnsv_denial.specs.forms.Denials.{IsDelegationAt}
 use Rattle.dnsv_denial.specs.forms.ProofForms.{form_encloser}
+use Rattle.dnsv_denial.specs.forms.ShownUnsigned.{ShowsDelegation, ShowsOptOut}
 use Rattle.dnsv_denial.specs.proving.ProofParts.{IsPartName, form_parts, part_name}
-use Rattle.dnsv_denial.specs.proving.ShownDenials.{IsShownNoCloser, IsShownNoData, IsShownNoName}
+use Rattle.dnsv_denial.specs.proving.ShownDenials.{IsFirstShown, IsShownNoCloser, IsShownNoData, IsShownNoName}
+use Rattle.dnsv_denial.specs.unsigned_cuts.ShownCut.{IsShownOptOutCloser}
+use Rattle.dnsv_denial.specs.words.EvidenceWords.{number_cmp}
 use Rattle.dnsv_denial.specs.declared.forms.proof_form.ProofForm.{ProofForm}
 use Rattle.dnsv_denial.specs.declared.forms.proof_form.ProofForm.TheVariants as shown_form
 use Rattle.dnsv_denial.specs.declared.proving.proof_part.PartName.{PartName}
@@ -22,8 +28,11 @@ use Rattle.dnsv_derivations.specs.Explained.{Setting}
 use Rattle.dnsv_derivations.specs.Following.Parts.{IsPlaceOfRecord}
 use Rattle.dnsv_derivations.specs.derivations.OwnDerivations.{AreRecordsDerived, IsSignatureTold, IsTrustIn}
 use Rattle.dnsv_derivations.specs.Saying.{AreBoth, AreEach, IsOnce}
+use Rattle.dnsv_derivations.specs.unsigned_cuts.UnsignedCuts.{IsCaseTold}
 use Rattle.dnsv_lines.specs.declared.line.Line.{Line}
 use Rattle.dnsv_lines.specs.declared.line.Line.TheVariants as line
+use Rattle.dnsv_lines.specs.declared.line.cut.InsecureCase.{InsecureCase}
+use Rattle.dnsv_lines.specs.declared.line.cut.InsecureCase.TheVariants as case
 use Rattle.dnsv_lines.specs.declared.line.denial.Chain.{Chain}
 use Rattle.dnsv_lines.specs.declared.line.denial.Chain.TheVariants as chain
 use Rattle.dnsv_lines.specs.declared.line.denial.Form.{Form}
@@ -39,17 +48,52 @@ use Rattle.dnsv_canonical.specs.declared.number.SignatureNumber.{SignatureNumber
 
 -- ---- what is shown
 
--- the evidence shows this of the name, by the signatures that are good as the trust keeps them: that it isn't there,
--- that a type isn't, or that no closer name is there
+-- The evidence shows this of the name, by the signatures that are good as the trust keeps them: that it isn't there, that
+-- a type isn't, or that no closer name is there; that a delegation without DS is at its so many rightmost labels; or that
+-- Opt-Out may leave one out below a closest encloser of so many, also against an answer from the wildcard there.
 pub data IsShownBy (trust : KeptTrust) (rrsets : List ReceivedRrset) (name : Labels) (shown : ShownDenial) : Type 0 where
   no_name : IsShownNoName (SecuredIn trust) rrsets name shown → IsShownBy trust rrsets name shown
   no_data : (t : ℕ) → IsShownNoData (SecuredIn trust) rrsets name t shown → IsShownBy trust rrsets name shown
   no_closer : (labels : ℕ) (zone : Labels) → IsShownNoCloser (SecuredIn trust) rrsets name labels zone shown
       → IsShownBy trust rrsets name shown
+  no_ds : (labels : ℕ) → IsFirstShown (SecuredIn trust) rrsets name (λ said zone. IsDelegationAt said zone name labels)
+      (λ said zone. ShowsDelegation number_cmp said zone name labels) shown
+      → IsShownBy trust rrsets name shown
+  opted_out : (labels : ℕ) → IsFirstShown (SecuredIn trust) rrsets name (λ said zone. OptsOut said zone name labels)
+      (λ said zone. ShowsOptOut number_cmp said zone name labels) shown
+      → IsShownBy trust rrsets name shown
+  closer_opted_out : (labels : ℕ) (zone : Labels)
+      → IsShownOptOutCloser (SecuredIn trust) rrsets name labels zone shown → IsShownBy trust rrsets name shown
 
 -- by the trust of the setting
 abbrev pub IsShownDenial : Setting → Labels → ShownDenial → Type 0
 IsShownDenial setting name shown = (trust : KeptTrust) × IsTrustIn setting trust × IsShownBy trust setting.rrsets name shown
+
+-- ---- the case
+
+-- that of a form which shows that a name may be unsigned, and from which name on
+abbrev pub told_case : ProofForm RecordNumber → Option (InsecureCase × PartName)
+told_case (shown_form.NoName parts) = None
+told_case (shown_form.NoData number) = None
+told_case (shown_form.EmptyNonTerminal number) = None
+told_case (shown_form.WildcardNoData parts) = None
+told_case (shown_form.EmptyWildcard parts) = None
+told_case (shown_form.NoCloser labels number) = None
+told_case (shown_form.Delegation labels number) = Some (case.UnsignedDelegation, part.Cut labels)
+told_case (shown_form.OptOut labels encloser number) = Some (case.OptOut, part.NextCloser labels)
+told_case (shown_form.WildcardOptOut parts) = Some (case.OptOut, part.NextCloser parts.labels)
+told_case (shown_form.OptOutCloser labels number) = Some (case.OptOutWildcard, part.NextCloser labels)
+
+-- the question has such a name, where there is a case
+abbrev pub FitsCase : Labels → Option (InsecureCase × PartName) → Type 0
+FitsCase question None = Unit {0}
+FitsCase question (Some which) = IsPartName (length question) which.1
+
+-- the case is told, where there is one, with the zone whose records show it
+abbrev pub IsCaseFor : Option (InsecureCase × PartName) → Labels → Labels → List Line → List Line → Type 0
+IsCaseFor None question zone before lines = lines ≡ []
+IsCaseFor (Some which) question zone before lines =
+    IsCaseTold which.0 (part_name question which.1) (Some zone) before lines
 
 -- ---- the proof
 
@@ -182,16 +226,18 @@ pub record IsPartTold
 
 -- ---- the denial
 
--- the proof, and then its parts in the order of the form
+-- the case and the proof, each where the form has one, and then the parts in the order of the form
 abbrev pub IsProofWithParts : List ReceivedRrset → Labels → ShownDenial → List Line → List Line → Type 0
 IsProofWithParts rrsets name shown =
-    AreBoth (IsProofTold name shown) (AreEach (IsPartTold rrsets name) (form_parts shown.chain shown.form))
+    AreBoth (IsCaseFor (told_case shown.form) name shown.proof.zone)
+    (AreBoth (IsProofTold name shown) (AreEach (IsPartTold rrsets name) (form_parts shown.chain shown.form)))
 
--- the records are derived, in the order of their numbers, and the proof is told with its parts
+-- the records are derived, in the order of their numbers, and the case and the proof are told with its parts
 abbrev pub IsDenialTold : Setting → Labels → ShownDenial → List Line → List Line → Type 0
 IsDenialTold setting name shown =
     AreBoth (AreRecordsDerived setting shown.proof.zone shown.proof.records) (IsProofWithParts setting.rrsets name shown)
 
--- The signature is derived, and it is told that no closer name is there than the wildcard behind it (RFC 4035 5.3.4).
+-- The signature is derived, and it is told that no closer name is there than the wildcard behind it, or that Opt-Out may
+-- leave one out (RFC 4035 5.3.4, RFC 5155 8.8).
 abbrev pub IsExpandedTold : Setting → Labels → SignatureNumber → ShownDenial → List Line → List Line → Type 0
 IsExpandedTold setting name number shown = AreBoth (IsSignatureTold setting number) (IsDenialTold setting name shown)

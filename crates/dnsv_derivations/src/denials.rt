@@ -1,5 +1,6 @@
-//! The lines of denials: the derivation of their records, the proof and its parts.
+//! The lines of denials: the derivation of their records, the case, the proof and its parts.
 
+pub mod case;
 pub mod part;
 pub mod proof;
 
@@ -8,6 +9,7 @@ ghost use Rattle.dnsv_derivations.specs.Denials.{IsDenialTold, IsShownDenial};
 ghost use Rattle.dnsv_derivations.specs.Explained.{setting_in};
 ghost use Rattle.dnsv_derivations.specs.Saying.{Adds};
 
+use crate::denials::case::add_case_for;
 use crate::denials::part::add_parts;
 use crate::denials::proof::add_proof;
 use crate::derivations::own::add_records;
@@ -17,8 +19,8 @@ use dnsv_lines::Line;
 use dnsv_names::Name;
 use std::alloc::{AllocError, Global};
 
-/// Adds the lines of a denial of the name: the derivation of each of its records, but for what was said before, the
-/// proof, and its parts in the order of the form.
+/// Adds the lines of a denial of the name: the derivation of each of its records, but for what was said before, the case
+/// and the proof, each where its form has one, and the parts in the order of the form.
 pub fn add_denial(
     alloc: Global,
     evidence: &Evidence<'_>,
@@ -36,6 +38,7 @@ pub fn add_denial(
         shown.proof.zone(),
         shown.proof.records(),
     )?;
+    add_case_for(lines, name, shown)?;
     add_proof(lines, name, shown)?;
     add_parts(evidence, lines, name, &shown.parts())?;
     Ok(())

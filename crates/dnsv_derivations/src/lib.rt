@@ -19,7 +19,6 @@ pub use laws::{
 pub use places::places_named;
 pub use shown::holding_of;
 pub use unsigned_cuts::add_cut;
-pub use unsigned_cuts::shown::add_unsigned;
 
 mod denials;
 mod derivations;

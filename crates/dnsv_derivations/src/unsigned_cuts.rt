@@ -1,6 +1,5 @@
 //! The lines of a name that may be unsigned.
 
-pub mod shown;
 mod unusable;
 
 ghost use Rattle.std.specs.Prelude.{OnOk};
@@ -8,11 +7,11 @@ ghost use Rattle.dnsv_derivations.specs.Explained.{setting_in};
 ghost use Rattle.dnsv_derivations.specs.Saying.{Adds};
 ghost use Rattle.dnsv_derivations.specs.unsigned_cuts.ShownCuts.{IsCutShownBy, IsCutTold};
 
+use crate::denials::add_denial;
 use crate::evidence::Evidence;
-use crate::unsigned_cuts::shown::add_unsigned;
 use crate::unsigned_cuts::unusable::add_unusable;
 use dnsv_denial::{PartName, ShownCut};
-use dnsv_lines::{InsecureCase, Line};
+use dnsv_lines::Line;
 use dnsv_names::Name;
 use std::alloc::{AllocError, Global};
 
@@ -29,19 +28,15 @@ pub fn add_cut(
     ensures { OnOk result (Adds (IsCutTold (setting_in evidence.now) name.now cut.now) lines.old.items lines.new.items) }
 {
     match cut {
-        ShownCut::NoDs { labels, shown } => {
-            let at = PartName::Cut(*labels).of(name);
-            let case = InsecureCase::UnsignedDelegation;
-            add_unsigned(alloc, evidence, lines, name, shown, case, &at)?;
+        ShownCut::NoDs { shown, .. } => {
+            add_denial(alloc, evidence, lines, name, shown)?;
         }
         ShownCut::NoUsableDs { labels } => {
             let at = PartName::Cut(*labels).of(name);
             add_unusable(alloc, evidence, lines, &at)?;
         }
-        ShownCut::OptOut { labels, shown } => {
-            let at = PartName::NextCloser(*labels).of(name);
-            let case = InsecureCase::OptOut;
-            add_unsigned(alloc, evidence, lines, name, shown, case, &at)?;
+        ShownCut::OptOut { shown, .. } => {
+            add_denial(alloc, evidence, lines, name, shown)?;
         }
     }
     Ok(())

@@ -1,7 +1,7 @@
 -- What is explained of a verdict: what fails, where nothing is proved; what holds for each link of the way and at the last
 -- name; from when to when that holds; and where the RRsets stand that it names.
-use Rattle.std.specs.Prelude.{◌≡◌, ◌+◌, ℕ, List, [], ◌∷◌, ◌++◌, Option, Some, None, map}
-use Rattle.dnsv_names.specs.Name.{Labels, rightmost}
+use Rattle.std.specs.Prelude.{◌≡◌, ℕ, List, [], ◌∷◌, ◌++◌, Option, Some, None, map}
+use Rattle.dnsv_names.specs.Name.{Labels}
 use Rattle.dnsv_records.specs.Rrsig.{IsRrsig}
 use Rattle.dnsv_records.specs.declared.rrsig.Rrsig.{Rrsig}
 use Rattle.dnsv_canonical.specs.Rrsets.{IsNumbered, ReceivedRrset}
@@ -32,13 +32,12 @@ use Rattle.dnsv_derivations.specs.derivations.HeldTo.{IsHeldTo}
 use Rattle.dnsv_derivations.specs.derivations.OwnDerivations.{IsSignatureTold, IsTrustIn}
 use Rattle.dnsv_explain.specs.KeyLines.{AreLinesOfKeysAsked}
 use Rattle.dnsv_derivations.specs.intervals.Holding.{IsHoldingOf}
-use Rattle.dnsv_derivations.specs.unsigned_cuts.ShownCuts.{IsCutShownBy, IsCutTold, IsUnsignedTold}
+use Rattle.dnsv_derivations.specs.unsigned_cuts.ShownCuts.{IsCutShownBy, IsCutTold}
 use Rattle.dnsv_lines.specs.declared.line.interval.Interval.{Interval}
 use Rattle.dnsv_lines.specs.declared.line.Kind.{Kind}
 use Rattle.dnsv_lines.specs.declared.line.Kind.TheVariants as kind
 use Rattle.dnsv_lines.specs.declared.line.Line.{Line}
 use Rattle.dnsv_lines.specs.declared.line.Line.TheVariants as line
-use Rattle.dnsv_lines.specs.declared.line.cut.InsecureCase.TheVariants as case
 use Rattle.dnsv_canonical.specs.declared.number.SignatureNumber.{SignatureNumber}
 use Rattle.dnsv_lines.specs.declared.line.place.RrsetPlace.{RrsetPlace}
 
@@ -98,8 +97,7 @@ pub data IsUnsignedFromTold (setting : Setting) (name : Labels) (t : ℕ) (befor
       → ¬ HasUnsignedCut (SecuredIn trust) setting.rrsets name → (k s : ℕ)
       → (first : IsFirstSuch (IsOptOutWildcardSet (SecuredIn trust) setting.rrsets name t) k s) → (shown : ShownDenial)
       → IsShownOptOutCloser (SecuredIn trust) setting.rrsets name first.such.rrsig.labels first.such.rrsig.signer shown
-      → AreBoth (IsSignatureTold setting (signature_of k s))
-      (IsUnsignedTold setting name shown case.OptOutWildcard (rightmost name (first.such.rrsig.labels + 1))) before lines
+      → IsExpandedTold setting name (signature_of k s) shown before lines
       → IsUnsignedFromTold setting name t before lines
 
 -- what holds for the verdict at the name, which is one of the first five
@@ -109,9 +107,7 @@ IsSettledTold setting name t (SecureAlias k s) = IsSetTold setting name (signatu
 IsSettledTold setting name t (SecureNoName proof) = IsNoNameTold setting name
 IsSettledTold setting name t (SecureNoData proof) = IsNoDataTold setting name t
 IsSettledTold setting name t (Insecure cut) = IsUnsignedFromTold setting name t
-IsSettledTold setting name t (Pending entries) = λ before lines. ⊥
-IsSettledTold setting name t Bogus = λ before lines. ⊥
-IsSettledTold setting name t Indeterminate = λ before lines. ⊥
+IsSettledTold setting name t verdict = λ before lines. ⊥
 
 -- ---- what holds for any verdict
 
@@ -122,9 +118,7 @@ told_kind (SecureAlias k s) = Some kind.SecureAlias
 told_kind (SecureNoName proof) = Some kind.SecureNoName
 told_kind (SecureNoData proof) = Some kind.SecureNoData
 told_kind (Insecure cut) = Some kind.Insecure
-told_kind (Pending entries) = None
-told_kind Bogus = None
-told_kind Indeterminate = None
+told_kind _ = None
 
 -- what the verdict at the name would be with each of these entries, which the verifier doesn't know, valid; and what
 -- holds for that one then

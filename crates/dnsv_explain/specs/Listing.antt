@@ -3,13 +3,6 @@ use Rattle.std.specs.Prelude.{◌≡◌, ◌⊎◌, ◌+◌, ℕ, List, [], ◌�
 use Rattle.dnsv_derivations.specs.Saying.{Adds}
 use Rattle.dnsv_lines.specs.declared.line.Line.{Line}
 
--- those of the list that are such, in its order
-abbrev pub AreThose : {X : Type 0} → (X → Type 0) → List X → List X → Type 0
-AreThose {X} Such [] those = those ≡ []
-AreThose {X} Such (x ∷ xs) those =
-    ((¬ Such x) × AreThose Such xs those)
-    ⊎ (Such x × ((rest : List X) × AreThose Such xs rest × (those ≡ x ∷ rest)))
-
 -- the first list, and then the second
 pub record AreParted {X : Type 0} (First Second : List X → Type 0) (xs : List X) : Type 0 where
   pub first : List X

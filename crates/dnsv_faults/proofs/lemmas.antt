@@ -1,11 +1,5 @@
-pub mod AnswerLemmas
 pub mod GroupLemmas
-pub mod IndexLemmas
 pub mod KnownLemmas
 pub mod NamedLemmas
-pub mod OnceLemmas
 pub mod OrderLemmas
-pub mod TagLemmas
-pub mod VoucherLemmas
-pub mod ZoneKeyLemmas
 pub mod zones

@@ -17,8 +17,8 @@ use Rattle.dnsv_verdict.specs.Verdict.{Basis}
 use Rattle.dnsv_mending.specs.declared.facts.keys.DnskeyFacts.{DnskeyFacts}
 use Rattle.dnsv_mending.specs.declared.facts.keys.HeldKey.{HeldKey}
 use Rattle.dnsv_mending.specs.declared.facts.keys.SelfSignature.{SelfSignature}
-use Rattle.dnsv_faults.specs.Answers.{IsKeyAnswer}
-use Rattle.dnsv_faults.specs.Keys.{IsKeyPlaced, IsNamed, IsZoneKey}
+use Rattle.dnsv_zone_keys.specs.Answers.{IsKeyAnswer}
+use Rattle.dnsv_zone_keys.specs.Keys.{IsKeyPlaced, IsNamed, IsZoneKey}
 use Rattle.dnsv_faults.specs.Signatures.{AreSignatureFaults, IsSignatureAt}
 
 -- ---- the signatures of a key

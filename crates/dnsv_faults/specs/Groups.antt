@@ -17,8 +17,8 @@ use Rattle.dnsv_lines.specs.declared.line.fault.zone.EntryNumber.TheVariants as 
 use Rattle.dnsv_mending.specs.declared.facts.keys.VoucherFacts.{VoucherFacts}
 use Rattle.dnsv_mending.specs.declared.facts.zone.DsFacts.{DsFacts}
 use Rattle.dnsv_faults.specs.Rrsets.{AreRrsetFacts}
-use Rattle.dnsv_faults.specs.Vouchers.{AreVoucherFacts, Wanted}
-use Rattle.dnsv_faults.specs.Vouchers.Wanted.{by_digest, whole_key}
+use Rattle.dnsv_zone_keys.specs.Vouchers.{AreVoucherFacts, Wanted}
+use Rattle.dnsv_zone_keys.specs.Vouchers.Wanted.{by_digest, whole_key}
 
 -- ---- trust anchors
 

@@ -1,9 +1,6 @@
-pub mod Answers
 pub mod Dnskeys
 pub mod Groups
-pub mod Keys
 pub mod KnownZones
 pub mod Rrsets
 pub mod Signatures
-pub mod Vouchers
 pub mod Zones

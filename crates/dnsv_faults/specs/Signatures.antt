@@ -15,8 +15,8 @@ use Rattle.dnsv_lines.specs.declared.line.fault.signature.SignatureTimes.{Signat
 use Rattle.dnsv_mending.specs.declared.facts.signature.NamedKey.{NamedKey}
 use Rattle.dnsv_mending.specs.declared.facts.signature.SignatureFacts.{SignatureFacts}
 use Rattle.dnsv_mending.specs.declared.facts.signature.SignatureFaults.{SignatureFaults}
-use Rattle.dnsv_faults.specs.Answers.{IsKeyAnswer}
-use Rattle.dnsv_faults.specs.Keys.{HasKeys, IsKeyPlaced, IsNamed, IsZoneKey, NamesKey, NamesZoneKey}
+use Rattle.dnsv_zone_keys.specs.Answers.{IsKeyAnswer}
+use Rattle.dnsv_zone_keys.specs.Keys.{HasKeys, IsKeyPlaced, IsNamed, IsZoneKey, NamesKey, NamesZoneKey}
 
 -- ---- what is wrong with it, whichever key made it
 

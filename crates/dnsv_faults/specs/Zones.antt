@@ -14,7 +14,7 @@ use Rattle.dnsv_mending.specs.declared.facts.zone.ZoneFacts.{ZoneFacts}
 use Rattle.dnsv_mending.specs.declared.facts.zone.ZoneKey.{ZoneKey}
 use Rattle.dnsv_faults.specs.Dnskeys.{AreAllDnskeyFacts}
 use Rattle.dnsv_faults.specs.Groups.{AreAllDsFacts, AreAnchorFacts}
-use Rattle.dnsv_faults.specs.Keys.{AreZoneKeys}
+use Rattle.dnsv_zone_keys.specs.Keys.{AreZoneKeys}
 use Rattle.dnsv_faults.specs.KnownZones.{IsKnownZone}
 
 -- ---- the keys of a zone

@@ -1,15 +1,14 @@
 //! What facts are found in: a case, and its keys by what signatures name them by.
 ghost use Rattle.std.specs.Prelude.{◌≡◌, IfOk};
-ghost use Rattle.dnsv_faults.specs.Keys.KeySearch.{AreNamedOf};
+ghost use Rattle.dnsv_zone_keys.specs.Keys.KeySearch.{AreNamedOf};
 ghost use Rattle.dnsv_verdict.specs.Case.{HasTrust};
 
-use crate::keys::index::KeyIndex;
-use crate::keys::placed::PlacedKey;
 use dnsv_canonical::Capture;
 use dnsv_chain::{Anchor, Trust};
 use dnsv_records::Rrsig;
 use dnsv_verdict::Case;
 use dnsv_verifier::Table;
+use dnsv_zone_keys::{KeyIndex, PlacedKey};
 use std::alloc::{AllocError, Global};
 use std::marker::Model;
 
@@ -22,7 +21,7 @@ pub struct CaseFacts<'a> {
 
 impl<'a> Model for CaseFacts<'a> {
     ghost use Rattle.dnsv_verdict.specs.Case.{CaseContents};
-    ghost use Rattle.dnsv_faults.specs.Keys.Index.{AreIndexed};
+    ghost use Rattle.dnsv_zone_keys.specs.Keys.Index.{AreIndexed};
 
     ghost Value = { CaseContents };
 

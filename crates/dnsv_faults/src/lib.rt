@@ -10,11 +10,8 @@ pub use laws::{what_is_found_is_in_place, what_is_found_is_whole};
 pub use zone::groups::anchors::anchor_key_name;
 pub use zone::known::speakers::{is_above, is_from_above};
 
-mod answers;
 mod case_facts;
-mod keys;
 mod laws;
 mod rrset;
 mod signature;
-mod vouchers;
 mod zone;

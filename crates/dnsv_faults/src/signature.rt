@@ -8,13 +8,11 @@ ghost use Rattle.dnsv_canonical.specs.Rrsets.{ReceivedRrset};
 ghost use Rattle.dnsv_records.specs.declared.rrsig.Rrsig.{Rrsig};
 ghost use Rattle.dnsv_chain.specs.Trusted.{IsSecured};
 ghost use Rattle.dnsv_verdict.specs.Case.{basis_by};
-ghost use Rattle.dnsv_faults.specs.Keys.{HasKeys, NamesKey, NamesZoneKey};
-ghost use Rattle.dnsv_faults.specs.Keys.KeySearch.{AreNamedOf, HasZoneKey};
+ghost use Rattle.dnsv_zone_keys.specs.Keys.{HasKeys, NamesKey, NamesZoneKey};
+ghost use Rattle.dnsv_zone_keys.specs.Keys.KeySearch.{AreNamedOf, HasZoneKey};
 ghost use Rattle.dnsv_faults.specs.Signatures.{AreSignatureFacts, IsSignatureAt};
 
 use crate::case_facts::CaseFacts;
-use crate::keys::is_zone_key;
-use crate::keys::placed::PlacedKey;
 use crate::signature::named::named_keys;
 use crate::signature::words::signature_faults;
 use crate::zone::known::has_rrset;
@@ -22,6 +20,7 @@ use dnsv_canonical::{Rrset, SignatureNumber};
 use dnsv_mending::SignatureFacts;
 use dnsv_names::RecordType;
 use dnsv_records::Rrsig;
+use dnsv_zone_keys::{PlacedKey, is_zone_key};
 use std::alloc::{AllocError, Global};
 
 /// What is so of the signature with the number, which is that of the RRset.

@@ -15,7 +15,6 @@ ghost use Rattle.dnsv_faults.specs.KnownZones.{IsKnownZone};
 ghost use Rattle.dnsv_faults.specs.Zones.{AreFactsOfZone, AreZoneFacts, IsAnchored};
 
 use crate::case_facts::CaseFacts;
-use crate::vouchers::zone_keys::ZoneKeys;
 use crate::zone::dnskeys::dnskey_facts;
 use crate::zone::groups::anchors::anchor_facts;
 use crate::zone::groups::ds::ds_facts;
@@ -23,6 +22,7 @@ use crate::zone::holders::zone_key_facts;
 use crate::zone::keyed::keyed_zone;
 use dnsv_mending::ZoneFacts;
 use dnsv_names::{Name, RecordType};
+use dnsv_zone_keys::ZoneKeys;
 use std::alloc::{AllocError, Global};
 
 /// So many may vouch for the keys of a zone that each works out a digest for itself.

@@ -8,9 +8,9 @@ use dnsv_chain::AnchorsError;
 use dnsv_message::DecodeError;
 use dnsv_names::NameError;
 use dnsv_questions::QuestionsError;
+use dnsv_statements::StatementsError;
 use dnsv_tsig::{KeyFileError, TsigError};
 use dnsv_verdict::VerdictError;
-use dnsv_statements::StatementsError;
 use std::alloc::{AllocError, AllocFailed};
 
 /// How a run ended that wrote its whole text.

@@ -18,9 +18,6 @@ module _ (rrsets : List ReceivedRrset) (numbers : List SignatureNumber) where
   pub record AreDatedTo (i : ℕ) (all : List DatedSignature) : Type 0 where
     pub rest : (others : List DatedSignature) → AreDated rrsets (drop i numbers) others → AreDated rrsets numbers (all ++ others)
 
-  pub dated_none : AreDatedTo 0 []
-  dated_none = record { rest = λ others are. are }
-
   pub dated_more : (i : ℕ) (number : SignatureNumber) (old new : List DatedSignature) → drop i numbers ≡ number ∷ drop (i + 1) numbers
       → AreDatedTo i old → AddsDated rrsets number old new → AreDatedTo (i + 1) new
   dated_more i number old new here so_far adds = record {

@@ -34,14 +34,8 @@ IsRefusedKind (Refused error) = Unit {0}
 IsRefusedKind other = ⊥
 
 verdict_kind_is_none : (each : Verdict) → IsRefusedKind (verdict_kind each) → ⊥
-verdict_kind_is_none (verdict.SecureAnswer k s) is = is
-verdict_kind_is_none (verdict.SecureAlias k s) is = is
-verdict_kind_is_none (verdict.SecureNoName proof) is = is
-verdict_kind_is_none (verdict.SecureNoData proof) is = is
-verdict_kind_is_none (verdict.Insecure cut) is = is
-verdict_kind_is_none (verdict.Pending entries) is = is
-verdict_kind_is_none verdict.Bogus is = is
 verdict_kind_is_none verdict.Indeterminate is = is
+verdict_kind_is_none each is = is
 
 pub same_error : (one other : VerdictError) → Refused one ≡ Refused other → one ≡ other
 same_error one other same = ap error_in same

@@ -9,6 +9,7 @@ use Rattle.dnsv_explain.specs.declared.explanation.derivation.Outcome.{Outcome}
 use Rattle.dnsv_explain.specs.declared.explanation.derivation.Outcome.TheVariants as outcome
 use Rattle.dnsv_verdict.specs.Case.{CaseContents, IsCaseOf}
 use Rattle.dnsv_verdict.specs.Verdict.{Basis, basis_of}
+use Rattle.dnsv_verifier.specs.Table.{TableContents}
 use Rattle.dnsv_verifier.specs.Within.{IsTableWithin}
 use Rattle.dnsv_verifier.specs.declared.answer.Answer.{Answer}
 use Rattle.dnsv_verifier.specs.declared.entry.Entry.{Entry}
@@ -57,6 +58,11 @@ module _ (moments : MomentsContents) (format : Format) (name : Labels) (t from t
       subst (λ (m : ℕ). IsTimelineBy (IsSaidWithin moments format name t) m to stretches) first timeline in
       said_timeline moments format name t meaning by stretches
       (subst (λ (m : ℕ). IsTimelineBy (IsSaidWithin moments format name t) moments.from m stretches) last begun)
+
+-- a table for a range is one of its own evidence
+pub own_within : (meaning : Entry → Answer) (from to : ℕ) (rrsets : List ReceivedRrset) (table : TableContents)
+    → IsTableWithin meaning from to rrsets table → IsTableWithin meaning from to table.rrsets table
+own_within meaning from to rrsets table is = subst (λ (each : List ReceivedRrset). IsTableWithin meaning from to each table) (sym is.of_rrsets) is
 
 -- ---- at one moment
 

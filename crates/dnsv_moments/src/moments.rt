@@ -1,5 +1,6 @@
 //! What questions are judged by at each moment of a range.
-ghost use Rattle.std.specs.Prelude.{◌≡◌, ◌≤◌, IfOk, IfSome, OnErr, length};
+ghost use Rattle.std.specs.Prelude.{◌≡◌, ◌≤◌, List, IfOk, IfSome, OnErr, length};
+ghost use Rattle.dnsv_canonical.specs.Rrsets.{ReceivedRrset};
 ghost use Rattle.dnsv_names.specs.Count.{counted};
 ghost use Rattle.dnsv_timeline.specs.Range.{IsRange};
 ghost use Rattle.dnsv_moments.specs.Moments.{AreMomentsBy, AreMomentsOf, IsOfEvidence, IsSaidBy};
@@ -24,7 +25,6 @@ use std::marker::Model;
 /// verifier says at some moment of it.
 #[derive(Drop)]
 pub struct Moments<'a> {
-    capture: &'a Capture<'a>,
     anchors: &'a Anchors<'a>,
     range: Range,
     table: Table<'a>,
@@ -40,7 +40,7 @@ impl<'a> Model for Moments<'a> {
     ghost Value = { MomentsContents };
 
     ghost view = { λ moments. record {
-      rrsets = moments.capture.now.rrsets;
+      rrsets = moments.table.rrsets;
       anchors = moments.anchors.now;
       from = moments.range.from;
       to = moments.range.to;
@@ -48,7 +48,7 @@ impl<'a> Model for Moments<'a> {
     } };
 
     ghost invariant = { λ moments. IsRange moments.range.from moments.range.to
-        × ((meaning : Entry → Answer) × IsTableWithin meaning moments.range.from moments.range.to moments.capture.now.rrsets
+        × ((meaning : Entry → Answer) × IsTableWithin meaning moments.range.from moments.range.to moments.table.rrsets
         moments.table) };
 }
 
@@ -70,33 +70,21 @@ impl<'a> Moments<'a> {
         ensures refused { OnErr result (count.new ≡ count.old) }
     {
         let table = ask_within(alloc, bump, capture, range, verifier, count)?;
-        // What is true of every range.
-        let _first = range.from();
-        Ok(Moments {
-            capture,
-            anchors,
-            range,
-            table,
-        })
+        Ok(Moments::of(anchors, range, table))
     }
 
-    /// The moments of the range, under a table of what some verifier says within it. Nobody is asked.
-    pub fn of(
-        capture: &'a Capture<'a>,
-        anchors: &'a Anchors<'a>,
-        range: Range,
-        table: Table<'a>,
-    ) -> Moments<'a>
-        requires { (meaning : Entry → Answer) × IsTableWithin meaning range.from range.to capture.now.rrsets table }
-        ensures of { AreMomentsOf capture.now.rrsets anchors.now range.from range.to table.entry result }
+    /// The moments of the range, under a table of what some verifier says of its evidence within it. Nobody is asked.
+    pub fn of(anchors: &'a Anchors<'a>, range: Range, table: Table<'a>) -> Moments<'a>
+        requires { (meaning : Entry → Answer) × (rrsets : List ReceivedRrset)
+            × IsTableWithin meaning range.from range.to rrsets table }
+        ensures of { AreMomentsOf table.entry.rrsets anchors.now range.from range.to table.entry result }
         // Whoever the table is of, they are that verifier's.
-        ensures by { (meaning : Entry → Answer)
-            → IsTableWithin meaning range.from range.to capture.now.rrsets table.entry → IsSaidBy meaning result }
+        ensures by { (meaning : Entry → Answer) (rrsets : List ReceivedRrset)
+            → IsTableWithin meaning range.from range.to rrsets table.entry → IsSaidBy meaning result }
     {
         // What is true of every range.
         let _first = range.from();
         Moments {
-            capture,
             anchors,
             range,
             table,
@@ -107,7 +95,7 @@ impl<'a> Moments<'a> {
     pub fn capture(&self) -> &'a Capture<'a>
         ensures { result.now.rrsets ≡ self.now.rrsets }
     {
-        self.capture
+        self.table.capture()
     }
 
     /// The trust anchors.

@@ -79,18 +79,6 @@ verdict_fault_writes error.AliasTargets = λ is. cc
 abbrev pub IsUnjudged : (VerdictError → Type 0) → Fault → Type 0
 IsUnjudged Refused told = (told ≡ fault.OutOfMemory) ⊎ ((error : VerdictError) × Refused error × (told ≡ verdict_fault error))
 
-pub unjudged_read : {U : Type 0} (Refused : VerdictError → Type 0) (Of : InputFile → Type 0) (result : Result U Fault)
-    → IfErr result (IsUnjudged Refused) → IfErr result (OfFailedRead Of)
-unjudged_read Refused Of (Ok x) only = tt
-unjudged_read Refused Of (Err told) (inl memory) = subst (OfFailedRead Of) (sym memory) tt
-unjudged_read Refused Of (Err told) (inr refused) = subst (OfFailedRead Of) (sym refused.2) (verdict_fault_read Of refused.0)
-
-pub unjudged_writes : {U : Type 0} (Refused : VerdictError → Type 0) (result : Result U Fault)
-    → IfErr result (IsUnjudged Refused) → IfErr result (λ told. told ≡ fault.WriteFailed → ⊥)
-unjudged_writes Refused (Ok x) only = tt
-unjudged_writes Refused (Err told) (inl memory) = λ is. let same = sym memory ∙ is in cc
-unjudged_writes Refused (Err told) (inr refused) = λ is. verdict_fault_writes refused.0 (sym refused.2 ∙ is)
-
 unjudged_other : {U : Type 0} (Refused : VerdictError → Type 0) (file : InputFile) (result : Result U Fault) → IfErr result (IsUnjudged Refused) → IfErr result (IsOther file)
 unjudged_other Refused file (Ok x) only = tt
 unjudged_other Refused file (Err told) (inl memory) = subst (IsOther file) (sym memory) (λ is. cc)

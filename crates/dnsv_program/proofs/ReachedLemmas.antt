@@ -88,10 +88,6 @@ behind_questions moment files has Statements holds = (has, holds)
 behind_questions moment files has Answers holds = (has, holds)
 behind_questions moment files has Questions holds = absurd holds
 
-pub reached_behind : (moment : ℕ) (files : Files) → (asked : List Asked) × HasQuestions (octets_or_none files.questions) asked
-    → (told : Fault) → OfFailedRead (IsReachedOfFiles (At moment) files) told → OfFailedRead (IsReachedByEach moment files) told
-reached_behind moment files has told = weaker_told (IsReachedOfFiles (At moment) files) (IsReachedByEach moment files) told (behind_questions moment files has)
-
 -- the keys and the MACs are read first
 pub reached_sealed : (moments : Moments) (files : Files) (told : Fault) → OfFailedRead (IsOpeningReachedAt files.keys files.macs moments) told → OfFailedRead (IsReachedOfFiles moments files) told
 reached_sealed moments files told = weaker_told (IsOpeningReachedAt files.keys files.macs moments) (IsReachedOfFiles moments files) told (in_files moments files)

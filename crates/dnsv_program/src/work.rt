@@ -22,7 +22,7 @@ use crate::work::checking::check;
 use crate::work::judging::Telling;
 use crate::work::listing::{list, list_range};
 use crate::work::showing::show;
-use crate::work::timeline::{Showing, timeline};
+use crate::work::timeline::{Ends, Showing, timeline};
 use bumpalo::Bump;
 use dnsv_commands::{Asking, Request};
 use dnsv_files::{Fault, Inputs, Moment, Status};
@@ -235,7 +235,11 @@ fn text_of<R: Read>(
                 format: *format,
                 kinds: *kinds,
             };
-            timeline(alloc, showing, asked, *rtype, *from, *to, inputs, bump)
+            let ends = Ends {
+                from: *from,
+                to: *to,
+            };
+            timeline(alloc, showing, asked, *rtype, ends, inputs, bump)
         }
         Request::Check { .. } => unreachable!(),
     }

@@ -8,8 +8,10 @@ use dnsv_canonical::{Capture, Rrset};
 use dnsv_names::Count;
 use dnsv_records::{Algorithm, Octets};
 use dnsv_statements::{Statements, StatementsError};
+use dnsv_timeline::Range;
 use dnsv_verifier::{
-    Answer, Entry, KeyRecord, Panel, SignedData, Table, Verifier, ask_all, is_admissible,
+    Answer, Entry, KeyRecord, Panel, SignedData, Table, Verifier, ask_all, ask_within,
+    is_admissible, is_verifiable, may_have_made,
     is_verifiable, may_have_made,
 };
 use std::alloc::Global;
@@ -27,6 +29,9 @@ pub fn answer(row: &Row) -> Result<Option<String>, RowError> {
     }
     if row.calls("table") {
         return Ok(Some(table(row)?));
+    }
+    if row.calls("within") {
+        return Ok(Some(within(row)?));
     }
     if row.calls("hopeful") {
         return Ok(Some(hopeful(row)?));
@@ -97,8 +102,11 @@ fn table(row: &Row) -> Result<String, RowError> {
 }
 
 fn unknown_of(row: &Row, bump: &Bump, capture: &Capture<'_>) -> Result<String, RowError> {
-    let alloc = row.alloc();
     let table = table_of(row, bump, capture, &mut Count::new())?;
+    unknown_in(row.alloc(), &table)
+}
+
+fn unknown_in(alloc: Global, table: &Table<'_>) -> Result<String, RowError> {
     let mut texts = Vec::new(alloc);
     let unknown = table.unknown(alloc)?;
     for place in 0..unknown.len() {
@@ -116,6 +124,25 @@ fn text_of(alloc: Global, entry: &Entry<'_>) -> Result<String, RowError> {
     let signed_data = printed::octets(alloc, octets.as_slice())?;
     let signature = printed::octets(alloc, entry.signature.as_slice())?;
     Ok(format!(in alloc; "{algorithm}:{key}:{signed_data}:{signature}")?)
+}
+
+/// `within CAPTURE MOMENT STATEMENTS FROM TO`: how many entries are asked at the moments of the range, how many of those
+/// at the moment, and these as `table` writes them.
+fn within(row: &Row) -> Result<String, RowError> {
+    let bump = Bump::new(row.alloc());
+    let capture = capture(row, 0, &bump)?;
+    within_of(row, &bump, &capture)
+}
+
+fn within_of(row: &Row, bump: &Bump, capture: &Capture<'_>) -> Result<String, RowError> {
+    let (alloc, statements) = (row.alloc(), statements_of(row, 2)?);
+    let Some(range) = Range::new(row.number(3)?, row.number(4)?) else {
+        return Err(RowError::Malformed);
+    };
+    let table = ask_within(alloc, bump, capture, range, &statements, &mut Count::new())?;
+    let at = table.at(alloc, row.number(1)?)?;
+    let (asked, left, unknown) = (table.len(), at.len(), unknown_in(alloc, &at)?);
+    Ok(format!(in alloc; "{asked} {left} {unknown}")?)
 }
 
 /// `hopeful CAPTURE MOMENT STATEMENTS ALGORITHM KEY DATA SIGNATURE`: what the table says of the entry, and the hopeful

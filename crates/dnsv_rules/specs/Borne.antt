@@ -24,7 +24,7 @@ use Rattle.dnsv_lines.specs.declared.line.denial.Form.TheVariants as form
 use Rattle.dnsv_lines.specs.declared.line.denial.Proof.{Proof}
 use Rattle.dnsv_verdict.specs.Secure.{IsSecuredAt}
 use Rattle.dnsv_verdict.specs.declared.verdict.Verdict.{Verdict}
-use Rattle.dnsv_verdict.specs.declared.verdict.Verdict.TheVariants.{SecureAnswer, SecureAlias, SecureNoName, SecureNoData, Insecure, Pending, Bogus, Indeterminate}
+use Rattle.dnsv_verdict.specs.declared.verdict.Verdict.TheVariants.{SecureAnswer, SecureAlias, SecureNoName, SecureNoData, Insecure}
 use Rattle.dnsv_rules.specs.Checked.{Asked}
 use Rattle.dnsv_rules.specs.Told.{IsShownGood, shown_said, told_words}
 use Rattle.dnsv_rules.specs.Truth.{IsOfChain, IsShownSecured}
@@ -73,9 +73,7 @@ BearsOut rrsets asked lines (SecureAlias k s) = IsSetBorne rrsets lines asked.na
 BearsOut rrsets asked lines (SecureNoName proof) = HasProof lines (λ each. each ≡ form.NoName)
 BearsOut rrsets asked lines (SecureNoData proof) = HasProof lines DeniesType
 BearsOut rrsets asked lines (Insecure cut) = HasCase lines cut
-BearsOut rrsets asked lines (Pending entries) = Unit {0}
-BearsOut rrsets asked lines Bogus = Unit {0}
-BearsOut rrsets asked lines Indeterminate = Unit {0}
+BearsOut rrsets asked lines _ = Unit {0}
 
 -- ---- what that means
 

@@ -14,7 +14,7 @@ use Rattle.dnsv_verdict.specs.Way.{IsRefusal, IsRefusedFor, IsWay, LeadTo}
 use Rattle.dnsv_verdict.specs.declared.error.VerdictError.{VerdictError}
 use Rattle.dnsv_verdict.specs.declared.link.Link.{Link}
 use Rattle.dnsv_verdict.specs.declared.verdict.Verdict.{Verdict}
-use Rattle.dnsv_verdict.specs.declared.verdict.Verdict.TheVariants.{SecureAnswer, SecureAlias, SecureNoName, SecureNoData, Insecure, Pending, Bogus, Indeterminate}
+use Rattle.dnsv_verdict.specs.declared.verdict.Verdict.TheVariants.{SecureAlias, Pending, Bogus, Indeterminate}
 use Rattle.dnsv_texts.specs.declared.format.Format.{Format}
 use Rattle.dnsv_timeline_laws.proofs.WithinLemmas.{table_alike}
 use Rattle.dnsv_timeline_laws.specs.Alike.{AreAnsweredAlike}
@@ -81,17 +81,13 @@ module _ (depends : DependsOnAsked) (basis : Basis) (other : Entry → Answer) (
 
   verdict_to : (name : Labels) (t : ℕ) (verdict : Verdict) → IsVerdictAt basis name t verdict
       → IsVerdictAt (with_meaning basis other) name t verdict
-  verdict_to name t (SecureAnswer k s) is = settled_as name t (SecureAnswer k s) is
-  verdict_to name t (SecureAlias k s) is = settled_as name t (SecureAlias k s) is
-  verdict_to name t (SecureNoName proof) is = settled_as name t (SecureNoName proof) is
-  verdict_to name t (SecureNoData proof) is = settled_as name t (SecureNoData proof) is
-  verdict_to name t (Insecure cut) is = settled_as name t (Insecure cut) is
   verdict_to name t (Pending entries) is =
       ((λ settles. is.0 (settled_by_from name t settles)), may_to name t is.1, unknown_to entries is.2)
   verdict_to name t Bogus is =
       ((λ settles. is.0 (settled_by_from name t settles)), (λ may. is.1 (may_from name t may)), is.2)
   verdict_to name t Indeterminate is =
       ((λ settles. is.0 (settled_by_from name t settles)), (λ may. is.1 (may_from name t may)), is.2)
+  verdict_to name t verdict is = settled_as name t verdict is
 
   -- ---- ways
 

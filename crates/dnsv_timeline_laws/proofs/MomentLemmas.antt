@@ -18,7 +18,7 @@ use Rattle.dnsv_verdict.specs.Way.{IsLink, IsRefusal, IsRefusedFor, IsTarget, Is
 use Rattle.dnsv_verdict.specs.declared.error.VerdictError.{VerdictError}
 use Rattle.dnsv_verdict.specs.declared.link.Link.{Link}
 use Rattle.dnsv_verdict.specs.declared.verdict.Verdict.{Verdict}
-use Rattle.dnsv_verdict.specs.declared.verdict.Verdict.TheVariants.{SecureAnswer, SecureAlias, SecureNoName, SecureNoData, Insecure, Pending, Bogus, Indeterminate}
+use Rattle.dnsv_verdict.specs.declared.verdict.Verdict.TheVariants.{SecureAlias, Pending, Bogus, Indeterminate}
 use Rattle.dnsv_verdict.proofs.SettledLemmas.{settled_as_to, settled_to}
 use Rattle.dnsv_timeline.specs.Timeline.{AreSameValid}
 use Rattle.dnsv_timeline.specs.declared.times.Times.{Times}
@@ -124,11 +124,6 @@ module _ (basis : Basis) (other : ℕ) (same : AreSignaturesSameValid basis.rrse
       → IsSecured meaning basis.moment basis.rrsets basis.anchors k s
   secured_from meaning = secured_at meaning other basis.moment basis.rrsets basis.anchors from
 
-  settled_by_to : (name : Labels) (t : ℕ) → IsSettledBy basis name t → IsSettledBy (at_moment basis other) name t
-  settled_by_to name t =
-      settled_to (IsSecured basis.meaning basis.moment basis.rrsets basis.anchors) (IsSecured basis.meaning other basis.rrsets basis.anchors)
-      (secured_to basis.meaning) basis.rrsets basis.rrsets (λ k rrset is. is) name t
-
   settled_by_from : (name : Labels) (t : ℕ) → IsSettledBy (at_moment basis other) name t → IsSettledBy basis name t
   settled_by_from name t =
       settled_to (IsSecured basis.meaning other basis.rrsets basis.anchors) (IsSecured basis.meaning basis.moment basis.rrsets basis.anchors)
@@ -161,17 +156,13 @@ module _ (basis : Basis) (other : ℕ) (same : AreSignaturesSameValid basis.rrse
   }
 
   pub verdict_to : (name : Labels) (t : ℕ) (verdict : Verdict) → IsVerdictAt basis name t verdict → IsVerdictAt (at_moment basis other) name t verdict
-  verdict_to name t (SecureAnswer k s) is = settled_as name t (SecureAnswer k s) is
-  verdict_to name t (SecureAlias k s) is = settled_as name t (SecureAlias k s) is
-  verdict_to name t (SecureNoName proof) is = settled_as name t (SecureNoName proof) is
-  verdict_to name t (SecureNoData proof) is = settled_as name t (SecureNoData proof) is
-  verdict_to name t (Insecure cut) is = settled_as name t (Insecure cut) is
   verdict_to name t (Pending entries) is =
       ((λ settles. is.0 (settled_by_from name t settles)), may_to name t is.1, unknown_to entries is.2)
   verdict_to name t Bogus is =
       ((λ settles. is.0 (settled_by_from name t settles)), (λ may. is.1 (may_from name t may)), is.2)
   verdict_to name t Indeterminate is =
       ((λ settles. is.0 (settled_by_from name t settles)), (λ may. is.1 (may_from name t may)), is.2)
+  verdict_to name t verdict is = settled_as name t verdict is
 
   -- ---- ways
 

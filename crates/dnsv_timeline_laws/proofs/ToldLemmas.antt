@@ -1,5 +1,5 @@
 -- What is told of a question's way and its verdict is the same at each moment at which the same signatures are valid.
-use Rattle.std.proofs.Common.{◌≡◌, ◌+◌, ℕ, List, [], ◌∷◌, ◌++◌, Some, None, refl, sym, subst}
+use Rattle.std.proofs.Common.{◌≡◌, ℕ, List, [], ◌∷◌, ◌++◌, None, refl, sym, subst}
 use Rattle.dnsv_names.specs.Name.{Labels, rightmost}
 use Rattle.dnsv_canonical.specs.Rrsets.{ReceivedRrset}
 use Rattle.dnsv_canonical.specs.declared.number.SignatureNumber.{SignatureNumber}
@@ -18,11 +18,10 @@ use Rattle.dnsv_derivations.specs.Denials.{IsDenialTold, IsExpandedTold, IsProof
 use Rattle.dnsv_derivations.specs.Explained.{Explained, Setting, setting_in}
 use Rattle.dnsv_derivations.specs.Saying.{AreBoth, AreEach}
 use Rattle.dnsv_derivations.specs.derivations.OwnDerivations.{AreRecordsDerived, IsSignatureTold, IsTrustIn}
-use Rattle.dnsv_derivations.specs.unsigned_cuts.ShownCuts.{IsCutShownBy, IsCutTold, IsUnsignedTold}
+use Rattle.dnsv_derivations.specs.unsigned_cuts.ShownCuts.{IsCutTold}
 use Rattle.dnsv_derivations.specs.unsigned_cuts.UnsignedCuts.{AreAllTold, IsCaseTold, IsFirstUnusable, IsUnusableSet, IsUnusableTold}
 use Rattle.dnsv_lines.specs.declared.line.Line.{Line}
 use Rattle.dnsv_lines.specs.declared.line.Line.TheVariants as line
-use Rattle.dnsv_lines.specs.declared.line.cut.InsecureCase.{InsecureCase}
 use Rattle.dnsv_lines.specs.declared.line.cut.InsecureCase.TheVariants as case
 use Rattle.dnsv_explain.specs.Explained.{basis_in, hoped}
 use Rattle.dnsv_explain.specs.Explanation.{IsHopeTold, IsLinkTold, IsNoDataTold, IsNoNameTold, IsSetTold, IsSettledTold, IsUnsignedFromTold, IsVerdictTold, signature_of}
@@ -85,15 +84,6 @@ module _ (rrsets : List ReceivedRrset) (anchors : List Anchor) (meaning : Entry 
 
     -- ---- where the name may be unsigned
 
-    unsigned_told : (shown : ShownDenial) (kind : InsecureCase) (at : Labels) (before lines : List Line)
-        → IsUnsignedTold Here name shown kind at before lines → IsUnsignedTold There name shown kind at before lines
-    unsigned_told shown kind at =
-        both_too {First = AreRecordsDerived Here shown.proof.zone shown.proof.records}
-        {Second = AreBoth (IsCaseTold kind at (Some shown.proof.zone)) (IsProofWithParts rrsets name shown)}
-        {Third = AreRecordsDerived There shown.proof.zone shown.proof.records}
-        {Fourth = AreBoth (IsCaseTold kind at (Some shown.proof.zone)) (IsProofWithParts rrsets name shown)}
-        (records_derived rrsets anchors meaning todo moment other to from shown.proof.zone shown.proof.records) (λ before lines told. told)
-
     unusable_set : (at : Labels) (k : ℕ) → IsUnusableSet Here at k → IsUnusableSet There at k
     unusable_set at k is = record {
       ds = is.ds;
@@ -135,20 +125,16 @@ module _ (rrsets : List ReceivedRrset) (anchors : List Anchor) (meaning : Entry 
     }
 
     cut_told : (shown : ShownCut) (before lines : List Line) → IsCutTold Here name shown before lines → IsCutTold There name shown before lines
-    cut_told (cut.NoDs labels shown) before lines told = unsigned_told shown case.UnsignedDelegation (rightmost name labels) before lines told
+    cut_told (cut.NoDs labels shown) before lines told = denial_told shown before lines told
     cut_told (cut.NoUsableDs labels) before lines told = unusable_told (rightmost name labels) before lines told
-    cut_told (cut.OptOut labels shown) before lines told = unsigned_told shown case.OptOut (rightmost name (labels + 1)) before lines told
+    cut_told (cut.OptOut labels shown) before lines told = denial_told shown before lines told
 
     unsigned_from : (t : ℕ) (before lines : List Line) → IsUnsignedFromTold Here name t before lines → IsUnsignedFromTold There name t before lines
     unsigned_from t before lines (by_cut shown is told) =
         by_cut shown (is.0, trust_too rrsets anchors meaning todo moment other to from is.0 is.1, is.2) (cut_told shown before lines told)
     unsigned_from t before lines (loosely trust good none k s first shown is told) =
         loosely trust (trust_too rrsets anchors meaning todo moment other to from trust good) none k s first shown is
-        (both_too {First = IsSignatureTold Here (signature_of k s)}
-        {Second = IsUnsignedTold Here name shown case.OptOutWildcard (rightmost name (first.such.rrsig.labels + 1))}
-        {Third = IsSignatureTold There (signature_of k s)}
-        {Fourth = IsUnsignedTold There name shown case.OptOutWildcard (rightmost name (first.such.rrsig.labels + 1))}
-        (signature_too (signature_of k s)) (unsigned_told shown case.OptOutWildcard (rightmost name (first.such.rrsig.labels + 1))) before lines told)
+        (expanded_told (signature_of k s) shown before lines told)
 
     -- ---- the verdict
 
@@ -159,9 +145,7 @@ module _ (rrsets : List ReceivedRrset) (anchors : List Anchor) (meaning : Entry 
     settled_told t (SecureNoName proof) before lines told = no_name_told before lines told
     settled_told t (SecureNoData proof) before lines told = no_data_told t before lines told
     settled_told t (Insecure cut) before lines told = unsigned_from t before lines told
-    settled_told t (Pending entries) before lines told = told
-    settled_told t Bogus before lines told = told
-    settled_told t Indeterminate before lines told = told
+    settled_told t verdict before lines told = told
 
   pub links_told : (links : List Link) (before lines : List Line) → AreEach (IsLinkTold Here) links before lines
       → AreEach (IsLinkTold There) links before lines
@@ -225,16 +209,10 @@ module _ (explained : Explained) (other : ℕ) (to : StayValid explained.rrsets 
 
   told_too : (t : ℕ) (links : List Link) (last : Labels) (verdict : Verdict) (lines : List Line)
       → IsDerivationTold explained t links last verdict lines → IsDerivationTold (explained_at explained other) t links last verdict lines
-  told_too t links last (SecureAnswer k s) lines told = way_too t links last (SecureAnswer k s) (settled_too last t (SecureAnswer k s)) lines told
-  told_too t links last (SecureAlias k s) lines told = way_too t links last (SecureAlias k s) (settled_too last t (SecureAlias k s)) lines told
-  told_too t links last (SecureNoName proof) lines told =
-      way_too t links last (SecureNoName proof) (settled_too last t (SecureNoName proof)) lines told
-  told_too t links last (SecureNoData proof) lines told =
-      way_too t links last (SecureNoData proof) (settled_too last t (SecureNoData proof)) lines told
-  told_too t links last (Insecure cut) lines told = way_too t links last (Insecure cut) (settled_too last t (Insecure cut)) lines told
   told_too t links last (Pending unknown) lines told = way_too t links last (Pending unknown) (hope_too last t unknown) lines told
   told_too t links last Bogus lines told = all_links links [] lines told
   told_too t links last Indeterminate lines told = all_links links [] lines told
+  told_too t links last verdict lines told = way_too t links last verdict (settled_too last t verdict) lines told
 
 -- ---- with the table
 

@@ -24,9 +24,6 @@ module _ (rrsets : List ReceivedRrset) (borders : List Border) where
     pub rest : (others : List ShownBorder) → AreOfEach (AreShownAs rrsets) (drop i borders) others
         → AreOfEach (AreShownAs rrsets) borders (all ++ others)
 
-  pub shown_none : AreShownTo 0 []
-  shown_none = record { rest = λ others are. are }
-
   pub shown_more : (i : ℕ) (border : Border) (old new : List ShownBorder) → drop i borders ≡ border ∷ drop (i + 1) borders
       → AreShownTo i old → AddsShown rrsets border old new → AreShownTo (i + 1) new
   shown_more i border old new here so_far adds = record {

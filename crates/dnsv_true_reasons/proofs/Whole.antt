@@ -43,7 +43,7 @@ use Rattle.dnsv_faults.specs.Zones.{AreZoneFacts}
 use Rattle.dnsv_faults.proofs.lemmas.zones.ClosedLemmas.{among_of, closed_signature, contains_of}
 use Rattle.dnsv_faults.proofs.lemmas.zones.InPlaceLemmas.{at_or_above, signer_there}
 use Rattle.dnsv_faults.proofs.lemmas.zones.TrustLemmas.{number_of, zip_right}
-use Rattle.dnsv_faults.proofs.lemmas.ZoneKeyLemmas.{same_number}
+use Rattle.dnsv_zone_keys.proofs.lemmas.ZoneKeyLemmas.{same_number}
 use Rattle.dnsv_gaps.specs.Asking.{Asking}
 use Rattle.dnsv_gaps.specs.Cases.{AreRecordsAt, AreShowing, AreWildcardFacts, IsBestCover, IsRuledOut, IsSourceCase}
 use Rattle.dnsv_gaps.specs.Cases.AreShowing.{needless, by_records}

@@ -47,9 +47,6 @@ module _ (entries : List Entry) where
     less = λ i j d before below within. rising.less i j d before (omega (arith, within, past)) within;
   }
 
-  pub rising_few : length entries ≤ 1 → AreRising entries
-  rising_few few = record { less = λ i j d before below within. absurd (omega (arith, before, within, few)) }
-
   -- ---- by halves
 
   module _ (wanted : Entry) where

@@ -12,10 +12,12 @@ use Rattle.dnsv_chain.specs.Ds.{IsMatch}
 use Rattle.dnsv_chain.specs.Trusted.{IsKeyOf, IsTrusted}
 use Rattle.dnsv_chain.specs.declared.anchor.Anchor.{Anchor}
 use Rattle.dnsv_chain.specs.declared.anchor.Anchor.TheVariants as anchor
+use Rattle.dnsv_denial.specs.words.EvidenceWords.{number_cmp}
 use Rattle.dnsv_derivations.specs.Explained.{IsTodo, Setting}
 use Rattle.dnsv_derivations.specs.Following.{IsGoodUnder, IsNamed}
 use Rattle.dnsv_derivations.specs.derivations.NewKeys.{AreNewKeys}
-use Rattle.dnsv_derivations.specs.derivations.Ways.{HasSecured, IsFirstWay, IsLess, IsWayInto, Way, voucher_rank}
+use Rattle.dnsv_derivations.specs.derivations.Ways.{HasSecured, IsFirstWay, IsWayInto, Way, voucher_rank}
+use Rattle.dnsv_canonical.specs.declared.number.RecordNumber.{RecordNumber}
 use Rattle.dnsv_canonical.specs.declared.number.SignatureNumber.{SignatureNumber}
 use Rattle.dnsv_lines.specs.declared.line.derivation.Voucher.{Voucher}
 use Rattle.dnsv_lines.specs.declared.line.derivation.Voucher.TheVariants as voucher
@@ -144,9 +146,14 @@ pub record IsKeptWay (setting : Setting) (k : ℕ) (kept : KeptWay) : Type 0 whe
 abbrev pub AreFirstWays : Setting → List KeptWay → Type 0
 AreFirstWays setting ways = (k : ℕ) (kept : KeptWay) → IsNumbered ways k kept → IsKeptWay setting k kept
 
--- no way goes before this rank
-abbrev pub IsNoWayBefore : Setting → ℕ → ℕ × ℕ × ℕ → Type 0
-IsNoWayBefore setting k rank = (way : Way) → IsWayInto setting k way → ¬ IsLess (voucher_rank way.voucher) rank
+-- the record of the RRset at the place, from 1 on; an anchor, where the RRset is 0
+abbrev pub record_at : ℕ → ℕ → RecordNumber
+record_at rrset place = record { rrset = rrset; place = place }
+
+-- no way goes before it
+abbrev pub IsNoWayBefore : Setting → ℕ → ℕ → ℕ → Type 0
+IsNoWayBefore setting k rrset place =
+    (way : Way) → IsWayInto setting k way → number_cmp (voucher_rank way.voucher) (record_at rrset place) ≢ Less
 
 -- the number at a place, counted from 0, or one that no RRset has
 abbrev pub number_or_end : List ReceivedRrset → List ℕ → ℕ → ℕ

@@ -1,12 +1,14 @@
 -- By which anchor or DS record, which key and which signature a DNSKEY RRset is trusted (RFC 4035 5).
-use Rattle.std.specs.Prelude.{◌≡◌, ◌≢◌, ◌<◌, ◌≤◌, ◌⊎◌, ℕ}
+use Rattle.std.specs.Prelude.{◌≡◌, ◌≢◌, ◌≤◌, ℕ}
 use Rattle.std.specs.declared.cmp.Ordering.TheVariants.{Less}
 use Rattle.dnsv_canonical.specs.Canonical.{rdata_cmp}
 use Rattle.dnsv_canonical.specs.Rrsets.{IsNumbered, ReceivedRrset}
 use Rattle.dnsv_verifier.specs.Admissible.{DnskeyRecord}
 use Rattle.dnsv_chain.specs.Trusted.{IsKeyOf, IsSecured, IsTrusted}
+use Rattle.dnsv_denial.specs.words.EvidenceWords.{number_cmp}
 use Rattle.dnsv_derivations.specs.Explained.{IsTodo, Setting}
 use Rattle.dnsv_derivations.specs.Following.{IsGoodUnder, IsMatchedBy, IsNamed}
+use Rattle.dnsv_canonical.specs.declared.number.RecordNumber.{RecordNumber}
 use Rattle.dnsv_canonical.specs.declared.number.SignatureNumber.{SignatureNumber}
 use Rattle.dnsv_lines.specs.declared.line.derivation.SignedRrset.{SignedRrset}
 use Rattle.dnsv_lines.specs.declared.line.derivation.TrustedKeys.{TrustedKeys}
@@ -38,21 +40,18 @@ pub record IsWayInto (setting : Setting) (k : ℕ) (way : Way) : Type 0 where
 
 -- ---- the first way
 
--- anchors come before DS records: anchors by their numbers, DS records by those of their RRsets, then by their places
-abbrev pub voucher_rank : Voucher → ℕ × ℕ × ℕ
-voucher_rank (voucher.KeyAnchor number) = (0, number, 0)
-voucher_rank (voucher.DsAnchor number digest_type) = (0, number, 0)
-voucher_rank (voucher.Ds number digest_type) = (1, number.rrset, number.place)
+-- anchors come before DS records, as if they were the records of an RRset 0
+abbrev pub voucher_rank : Voucher → RecordNumber
+voucher_rank (voucher.KeyAnchor number) = record { rrset = 0; place = number }
+voucher_rank (voucher.DsAnchor number digest_type) = record { rrset = 0; place = number }
+voucher_rank (voucher.Ds number digest_type) = number
 
--- the first of the three numbers that differ is less
-abbrev pub IsLess : ℕ × ℕ × ℕ → ℕ × ℕ × ℕ → Type 0
-IsLess a b = (a.0 < b.0) ⊎ ((a.0 ≡ b.0) × ((a.1 < b.1) ⊎ ((a.1 ≡ b.1) × (a.2 < b.2))))
-
--- A way than which none is earlier: by what matches, then by the RDATA of the key as unsigned octets, then by the number
--- of the signature.
+-- A way than which none is earlier: by what matches, anchors by their numbers and DS records by those of their RRsets and
+-- then by their places; then by the RDATA of the key as unsigned octets; then by the number of the signature.
 pub record IsFirstWay (setting : Setting) (k : ℕ) (way : Way) : Type 0 where
   pub is : IsWayInto setting k way
-  pub voucher : (other : Way) → IsWayInto setting k other → ¬ IsLess (voucher_rank other.voucher) (voucher_rank way.voucher)
+  pub voucher : (other : Way) → IsWayInto setting k other
+      → number_cmp (voucher_rank other.voucher) (voucher_rank way.voucher) ≢ Less
   pub key : (other : Way) → IsWayInto setting k other → other.voucher ≡ way.voucher
       → rdata_cmp other.key.rdata way.key.rdata ≢ Less
   pub signature : (other : Way) → IsWayInto setting k other → other.voucher ≡ way.voucher → other.key ≡ way.key

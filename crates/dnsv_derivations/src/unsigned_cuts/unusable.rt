@@ -6,8 +6,9 @@ ghost use Rattle.dnsv_chain.specs.Ds.{IsUsable};
 ghost use Rattle.dnsv_derivations.specs.Explained.{setting_in};
 ghost use Rattle.dnsv_derivations.specs.Following.Parts.{IsWhy};
 ghost use Rattle.dnsv_derivations.specs.Saying.{Adds};
-ghost use Rattle.dnsv_derivations.specs.unsigned_cuts.UnsignedCuts.{AreAllTold, IsCaseTold, IsFirstUnusable, IsUnusableSet, IsUnusableTold};
+ghost use Rattle.dnsv_derivations.specs.unsigned_cuts.UnsignedCuts.{AreAllTold, IsFirstUnusable, IsUnusableSet, IsUnusableTold};
 
+use crate::denials::case::add_case;
 use crate::derivations::lowest_secured;
 use crate::derivations::own::add_derivation;
 use crate::derivations::ways::by_ds::may_delegate;
@@ -15,7 +16,7 @@ use crate::evidence::Evidence;
 use dnsv_canonical::{RecordNumber, Rrset, in_canonical_order, numbered};
 use dnsv_chain::has_usable;
 use dnsv_digest::DigestAlgorithm;
-use dnsv_lines::{Cut, InsecureCase, KeyName, Line, UnusableDs, WhyUnusable};
+use dnsv_lines::{InsecureCase, KeyName, Line, UnusableDs, WhyUnusable};
 use dnsv_names::Name;
 use dnsv_records::Ds;
 use std::alloc::{AllocError, Global};
@@ -65,24 +66,6 @@ fn is_unusable(evidence: &Evidence<'_>, number: usize, rrset: &Rrset<'_>, name: 
         return false;
     }
     !has_usable(rrset.ds_records())
-}
-
-/// Adds the line of the case.
-pub fn add_case(
-    lines: &mut Vec<Line>,
-    case: InsecureCase,
-    name: &Name,
-    zone: Option<Name>,
-) -> Result<(), AllocError>
-    ensures { OnOk result (Adds (IsCaseTold case name.now zone) lines.old.items lines.new.items) }
-{
-    let cut = Cut {
-        case,
-        name: name.clone()?,
-        zone,
-    };
-    lines.push(Line::Case(cut))?;
-    Ok(())
 }
 
 /// Adds why each record of the DS RRset with the number can't be used.

@@ -67,7 +67,7 @@ impl<'a> Explainer<'a> {
     }
 
     /// That of a case which was made elsewhere, so that nobody is asked anything. The case is of what some verifier says
-    /// of its evidence, as each case of `Case::new` is, and each of `Case::of` with a table of the capture.
+    /// of its evidence, as each case of `Case::new` is, and each of `Case::of` with a table of what one says.
     pub fn of(alloc: Global, case: Case<'a>) -> Result<Explainer<'a>, AllocError>
         requires { (basis : Basis) × IsCaseOf basis case }
         ensures contents { IfOk result (λ explainer. explainer ≡ case.entry) }

@@ -12,9 +12,9 @@ ghost use Rattle.dnsv_derivations.specs.derivations.OwnDerivations.{SecuredIn};
 
 use crate::explanation::at::At;
 use dnsv_canonical::SignatureNumber;
-use dnsv_denial::{PartName, View};
-use dnsv_derivations::{Evidence, add_derivation, add_unsigned};
-use dnsv_lines::{InsecureCase, Line};
+use dnsv_denial::View;
+use dnsv_derivations::{Evidence, add_denial, add_derivation};
+use dnsv_lines::Line;
 use dnsv_names::RecordType;
 use dnsv_verdict::{Found, opt_out_wildcard};
 use std::alloc::{AllocError, Global};
@@ -37,7 +37,6 @@ pub fn add_wildcard_cut(
     ensures { OnOk result (Adds (IsUnsignedFromTold (setting_in evidence.now) at.now.name.now rtype.0) lines.old.items
         lines.new.items) }
 {
-    let name = at.name;
     let Some(found) = open_wildcard(at, view, rtype) else {
         return Ok(());
     };
@@ -50,9 +49,7 @@ pub fn add_wildcard_cut(
         signature: found.signature,
     };
     add_derivation(alloc, evidence, lines, number)?;
-    let cut = PartName::NextCloser(labels).of(name);
-    let case = InsecureCase::OptOutWildcard;
-    add_unsigned(alloc, evidence, lines, name, &shown, case, &cut)?;
+    add_denial(alloc, evidence, lines, at.name, &shown)?;
     Ok(())
 }
 

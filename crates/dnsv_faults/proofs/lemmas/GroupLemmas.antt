@@ -25,10 +25,10 @@ use Rattle.dnsv_mending.specs.declared.facts.zone.DsFacts.{DsFacts}
 use Rattle.std.proofs.lemmas.List.Elements.{Contains-get_or}
 use Rattle.dnsv_faults.specs.Groups.{AreAnchorFactsFrom, AreDsFacts, AreRecordFacts, IsRecordFacts, anchor_wanted}
 use Rattle.dnsv_faults.specs.Groups.GroupSearch.{AddsAnchor, AddsDs, HasStronger, IsDsNumber}
-use Rattle.dnsv_faults.specs.Keys.Index.{Placed}
-use Rattle.dnsv_faults.specs.Vouchers.{AreVoucherFacts}
-use Rattle.dnsv_faults.specs.Vouchers.Wanted.{by_digest}
-use Rattle.dnsv_faults.specs.Vouchers.VoucherSearch.{AreKeysOfZone}
+use Rattle.dnsv_zone_keys.specs.Keys.Index.{Placed}
+use Rattle.dnsv_zone_keys.specs.Vouchers.{AreVoucherFacts}
+use Rattle.dnsv_zone_keys.specs.Vouchers.Wanted.{by_digest}
+use Rattle.dnsv_zone_keys.specs.Vouchers.VoucherSearch.{AreKeysOfZone}
 
 -- ---- anchors
 

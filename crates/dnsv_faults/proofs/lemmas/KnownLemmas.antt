@@ -25,8 +25,8 @@ use Rattle.dnsv_verifier.specs.Admissible.{IsSignatureOf}
 use Rattle.dnsv_verifier.specs.Asking.{AddsJust, ComesOfSome}
 use Rattle.dnsv_faults.specs.KnownZones.KnownSearch.{AreKnownTo, AreSpoken, IsAbove, IsSignedFromAbove, IsSignerAbove, IsSpokenBy}
 use Rattle.dnsv_faults.specs.KnownZones.{AreKnownZones, HasOwnAnchor, HasRrset, IsFromAbove, IsKnownZone, IsSpeaker, IsSpeakerOf, MaySpeak}
-use Rattle.dnsv_faults.specs.Keys.{HasKeys}
-use Rattle.dnsv_faults.proofs.lemmas.IndexLemmas.{numbered_at}
+use Rattle.dnsv_zone_keys.specs.Keys.{HasKeys}
+use Rattle.dnsv_zone_keys.proofs.lemmas.IndexLemmas.{numbered_at}
 
 -- ---- above a name
 

@@ -17,12 +17,12 @@ use Rattle.dnsv_verifier.proofs.NumberLemmas.{contains_map}
 use Rattle.dnsv_verifier.specs.Admissible.{DnskeyRecord}
 use Rattle.dnsv_verifier.specs.Asking.{GivesEach}
 use Rattle.dnsv_verdict.specs.Verdict.{Basis}
-use Rattle.dnsv_faults.specs.Answers.AnswerSearch.{ArePutInOrder, IsSaidOf}
-use Rattle.dnsv_faults.specs.Keys.Index.{Placed}
-use Rattle.dnsv_faults.specs.Keys.KeySearch.{AreNamedOf}
-use Rattle.dnsv_faults.specs.Keys.{IsKeyPlaced, IsZoneKey}
+use Rattle.dnsv_zone_keys.specs.Answers.AnswerSearch.{ArePutInOrder, IsSaidOf}
+use Rattle.dnsv_zone_keys.specs.Keys.Index.{Placed}
+use Rattle.dnsv_zone_keys.specs.Keys.KeySearch.{AreNamedOf}
+use Rattle.dnsv_zone_keys.specs.Keys.{IsKeyPlaced, IsZoneKey}
 use Rattle.dnsv_faults.specs.Signatures.{AreNamedKeys, IsNamedKey}
-use Rattle.dnsv_faults.proofs.lemmas.IndexLemmas.{IsFoundAs, found_as, of_signer, zone_key_too}
+use Rattle.dnsv_zone_keys.proofs.lemmas.IndexLemmas.{IsFoundAs, found_as, of_signer, zone_key_too}
 use Rattle.dnsv_faults.proofs.lemmas.OrderLemmas.{sorted_map}
 
 abbrev pub place_of : NamedKey → ℕ

@@ -19,7 +19,7 @@ use Rattle.dnsv_faults.specs.Rrsets.{AreInOrder, AreRrsetFacts, Rank, rank_cmp, 
 use Rattle.dnsv_faults.specs.Rrsets.RrsetSearch.{rank, seen_signature}
 use Rattle.dnsv_faults.specs.Signatures.{AreSignatureFacts, IsSignatureAt}
 use Rattle.dnsv_faults.specs.declared.rrset.NumberedSignature.{NumberedSignature}
-use Rattle.dnsv_faults.proofs.lemmas.OnceLemmas.{placed-push}
+use Rattle.dnsv_zone_keys.proofs.lemmas.OnceLemmas.{placed-push}
 
 pub rank_cmp_total : IsTotalOrder rank_cmp
 rank_cmp_total = then_total (back_total (on_total (λ (r : Rank). r.labels) nat_cmp_total)) (on_total (λ (r : Rank). r.number) nat_cmp_total)

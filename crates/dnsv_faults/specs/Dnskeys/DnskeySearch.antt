@@ -16,13 +16,13 @@ use Rattle.dnsv_verdict.specs.Case.{CaseContents, basis_by}
 use Rattle.dnsv_verdict.specs.Verdict.{Basis}
 use Rattle.dnsv_mending.specs.declared.facts.keys.DnskeyFacts.{DnskeyFacts}
 use Rattle.dnsv_mending.specs.declared.facts.keys.SelfSignature.{SelfSignature}
-use Rattle.dnsv_faults.specs.Answers.AnswerSearch.{IsAskedOf}
+use Rattle.dnsv_zone_keys.specs.Answers.AnswerSearch.{IsAskedOf}
 use Rattle.dnsv_faults.specs.Dnskeys.{AreDnskeyFacts, IsOwnSignature, MayBeBy}
 use Rattle.dnsv_faults.specs.Dnskeys.OwnSearch.{IsSigning}
-use Rattle.dnsv_faults.specs.Keys.{AreZoneKeys, IsKeyPlaced}
-use Rattle.dnsv_faults.specs.Keys.Index.{Placed}
+use Rattle.dnsv_zone_keys.specs.Keys.{AreZoneKeys, IsKeyPlaced}
+use Rattle.dnsv_zone_keys.specs.Keys.Index.{Placed}
 use Rattle.dnsv_faults.specs.Signatures.{IsSignatureAt}
-use Rattle.dnsv_faults.specs.Vouchers.VoucherSearch.{AreKeysOfZone, ArePlacesOf}
+use Rattle.dnsv_zone_keys.specs.Vouchers.VoucherSearch.{AreKeysOfZone, ArePlacesOf}
 use Rattle.dnsv_faults.specs.declared.zone.dnskeys.tagged.OwnSignature.{OwnSignature}
 use Rattle.dnsv_faults.specs.declared.zone.dnskeys.set.KeyedSet.{KeyedSet}
 use Rattle.dnsv_faults.specs.declared.zone.keyed.KeyedZone.{KeyedZone}

@@ -2,8 +2,8 @@
 use Rattle.std.specs.Prelude.{◌≡◌, ℕ, List, Contains}
 use Rattle.dnsv_records.specs.Dnskey.KeyTag.{key_tag_of}
 use Rattle.dnsv_verifier.specs.Admissible.{DnskeyRecord}
-use Rattle.dnsv_faults.specs.Keys.{IsNamed}
-use Rattle.dnsv_faults.specs.Keys.Index.{Placed}
+use Rattle.dnsv_zone_keys.specs.Keys.{IsNamed}
+use Rattle.dnsv_zone_keys.specs.Keys.Index.{Placed}
 use Rattle.dnsv_faults.specs.declared.zone.dnskeys.tagged.OwnSignature.{OwnSignature}
 
 abbrev pub tag_of_own : OwnSignature → ℕ

@@ -16,9 +16,9 @@ use Rattle.dnsv_mending.specs.declared.facts.keys.VoucherFacts.{VoucherFacts}
 use Rattle.dnsv_mending.specs.declared.facts.signature.SignatureFacts.{SignatureFacts}
 use Rattle.dnsv_mending.specs.declared.facts.zone.DsFacts.{DsFacts}
 use Rattle.dnsv_faults.specs.Groups.{AreDsFacts, AreRecordFacts, anchor_wanted}
-use Rattle.dnsv_faults.specs.Keys.Index.{Placed}
-use Rattle.dnsv_faults.specs.Vouchers.{AreVoucherFacts}
-use Rattle.dnsv_faults.specs.Vouchers.VoucherSearch.{AreKeysOfZone}
+use Rattle.dnsv_zone_keys.specs.Keys.Index.{Placed}
+use Rattle.dnsv_zone_keys.specs.Vouchers.{AreVoucherFacts}
+use Rattle.dnsv_zone_keys.specs.Vouchers.VoucherSearch.{AreKeysOfZone}
 use Rattle.dnsv_faults.specs.declared.zone.groups.ds.IgnoredTypes.{IgnoredTypes}
 
 -- ---- anchors

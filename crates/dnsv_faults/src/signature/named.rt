@@ -4,19 +4,17 @@ ghost use Rattle.std.specs.Option.{option_map};
 ghost use Rattle.dnsv_verdict.specs.Case.{basis_by};
 ghost use Rattle.dnsv_verifier.specs.Asking.{GivesEach, GivesMore};
 ghost use Rattle.dnsv_verifier.specs.Table.{table_answer};
-ghost use Rattle.dnsv_faults.specs.Answers.AnswerSearch.{ArePutInOrder, IsAskedOf, IsSaidOf};
-ghost use Rattle.dnsv_faults.specs.Keys.KeySearch.{AreNamedOf};
-ghost use Rattle.dnsv_faults.specs.Keys.{IsZoneKey};
+ghost use Rattle.dnsv_zone_keys.specs.Answers.AnswerSearch.{ArePutInOrder, IsAskedOf, IsSaidOf};
+ghost use Rattle.dnsv_zone_keys.specs.Keys.KeySearch.{AreNamedOf};
+ghost use Rattle.dnsv_zone_keys.specs.Keys.{IsZoneKey};
 ghost use Rattle.dnsv_faults.specs.Signatures.{AreNamedKeys};
 
-use crate::answers::{answer_under, asked_octets};
 use crate::case_facts::CaseFacts;
-use crate::keys::is_zone_key;
-use crate::keys::placed::PlacedKey;
 use dnsv_canonical::Rrset;
 use dnsv_mending::NamedKey;
 use dnsv_records::Rrsig;
 use dnsv_verifier::Table;
+use dnsv_zone_keys::{PlacedKey, answer_under, asked_octets, is_zone_key};
 use std::alloc::{AllocError, Global};
 
 /// The zone keys that the signature of the RRset names, each once and by its place among those of the signer, with the

@@ -11,7 +11,6 @@ ghost use Rattle.dnsv_faults.specs.Dnskeys.{AreAllDnskeyFacts, AreDnskeyFacts};
 ghost use Rattle.dnsv_faults.specs.Dnskeys.DnskeySearch.{AddsDnskey, AreKeyed, HasTrusting, IsKeyedSet, IsSetNumber, IsSetOf, IsTrusting, basis_in, basis_of_set};
 ghost use Rattle.dnsv_faults.specs.Dnskeys.OwnSearch.{HasGood, IsSigning};
 
-use crate::keys::placed::PlacedKey;
 use crate::zone::dnskeys::held::held_keys;
 use crate::zone::dnskeys::set::{KeyedSet, keyed_set};
 use crate::zone::dnskeys::tagged::{OwnSignature, OwnSignatures};
@@ -20,6 +19,7 @@ use crate::zone::places::Places;
 use dnsv_canonical::Rrset;
 use dnsv_mending::DnskeyFacts;
 use dnsv_names::RecordType;
+use dnsv_zone_keys::PlacedKey;
 use std::alloc::{AllocError, Global};
 
 /// What is so of the DNSKEY RRsets of the zone, by their numbers.

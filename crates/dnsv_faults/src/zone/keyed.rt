@@ -4,15 +4,14 @@ ghost use Rattle.dnsv_canonical.specs.Canonical.{rdata_cmp};
 ghost use Rattle.dnsv_verdict.specs.Case.{basis_by};
 ghost use Rattle.dnsv_faults.specs.Dnskeys.DnskeySearch.{IsKeyedFor, rdata_of};
 ghost use Rattle.dnsv_faults.specs.Groups.{AreAllDsFacts, AreAnchorFacts};
-ghost use Rattle.dnsv_faults.specs.Keys.Index.{Placed};
+ghost use Rattle.dnsv_zone_keys.specs.Keys.Index.{Placed};
 
 use crate::case_facts::CaseFacts;
-use crate::keys::placed::PlacedKey;
-use crate::keys::zone_keys;
 use crate::zone::places::Places;
 use crate::zone::vouched::vouched_places;
 use dnsv_mending::{DsFacts, VoucherFacts};
 use dnsv_names::Name;
+use dnsv_zone_keys::{PlacedKey, zone_keys};
 use std::alloc::{AllocError, Global};
 
 /// A zone with its keys, and with which of them anchors and DS records vouch for.

@@ -58,14 +58,6 @@ module _ (format : Format) (why : Bool) (numbers : Option (List ℕ)) (basis : B
   each_more (q ∷ qs) [] x answer each is = absurd each
   each_more (q ∷ qs) (a ∷ others) x answer each is = (each.0, each_more qs others x answer each.1 is)
 
-  no_answers : AreAnswers format why numbers basis [] Done []
-  no_answers = record {
-    answers = [];
-    each = tt;
-    ends = record { one = inl refl; greatest = λ other at. let none = at.1 in absurd (omega (arith, none)) };
-    joined = refl;
-  }
-
   more_answers : (asked : List Asked) (end new worse : Status) (text line : List ℕ) (x : Asked) → AreAnswers format why numbers basis asked end text
       → IsAnswer format why numbers basis x new line → (worse ≡ end) ⊎ (worse ≡ new)
       → (status_code end ≤ status_code worse) × (status_code new ≤ status_code worse)
@@ -87,9 +79,6 @@ module _ (format : Format) (why : Bool) (numbers : Option (List ℕ)) (basis : B
 
   one_more : (asked : List Asked) (done : ℕ) (x : Asked) → done < length asked → get_or asked done x ≡ x → take done asked ++ x ∷ [] ≡ take (done + 1) asked
   one_more asked done x within here = sym (take_more asked done x within ∙ ap (λ (each : Asked). take done asked ++ each ∷ []) here)
-
-  pub ToldSoFar-start : (asked : List Asked) (old : Option (List ℕ)) → Appends old old [] → ToldSoFar asked 0 Done old old
-  ToldSoFar-start asked old stays = record { text = []; answers = no_answers; grown = stays }
 
   pub ToldSoFar-next : (asked : List Asked) (done : ℕ) (end new worse : Status) (old now after : Option (List ℕ)) (x : Asked) → done < length asked → get_or asked done x ≡ x
       → ToldSoFar asked done end old now → ((line : List ℕ) × IsAnswer format why numbers basis x new line × Appends now after line)

@@ -21,15 +21,6 @@ use Rattle.dnsv_files.specs.Told.{IsOpenFault}
 use Rattle.dnsv_program.proofs.ProgramLemmas.{no_1, no_end, refused_alone}
 use Rattle.dnsv_program.proofs.ProgramLemmas.Words.{EndsSo, at_most_2, no_7_of_words}
 
--- a write of the line gives the whole, or a beginning of it and a call more that failed
-pub told_by_write : {W E T : Type 0} (contents : W → Option (List ℕ)) (old new : Counted W) (told : Fault) (result : Result T E)
-    → OnOk result (Appends (contents (inner_of old)) (contents (inner_of new)) (fault_line told))
-    → IfErr result (λ _. AppendsBeginning (contents (inner_of old)) (contents (inner_of new)) (fault_line told))
-    → failures_of new ≡ count_after (failures_of old) (is_err result)
-    → HasToldIn contents old new told
-told_by_write contents old new told (Ok done) whole begun counted = inl whole
-told_by_write contents old new told (Err error) whole begun counted = inr ((λ below. omega (arith, below, counted)), begun)
-
 -- ---- a question that is refused
 
 -- the run tells it
@@ -170,14 +161,3 @@ module _ (error : CommandLineError) (code : ℕ) (ends : EndsSo error code) wher
 
 apart : (told : Fault) → told ≡ fault.OutOfMemory → told ≡ fault.WriteFailed → ⊥
 apart told memory written = cc
-
--- a fault of the help that was asked for
-pub help_told : {W : Type 0} {IsLine : Fault → Type 0} (error : CommandLineError) (old new : Counted W) (outcome : Result Status Fault) (code : ℕ) → outcome_code outcome ≡ code
-    → command_line_code error ≡ 0
-    → IfErr outcome (λ told. ((told ≡ fault.OutOfMemory) × (new ≡ old))
-    ⊎ ((told ≡ fault.WriteFailed) × (failures_of old < 2 ^ 64 - 1 → failures_of old < failures_of new)))
-    → IfErr outcome IsLine → code ≡ 1
-    → (told : Fault) × IsLine told × LeavesOutput old new (⊥) told × IsWordsFault error told
-help_told error old new (Ok status) code is asked failed line is_1 = absurd (no_1 status (is ∙ is_1))
-help_told error old new (Err told) code is asked (inl (memory, same)) line is_1 = (told, line, leaves old new told (λ _ _. same) (λ wrong. absurd (apart told memory wrong)) (λ _. inl same), inl memory)
-help_told error old new (Err told) code is asked (inr (written, failed)) line is_1 = (told, line, leaves old new told (λ wrong _. absurd (wrong written)) (λ _. failed) (λ memory. absurd (apart told memory written)), inr (written, asked))

@@ -17,9 +17,6 @@ pub record ShownSoFar (frames : List (List ℕ)) (done : ℕ) (text : List ℕ) 
   pub many : length messages ≡ done
   pub written : text ≡ texts_from message_text 1 messages
 
-pub ShownSoFar-start : (frames : List (List ℕ)) (text : List ℕ) → text ≡ [] → ShownSoFar frames 0 text
-ShownSoFar-start frames text none = record { messages = []; judged = MessagesSoFar-start AnyMessage Plain frames; many = refl; written = none }
-
 pub ShownSoFar-next : {frames : List (List ℕ)} {done : ℕ} {text : List ℕ} → ShownSoFar frames done text → (octets : List ℕ) → done < length frames → get_or frames done [] ≡ octets
     → (message : Contents) (after : List ℕ) → IsInFrame Plain (done + 1) octets message → after ≡ text ++ message_text (done + 1) message → ShownSoFar frames (done + 1) after
 ShownSoFar-next {frames} {done} {text} shown octets within here message after found line = record {
@@ -31,7 +28,3 @@ ShownSoFar-next {frames} {done} {text} shown octets within here message after fo
       ∙ ap (λ rest. texts_from message_text 1 shown.messages ++ rest) (sym (append-nil (message_text (1 + length shown.messages) message)))
       ∙ sym (texts_from-append message_text 1 shown.messages (message ∷ []));
 }
-
-pub ShownSoFar-all : {frames : List (List ℕ)} {done : ℕ} {text : List ℕ} → ShownSoFar frames done text → length frames ≤ done
-    → (messages : List Contents) × AllTaken AnyMessage Plain no_evidence 1 frames messages × (text ≡ texts_from message_text 1 messages)
-ShownSoFar-all {frames} {done} shown all = (shown.messages, MessagesSoFar-all AnyMessage Plain frames done shown.messages all shown.judged, shown.written)

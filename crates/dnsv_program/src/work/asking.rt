@@ -8,8 +8,7 @@ ghost use Rattle.dnsv_verdict.specs.Case.{IsCaseOf};
 ghost use Rattle.dnsv_verdict.specs.Verdict.{Basis, basis_of};
 ghost use Rattle.dnsv_verdict.specs.Way.{IsRefusal};
 ghost use Rattle.dnsv_files.specs.Files.Faults.{OfFailedRead, TellsFaults};
-ghost use Rattle.dnsv_files.specs.Files.Questions.{HasQuestions};
-ghost use Rattle.dnsv_files.specs.Files.{AreTold, Files, octets_or_none};
+ghost use Rattle.dnsv_files.specs.Files.{AreTold, Files};
 ghost use Rattle.dnsv_program.specs.Run.{IsFirstFaultOfEach, IsReachedByEach};
 ghost use Rattle.dnsv_program.specs.Work.Asking.{AreAnswered, AreAnswers, AreFewerAnswered, AreFirstAnswered, IsAnswer, IsRefusedOne};
 ghost use Rattle.dnsv_files.specs.Told.{IsFaultOf};
@@ -31,6 +30,17 @@ use dnsv_texts::{Heading, refused_text};
 use dnsv_verdict::VerdictError;
 use std::alloc::{AllocError, Global};
 use std::io::{Read, Write};
+
+/// What is told of each question beside its own verdict, which is the same of all.
+#[derive(Drop)]
+struct Reporting<'a> {
+    telling: Telling,
+    moment: Moment,
+    /// Those of the evidence, which reports name by their numbers.
+    rrsets: &'a [Rrset<'a>],
+    /// The entries that answers leave open.
+    numbers: &'a OpenNumbers,
+}
 
 /// Each question of the file is judged in its order, and what is reported of it written, so that at most one text is kept. A
 /// question that is refused by itself is reported so, and the next is judged.
@@ -119,52 +129,48 @@ fn answer_all<W: Write>(
         &given.anchors,
         &given.said,
     )?;
-    tell_each(
-        alloc,
-        &mut judge,
+    let reporting = Reporting {
         telling,
         moment,
-        given.held.rrsets(),
-        &numbers,
-        questions,
-        output,
-    )
+        rrsets: given.held.rrsets(),
+        numbers: &numbers,
+    };
+    tell_each(alloc, &mut judge, &reporting, questions, output)
 }
 
 /// What is reported of each question is written, one behind the other.
 fn tell_each<W: Write>(
     alloc: Global,
     judge: &mut Judging<'_>,
-    telling: Telling,
-    moment: Moment,
-    rrsets: &[Rrset<'_>],
-    numbers: &OpenNumbers,
+    reporting: &Reporting<'_>,
     questions: &[StoredQuestion],
     output: &mut Counted<W>,
 ) -> Result<Status, Fault>
-    requires why { tells_why judge.now ≡ telling.why }
-    ensures done { (basis : Basis) → IsCaseOf basis (case_of judge.old) → rrsets.now ≡ basis.rrsets
-        → basis.moment ≡ moment → IfOk result (λ end. (text : List ℕ)
-        × AreAnswers telling.format telling.why numbers.now basis questions.now end text
+    requires why { tells_why judge.now ≡ reporting.now.telling.why }
+    ensures done { (basis : Basis) → IsCaseOf basis (case_of judge.old) → reporting.now.rrsets.now ≡ basis.rrsets
+        → basis.moment ≡ reporting.now.moment → IfOk result (λ end. (text : List ℕ)
+        × AreAnswers reporting.now.telling.format reporting.now.telling.why reporting.now.numbers.now basis
+        questions.now end text
         × Appends (W.contents (inner_of output.old)) (W.contents (inner_of output.new)) text) }
     ensures only { IfErr result (λ fault. (fault ≡ Fault.OutOfMemory) ⊎ (fault ≡ Fault.WriteFailed)) }
     ensures write { result ≡ Err Fault.WriteFailed
         → failures_of output.old < u64.MAX → failures_of output.old < failures_of output.new }
-    ensures begun { (basis : Basis) → IsCaseOf basis (case_of judge.old) → rrsets.now ≡ basis.rrsets
-        → basis.moment ≡ moment → result ≡ Err Fault.WriteFailed → (count : ℕ) × (end : Status) × (text : List ℕ)
-        × AreAnswers telling.format telling.why numbers.now basis (take count questions.now) end text
+    ensures begun { (basis : Basis) → IsCaseOf basis (case_of judge.old) → reporting.now.rrsets.now ≡ basis.rrsets
+        → basis.moment ≡ reporting.now.moment → result ≡ Err Fault.WriteFailed
+        → (count : ℕ) × (end : Status) × (text : List ℕ)
+        × AreAnswers reporting.now.telling.format reporting.now.telling.why reporting.now.numbers.now basis
+        (take count questions.now) end text
         × AppendsBeginning (W.contents (inner_of output.old)) (W.contents (inner_of output.new)) text }
-    ensures whole { (basis : Basis) → IsCaseOf basis (case_of judge.old) → rrsets.now ≡ basis.rrsets
-        → basis.moment ≡ moment → result ≡ Err Fault.OutOfMemory → (count : ℕ) × (count < length questions.now)
-        × (end : Status) × (text : List ℕ)
-        × AreAnswers telling.format telling.why numbers.now basis (take count questions.now) end text
+    ensures whole { (basis : Basis) → IsCaseOf basis (case_of judge.old) → reporting.now.rrsets.now ≡ basis.rrsets
+        → basis.moment ≡ reporting.now.moment → result ≡ Err Fault.OutOfMemory
+        → (count : ℕ) × (count < length questions.now) × (end : Status) × (text : List ℕ)
+        × AreAnswers reporting.now.telling.format reporting.now.telling.why reporting.now.numbers.now basis
+        (take count questions.now) end text
         × Appends (W.contents (inner_of output.old)) (W.contents (inner_of output.new)) text }
 {
     let mut end = Status::Done;
     for question in questions {
-        let told = tell_one(
-            alloc, judge, telling, moment, rrsets, numbers, question, output,
-        )?;
+        let told = tell_one(alloc, judge, reporting, question, output)?;
         end = end.worse(told);
     }
     Ok(end)
@@ -174,30 +180,29 @@ fn tell_each<W: Write>(
 fn tell_one<W: Write>(
     alloc: Global,
     judge: &mut Judging<'_>,
-    telling: Telling,
-    moment: Moment,
-    rrsets: &[Rrset<'_>],
-    numbers: &OpenNumbers,
+    reporting: &Reporting<'_>,
     question: &StoredQuestion,
     output: &mut Counted<W>,
 ) -> Result<Status, Fault>
-    requires why { tells_why judge.now ≡ telling.why }
-    ensures done { (basis : Basis) → IsCaseOf basis (case_of judge.old) → rrsets.now ≡ basis.rrsets
-        → basis.moment ≡ moment → IfOk result (λ end. (text : List ℕ)
-        × IsAnswer telling.format telling.why numbers.now basis question.now end text
+    requires why { tells_why judge.now ≡ reporting.now.telling.why }
+    ensures done { (basis : Basis) → IsCaseOf basis (case_of judge.old) → reporting.now.rrsets.now ≡ basis.rrsets
+        → basis.moment ≡ reporting.now.moment → IfOk result (λ end. (text : List ℕ)
+        × IsAnswer reporting.now.telling.format reporting.now.telling.why reporting.now.numbers.now basis
+        question.now end text
         × Appends (W.contents (inner_of output.old)) (W.contents (inner_of output.new)) text) }
     ensures only { IfErr result (λ fault. (fault ≡ Fault.OutOfMemory) ⊎ (fault ≡ Fault.WriteFailed)) }
     ensures calm { IfOk result (λ _. failures_of output.new ≡ failures_of output.old) }
     ensures write { result ≡ Err Fault.WriteFailed
         → failures_of output.old < u64.MAX → failures_of output.old < failures_of output.new }
-    ensures begun { (basis : Basis) → IsCaseOf basis (case_of judge.old) → rrsets.now ≡ basis.rrsets
-        → basis.moment ≡ moment → result ≡ Err Fault.WriteFailed → (end : Status) × (text : List ℕ)
-        × IsAnswer telling.format telling.why numbers.now basis question.now end text
+    ensures begun { (basis : Basis) → IsCaseOf basis (case_of judge.old) → reporting.now.rrsets.now ≡ basis.rrsets
+        → basis.moment ≡ reporting.now.moment → result ≡ Err Fault.WriteFailed → (end : Status) × (text : List ℕ)
+        × IsAnswer reporting.now.telling.format reporting.now.telling.why reporting.now.numbers.now basis
+        question.now end text
         × AppendsBeginning (W.contents (inner_of output.old)) (W.contents (inner_of output.new)) text }
     ensures untouched { result ≡ Err Fault.OutOfMemory → output.new ≡ output.old }
     ensures same { judge.new ≡ judge.old }
 {
-    let outcome = answer(alloc, judge, telling, moment, rrsets, numbers, question)?;
+    let outcome = answer(alloc, judge, reporting, question)?;
     match output.write_all(outcome.text.as_bytes()) {
         Ok(()) => Ok(outcome.status),
         Err(_) => Err(Fault::WriteFailed),
@@ -208,35 +213,33 @@ fn tell_one<W: Write>(
 fn answer(
     alloc: Global,
     judge: &mut Judging<'_>,
-    telling: Telling,
-    moment: Moment,
-    rrsets: &[Rrset<'_>],
-    numbers: &OpenNumbers,
+    reporting: &Reporting<'_>,
     question: &StoredQuestion,
 ) -> Result<Outcome, AllocError>
-    requires why { tells_why judge.now ≡ telling.why }
-    ensures answer { (basis : Basis) → IsCaseOf basis (case_of judge.old) → rrsets.now ≡ basis.rrsets
-        → basis.moment ≡ moment → IfOk result (λ outcome. IsAnswer telling.format telling.why numbers.now basis question.now
-        outcome.status (string_bytes outcome.text)) }
+    requires why { tells_why judge.now ≡ reporting.now.telling.why }
+    ensures answer { (basis : Basis) → IsCaseOf basis (case_of judge.old) → reporting.now.rrsets.now ≡ basis.rrsets
+        → basis.moment ≡ reporting.now.moment → IfOk result (λ outcome. IsAnswer reporting.now.telling.format
+        reporting.now.telling.why reporting.now.numbers.now basis question.now outcome.status
+        (string_bytes outcome.text)) }
     ensures same { judge.new ≡ judge.old }
 {
     let name = question.name();
     let asked = Asked {
         name: &name,
         rtype: question.rtype(),
-        moment,
+        moment: reporting.moment,
     };
     match judge.report(alloc, &name, asked.rtype) {
         Ok((report, told)) => outcome_by(
             alloc,
-            telling.format,
+            reporting.telling.format,
             &asked,
-            rrsets,
+            reporting.rrsets,
             &report,
             &told,
-            numbers,
+            reporting.numbers,
         ),
-        Err(error) => refused(alloc, telling, &asked, error),
+        Err(error) => refused(alloc, reporting.telling, &asked, error),
     }
 }
 

@@ -41,6 +41,13 @@ pub struct Showing {
     pub kinds: bool,
 }
 
+/// The first moment and the last that are asked about, whether or not these are a range.
+#[derive(Drop)]
+pub struct Ends {
+    pub from: Moment,
+    pub to: Moment,
+}
+
 /// The timeline of the question, if it is one that can be asked, from the first moment to the last.
 ///
 /// The fault is the first in the order of the work: of the question, of the range, of the files, and then that the question
@@ -50,22 +57,22 @@ pub fn timeline<R: Read>(
     showing: Showing,
     asked: &[u8],
     rtype: RecordType,
-    from: Moment,
-    to: Moment,
+    ends: Ends,
     inputs: &mut Inputs<R>,
     bump: &Bump,
 ) -> Result<String, Fault>
     ensures text { (files : Files) → AreTold R.remaining inputs.old files → IfOk result (λ text.
-        IsTimelineAsked showing.format showing.kinds asked.now rtype.0 from to files (string_bytes text)) }
-    ensures faults { TellsFaults (IsFirstFaultOfTimeline asked.now rtype.0 from to) R.remaining inputs.old inputs.new
-        result }
-    ensures question { (fault : Fault) → IsTimelineRefused asked.now rtype.0 from to fault → result ≡ Err fault }
+        IsTimelineAsked showing.format showing.kinds asked.now rtype.0 ends.from ends.to files (string_bytes text)) }
+    ensures faults { TellsFaults (IsFirstFaultOfTimeline asked.now rtype.0 ends.from ends.to) R.remaining inputs.old
+        inputs.new result }
+    ensures question { (fault : Fault) → IsTimelineRefused asked.now rtype.0 ends.from ends.to fault
+        → result ≡ Err fault }
     ensures reached { (files : Files) → AreTold R.remaining inputs.old files
-        → IfErr result (OfFailedRead (IsReachedByTimeline asked.now rtype.0 from to files)) }
+        → IfErr result (OfFailedRead (IsReachedByTimeline asked.now rtype.0 ends.from ends.to files)) }
     ensures unwritten { IfErr result (λ fault. fault ≡ Fault.WriteFailed → ⊥) }
 {
     let name = question_name(asked, rtype)?;
-    let range = range_between(from, to)?;
+    let range = range_between(ends.from, ends.to)?;
     let question = Question {
         name: &name,
         rtype,
@@ -163,7 +170,7 @@ fn moments_by<'a>(
         }
         Said::Answers(answers) => {
             let table = table_of(alloc, bump, held, &Span::Within(range), answers)?;
-            Ok(Moments::of(held, anchors, range, table))
+            Ok(Moments::of(anchors, range, table))
         }
     }
 }

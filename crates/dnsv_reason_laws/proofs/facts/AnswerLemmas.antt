@@ -10,7 +10,7 @@ use Rattle.dnsv_verifier.specs.declared.entry.Entry.{Entry}
 use Rattle.dnsv_verifier.proofs.EntryLemmas.{one_entry}
 use Rattle.dnsv_mending.specs.declared.facts.signature.KeyAnswer.{KeyAnswer}
 use Rattle.dnsv_mending.specs.declared.facts.signature.KeyAnswer.TheVariants as said
-use Rattle.dnsv_faults.specs.Answers.{IsAnswered, IsKeyAnswer}
+use Rattle.dnsv_zone_keys.specs.Answers.{IsAnswered, IsKeyAnswer}
 
 module _ (meaning : Entry → Answer) (moment : ℕ) (rrset : ReceivedRrset) (rrsig : Rrsig) where
   abbrev Answers : DnskeyRecord → Answer → Type 0

@@ -16,11 +16,11 @@ use Rattle.dnsv_lines.specs.declared.line.derivation.KeyName.{KeyName}
 use Rattle.dnsv_mending.specs.declared.facts.keys.DnskeyFacts.{DnskeyFacts}
 use Rattle.dnsv_mending.specs.declared.facts.keys.HeldKey.{HeldKey}
 use Rattle.dnsv_mending.specs.declared.facts.keys.SelfSignature.{SelfSignature}
-use Rattle.dnsv_faults.specs.Answers.{IsKeyAnswer}
+use Rattle.dnsv_zone_keys.specs.Answers.{IsKeyAnswer}
 use Rattle.dnsv_faults.specs.Dnskeys.{AreAllDnskeyFacts, AreDnskeyFacts, AreHeldKeys, AreOwnSignatures, IsHeldKey, IsNamedIn, IsOwnSignature, signature_number}
-use Rattle.dnsv_faults.specs.Keys.{IsZoneKey}
+use Rattle.dnsv_zone_keys.specs.Keys.{IsZoneKey}
 use Rattle.dnsv_faults.specs.Signatures.{AreSignatureFaults, IsSignatureAt}
-use Rattle.dnsv_faults.proofs.lemmas.ZoneKeyLemmas.{same_number}
+use Rattle.dnsv_zone_keys.proofs.lemmas.ZoneKeyLemmas.{same_number}
 use Rattle.dnsv_faults.proofs.lemmas.zones.PlaceLemmas.{placed_once, same_record}
 use Rattle.dnsv_remedy_laws.specs.AlikeZones.{AreAlikeDnskeys, AreAlikeHeldKeys}
 use Rattle.dnsv_reason_laws.proofs.facts.AnswerLemmas.{one_answer}

@@ -8,7 +8,7 @@ use Rattle.std.specs.List.{AllByRecursion, AllZip}
 use Rattle.std.specs.List.Sorted.{IsStrictlyIncreasing}
 use Rattle.std.specs.Ordering.{nat_cmp}
 use Rattle.dnsv_canonical.proofs.CanonicalLemmas.{IsMember, rising_unique, Contains-from_member, IsMember-from_contains}
-use Rattle.dnsv_faults.specs.Vouchers.{IsFirstOf}
+use Rattle.dnsv_zone_keys.specs.Vouchers.{IsFirstOf}
 
 -- ---- values
 

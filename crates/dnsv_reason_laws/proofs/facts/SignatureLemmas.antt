@@ -9,9 +9,9 @@ use Rattle.dnsv_verdict.specs.Verdict.{Basis}
 use Rattle.dnsv_mending.specs.declared.facts.signature.NamedKey.{NamedKey}
 use Rattle.dnsv_mending.specs.declared.facts.signature.SignatureFacts.{SignatureFacts}
 use Rattle.dnsv_mending.specs.declared.facts.signature.SignatureFaults.{SignatureFaults}
-use Rattle.dnsv_faults.specs.Keys.{HasKeys, IsKeyPlaced, NamesKey, NamesZoneKey}
+use Rattle.dnsv_zone_keys.specs.Keys.{HasKeys, IsKeyPlaced, NamesKey, NamesZoneKey}
 use Rattle.dnsv_faults.specs.Signatures.{AreNamedKeys, AreSignatureFacts, AreSignatureFaults, IsNamedKey, IsSignatureAt}
-use Rattle.dnsv_faults.proofs.lemmas.ZoneKeyLemmas.{same_number}
+use Rattle.dnsv_zone_keys.proofs.lemmas.ZoneKeyLemmas.{same_number}
 use Rattle.dnsv_faults.proofs.lemmas.zones.PlaceLemmas.{placed_rdata, read_same}
 use Rattle.dnsv_remedy_laws.specs.AlikeZones.{AreAlikeSignatures}
 use Rattle.dnsv_reason_laws.proofs.facts.AnswerLemmas.{answered_too, one_answer}

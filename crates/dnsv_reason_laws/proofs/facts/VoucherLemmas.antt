@@ -18,9 +18,9 @@ use Rattle.dnsv_lines.specs.declared.line.fault.zone.WhyEntry.{WhyEntry}
 use Rattle.dnsv_mending.specs.declared.facts.keys.VoucherFacts.{VoucherFacts}
 use Rattle.dnsv_mending.specs.declared.facts.zone.DsFacts.{DsFacts}
 use Rattle.dnsv_faults.specs.Groups.{AreAllDsFacts, AreAnchorFacts, AreAnchorFactsFrom, AreDsFacts, AreRecordFacts, anchor_wanted}
-use Rattle.dnsv_faults.specs.Vouchers.{AreMatches, AreVoucherFacts, IsVoucherFault, Wanted, voucher_faults}
-use Rattle.dnsv_faults.specs.Vouchers.Wanted.{by_digest}
-use Rattle.dnsv_faults.proofs.lemmas.ZoneKeyLemmas.{same_number}
+use Rattle.dnsv_zone_keys.specs.Vouchers.{AreMatches, AreVoucherFacts, IsVoucherFault, Wanted, voucher_faults}
+use Rattle.dnsv_zone_keys.specs.Vouchers.Wanted.{by_digest}
+use Rattle.dnsv_zone_keys.proofs.lemmas.ZoneKeyLemmas.{same_number}
 use Rattle.dnsv_remedy_laws.specs.AlikeZones.{AreAlikeDs, AreAlikeVouchers}
 use Rattle.dnsv_reason_laws.proofs.facts.ListLemmas.{alike_zip, one_first, one_rising_of}
 use Rattle.dnsv_reason_laws.proofs.facts.RrsetLemmas.{one_rrset_facts}

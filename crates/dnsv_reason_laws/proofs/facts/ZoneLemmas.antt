@@ -8,7 +8,7 @@ use Rattle.dnsv_mending.specs.declared.facts.zone.ZoneFacts.{ZoneFacts}
 use Rattle.dnsv_mending.specs.declared.facts.zone.ZoneKey.{ZoneKey}
 use Rattle.dnsv_faults.specs.KnownZones.{IsKnownZone}
 use Rattle.dnsv_faults.specs.Zones.{AreFactsOfZone, AreZoneFacts, AreZoneKeyFacts, IsAnchored, IsHolder, IsZoneKeyFacts}
-use Rattle.dnsv_faults.proofs.lemmas.ZoneKeyLemmas.{one_zone_keys}
+use Rattle.dnsv_zone_keys.proofs.lemmas.ZoneKeyLemmas.{one_zone_keys}
 use Rattle.dnsv_remedy_laws.specs.AlikeZones.{AreAlikeKeys, AreAlikeZones}
 use Rattle.dnsv_reason_laws.proofs.facts.DnskeyLemmas.{one_all_dnskey_facts}
 use Rattle.dnsv_reason_laws.proofs.facts.ListLemmas.{alike_zip, one_rising_of, one_test, zip_by_place}

@@ -33,6 +33,7 @@ use Rattle.dnsv_lines.specs.declared.line.Line.{Line}
 use Rattle.dnsv_explain.specs.Explained.{basis_in}
 use Rattle.dnsv_explain.specs.Explanation.{IsEndTold, IsExplanation, IsFailureTold, IsHoldingTold, IsLinkTold, IsSetTold, IsSettledTold, IsVerdictTold, signature_of}
 use Rattle.dnsv_explain.specs.Explanation.IsSetTold.{as_owned, by_wildcard}
+use Rattle.dnsv_explain.proofs.lemmas.stands.WholeLemmas.{links_secure}
 use Rattle.dnsv_rules.specs.Borne.{BearsOut, DeniesType, IsSetBorne}
 use Rattle.dnsv_rules.specs.Explained.{asked_by}
 use Rattle.dnsv_rules.specs.Told.{IsShownGood, shown_said, told_words}
@@ -148,25 +149,9 @@ module _ (setting : Setting) (all : List Line) where
         let found = proof_there setting all last shown before lines told.told within which.0 which.2 in
         record { proof = found.proof; among = found.among; such = subst DeniesType (sym found.such) which.1 }
     settled_borne (Insecure cut) before lines is told within = case_borne setting all last t cut before lines is told within
-    settled_borne (Pending entries) before lines is told within = absurd told
-    settled_borne Bogus before lines is told within = absurd told
-    settled_borne Indeterminate before lines is told within = absurd told
+    settled_borne verdict before lines is told within = absurd told
 
 -- ---- the whole
-
--- each link of a way is a secure alias at its name
-link_secure : (setting : Setting) (t : ℕ) (name : Labels) (links : List Link) (last : Labels)
-    → LeadTo (record { rrsets = setting.rrsets; anchors = setting.anchors; moment = setting.moment; meaning = setting.meaning }) t name links last
-    → (link : Link) → Contains links link → IsSecureSet (SecuredIn setting) setting.rrsets link.name cname link.rrset link.signature
-link_secure setting t name [] last leads link there = absurd (omega (arith, there.1))
-link_secure setting t name (first ∷ links) last leads link there =
-    ⊎_elim
-    (λ (same : first ≡ link).
-    let Secure : Link → Type 0 = λ each. IsSecureSet (SecuredIn setting) setting.rrsets each.name cname each.rrset each.signature in
-    let Name : Labels → Type 0 = λ each. IsSecureSet (SecuredIn setting) setting.rrsets each cname first.rrset first.signature in
-    subst Secure same (subst Name (sym leads.0.0) leads.0.1.2.such))
-    (λ (later : Contains links link). link_secure setting t leads.1 links last leads.4 link later)
-    (first_or_behind first links link there)
 
 module _ (explained : Explained) (t : ℕ) (name : Labels) (links : List Link) (last : Labels) (all : List Line) where
   abbrev here : Setting
@@ -188,7 +173,7 @@ module _ (explained : Explained) (t : ℕ) (name : Labels) (links : List Link) (
     links_of : LeadTo (basis_in explained) t name links last → Links
     links_of leads link there =
         links_borne here all links before told.says_first.first told.says_first.says_first
-        (within_front before told.says_first.first told.says_first.second all parted) link there (link_secure here t name links last leads link there)
+        (within_front before told.says_first.first told.says_first.second all parted) link there (links_secure explained t name links last leads link there).2.such
 
     verdict_within : AreWithin ((before ++ told.says_first.first) ++ told.says_first.second) all
     verdict_within = within_back before told.says_first.first told.says_first.second all parted
@@ -213,12 +198,8 @@ module _ (explained : Explained) (t : ℕ) (name : Labels) (links : List Link) (
   pub explanation_borne : (verdict : Verdict) (lines : List Line) → IsVerdictOf (basis_in explained) name t links last verdict
       → IsExplanation explained t links last verdict lines → AreWithin lines all
       → BearsOut explained.rrsets (asked_by links last t) all verdict × Links
-  explanation_borne (SecureAnswer k s) lines of is within = settled (SecureAnswer k s) lines (IsEndTold explained (SecureAnswer k s)) of of.is_verdict is within
-  explanation_borne (SecureAlias k s) lines of is within = settled (SecureAlias k s) lines (IsEndTold explained (SecureAlias k s)) of of.is_verdict is within
-  explanation_borne (SecureNoName proof) lines of is within = settled (SecureNoName proof) lines (IsEndTold explained (SecureNoName proof)) of of.is_verdict is within
-  explanation_borne (SecureNoData proof) lines of is within = settled (SecureNoData proof) lines (IsEndTold explained (SecureNoData proof)) of of.is_verdict is within
-  explanation_borne (Insecure cut) lines of is within = settled (Insecure cut) lines (IsEndTold explained (Insecure cut)) of of.is_verdict is within
   explanation_borne (Pending entries) lines of is within =
       (tt, links_of (IsVerdictTold explained last t (Pending entries)) (IsEndTold explained (Pending entries)) [] lines is within of.way.leads)
   explanation_borne Bogus lines of is within = (tt, failed Bogus lines of is within)
   explanation_borne Indeterminate lines of is within = (tt, failed Indeterminate lines of is within)
+  explanation_borne verdict lines of is within = settled verdict lines (IsEndTold explained verdict) of of.is_verdict is within

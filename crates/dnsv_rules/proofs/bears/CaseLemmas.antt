@@ -4,21 +4,27 @@ use Rattle.std.proofs.lemmas.List.Elements.{Contains-push}
 use Rattle.std.specs.List.{Contains}
 use Rattle.dnsv_names.specs.Name.{Labels, lower_case, rightmost}
 use Rattle.dnsv_chain.specs.Trust.{KeptTrust, SecuredIn as KeptIn}
-use Rattle.dnsv_denial.specs.unsigned_cuts.ShownCut.{cut_name}
+use Rattle.dnsv_denial.specs.proving.ProofParts.{part_name}
+use Rattle.dnsv_denial.specs.unsigned_cuts.ShownCut.{IsShownCut, cut_name}
+use Rattle.dnsv_denial.specs.unsigned_cuts.ShownCut.IsShownCut.{no_ds, no_usable_ds, opt_out}
+use Rattle.dnsv_denial.specs.words.EvidenceWords.{evidence_said}
+use Rattle.dnsv_denial.specs.declared.proving.proof_part.PartName.{PartName}
+use Rattle.dnsv_denial.specs.declared.proving.proof_part.PartName.TheVariants as part
 use Rattle.dnsv_denial.proofs.lemmas.unsigned_cuts.ShownCutLemmas.{cut_of_shown}
 use Rattle.dnsv_denial.specs.declared.proving.shown_denial.ShownDenial.{ShownDenial}
 use Rattle.dnsv_denial.specs.declared.unsigned_cuts.shown_cut.ShownCut.{ShownCut}
-use Rattle.dnsv_denial.specs.declared.unsigned_cuts.shown_cut.ShownCut.TheVariants as cut
 use Rattle.dnsv_verdict.specs.Insecure.{IsUnsignedFrom}
 use Rattle.dnsv_verdict.specs.Settled.{IsSettledAs}
 use Rattle.dnsv_verdict.specs.declared.verdict.Verdict.TheVariants.{Insecure}
 use Rattle.dnsv_verdict.proofs.CaseLemmas.{one_settled_as}
 use Rattle.dnsv_verdict.proofs.SettledLemmas.{settled_as_to}
+use Rattle.dnsv_derivations.specs.Denials.{IsCaseFor, IsDenialTold, told_case}
 use Rattle.dnsv_derivations.specs.Explained.{Setting}
 use Rattle.dnsv_derivations.specs.derivations.OwnDerivations.{IsTrustIn, SecuredIn}
-use Rattle.dnsv_derivations.specs.unsigned_cuts.ShownCuts.{IsCutTold, IsUnsignedTold}
+use Rattle.dnsv_derivations.specs.unsigned_cuts.ShownCuts.{IsCutTold}
 use Rattle.dnsv_derivations.specs.unsigned_cuts.UnsignedCuts.{IsCaseTold, IsUnusableTold}
 use Rattle.dnsv_derivations.proofs.lemmas.denials.TrustLemmas.{kept_good}
+use Rattle.dnsv_derivations.proofs.lemmas.unsigned_cuts.CutLemmas.{delegation_case, opt_out_case, out_closer_case}
 use Rattle.dnsv_lines.specs.declared.line.Line.{Line}
 use Rattle.dnsv_lines.specs.declared.line.Line.TheVariants as line
 use Rattle.dnsv_lines.specs.declared.line.cut.Cut.{Cut}
@@ -46,13 +52,15 @@ module _ (setting : Setting) (all : List Line) where
         is_name = told.is_name;
       }
 
-  unsigned_there : (name : Labels) (shown : ShownDenial) (kind : InsecureCase) (at : Labels) (before lines : List Line)
-      → IsUnsignedTold setting name shown kind at before lines → AreWithin (before ++ lines) all → CaseOf at
-  unsigned_there name shown kind at before lines told within =
+  denial_there : (name : Labels) (shown : ShownDenial) (which : InsecureCase × PartName) → told_case shown.form ≡ Some which
+      → (before lines : List Line) → IsDenialTold setting name shown before lines → AreWithin (before ++ lines) all
+      → CaseOf (part_name name which.1)
+  denial_there name shown which is before lines told within =
       let Lines : List Line → Type 0 = λ more. AreWithin (before ++ more) all in
       let Then : List Line → Type 0 = λ more. AreWithin ((before ++ told.first) ++ more) all in
       let rest = told.says_second in
-      case_there kind at (Some shown.proof.zone) (before ++ told.first) rest.first rest.says_first
+      let Case : Option (InsecureCase × PartName) → Type 0 = λ each. IsCaseFor each name shown.proof.zone (before ++ told.first) rest.first in
+      case_there which.0 (part_name name which.1) (Some shown.proof.zone) (before ++ told.first) rest.first (subst Case is rest.says_first)
       (within_front (before ++ told.first) rest.first rest.second all
       (subst Then rest.parts (within_back before told.first told.second all (subst Lines told.parts within))))
 
@@ -66,13 +74,17 @@ module _ (setting : Setting) (all : List Line) where
       (within_front (before ++ whole.first) rest.first rest.second all
       (subst Then rest.parts (within_back before whole.first whole.second all (subst Lines whole.parts within))))
 
-  cut_there : (name : Labels) (shown : ShownCut) (before lines : List Line) → IsCutTold setting name shown before lines
-      → AreWithin (before ++ lines) all → CaseOf (cut_name name shown)
-  cut_there name (cut.NoDs labels shown) before lines told within =
-      unsigned_there name shown case.UnsignedDelegation (rightmost name labels) before lines told within
-  cut_there name (cut.NoUsableDs labels) before lines told within = unusable_there (rightmost name labels) before lines told within
-  cut_there name (cut.OptOut labels shown) before lines told within =
-      unsigned_there name shown case.OptOut (rightmost name (labels + 1)) before lines told within
+  cut_there : (S : ℕ → ℕ → Type 0) (name : Labels) (shown : ShownCut) → IsShownCut S setting.rrsets name shown → (before lines : List Line)
+      → IsCutTold setting name shown before lines → AreWithin (before ++ lines) all → CaseOf (cut_name name shown)
+  cut_there S name _ (no_ds labels shown fewest is) before lines told within =
+      denial_there name shown (case.UnsignedDelegation, part.Cut labels)
+      (delegation_case (evidence_said S setting.rrsets shown.proof.zone is.chain) shown.proof.zone name labels shown.form is.shows)
+      before lines told within
+  cut_there S name _ (no_usable_ds labels none fewest) before lines told within = unusable_there (rightmost name labels) before lines told within
+  cut_there S name _ (opt_out labels shown no_delegation no_unusable most is) before lines told within =
+      denial_there name shown (case.OptOut, part.NextCloser labels)
+      (opt_out_case (evidence_said S setting.rrsets shown.proof.zone is.chain) shown.proof.zone name labels shown.form is.shows)
+      before lines told within
 
   -- a verdict names one such name, by the trust too
   one_name : (trust : KeptTrust) → IsTrustIn setting trust → (name : Labels) (t : ℕ) (at other : Labels)
@@ -94,11 +106,14 @@ module _ (setting : Setting) (all : List Line) where
   case_borne name t at before lines is (by_cut shown by told) within =
       named at (cut_name name shown)
       (one_name by.0 by.1 name t at (cut_name name shown) is (inl (cut_of_shown (KeptIn by.0) setting.rrsets name shown by.2)))
-      (cut_there name shown before lines told within)
+      (cut_there (KeptIn by.0) name shown by.2 before lines told within)
   case_borne name t at before lines is (by_wildcard trust good none k s first shown by told) within =
-      let next = rightmost name (first.such.rrsig.labels + 1) in
+      let labels = first.such.rrsig.labels in
+      let signer = first.such.rrsig.signer in
+      let next = rightmost name (labels + 1) in
       let Lines : List Line → Type 0 = λ more. AreWithin (before ++ more) all in
       named at next
       (one_name trust good name t at next is (inr (none, record { k = k; s = s; earliest = first; next_closer = refl })))
-      (unsigned_there name shown case.OptOutWildcard next (before ++ told.first) told.second told.says_second
-      (within_back before told.first told.second all (subst Lines told.parts within)))
+      (denial_there name shown (case.OptOutWildcard, part.NextCloser labels)
+      (out_closer_case (evidence_said (KeptIn trust) setting.rrsets signer by.chain) signer name labels shown.form by.shows)
+      (before ++ told.first) told.second told.says_second (within_back before told.first told.second all (subst Lines told.parts within)))

@@ -13,9 +13,10 @@ use Rattle.dnsv_denial.specs.words.EvidenceWords.{number_cmp}
 use Rattle.dnsv_zones.specs.forms.RecordWords.{RecordWords}
 use Rattle.dnsv_denial.specs.declared.forms.proof_form.ProofForm.{ProofForm}
 use Rattle.dnsv_denial.specs.declared.proving.shown_denial.ShownDenial.{ShownDenial}
-use Rattle.dnsv_derivations.specs.Denials.{IsDenialTold, IsFormTold, IsProofOf, IsProofSaid, told_form}
+use Rattle.dnsv_derivations.specs.Denials.{IsDenialTold, IsFormTold, IsPartTold, IsProofOf, IsProofSaid, IsProofTold, told_form}
 use Rattle.dnsv_derivations.specs.Explained.{Setting}
 use Rattle.dnsv_derivations.specs.Following.{IsSignatureSaid}
+use Rattle.dnsv_derivations.specs.Saying.{AreBoth, AreEach}
 use Rattle.dnsv_derivations.specs.derivations.OwnDerivations.{IsSignatureTold}
 use Rattle.dnsv_derivations.proofs.lemmas.derivations.DerivationLemmas.{number_said}
 use Rattle.dnsv_lines.specs.declared.line.Line.{Line}
@@ -42,11 +43,19 @@ module _ (setting : Setting) (all : List Line) where
     parted : AreWithin (before ++ (told.first ++ told.second)) all
     parted = subst Lines told.parts within
 
-    behind : AreWithin (((before ++ told.first) ++ told.says_second.first) ++ told.says_second.second) all
+    abbrev cased : List Line
+    cased = (before ++ told.first) ++ told.says_second.first
+
+    abbrev last : AreBoth (IsProofTold name shown) (AreEach (IsPartTold setting.rrsets name) (form_parts shown.chain shown.form)) cased told.says_second.second
+    last = told.says_second.says_second
+
+    behind : AreWithin ((cased ++ last.first) ++ last.second) all
     behind =
         let Then : List Line → Type 0 = λ more. AreWithin ((before ++ told.first) ++ more) all in
-        within_back (before ++ told.first) told.says_second.first told.says_second.second all
-        (subst Then told.says_second.parts (within_back before told.first told.second all parted))
+        let Last : List Line → Type 0 = λ more. AreWithin (cased ++ more) all in
+        within_back cased last.first last.second all (subst Last last.parts
+        (within_back (before ++ told.first) told.says_second.first told.says_second.second all
+        (subst Then told.says_second.parts (within_back before told.first told.second all parted))))
 
     pub denial_owns : (number : RecordNumber) → Contains shown.proof.records number → IsOwn setting.rrsets all shown.proof.zone number.rrset
     denial_owns =
@@ -55,35 +64,32 @@ module _ (setting : Setting) (all : List Line) where
 
     pub denial_tells : AllByRecursion (IsPartTellable all name) (form_parts shown.chain shown.form)
     denial_tells =
-        parts_told setting.rrsets name all (form_parts shown.chain shown.form) ((before ++ told.first) ++ told.says_second.first)
-        told.says_second.second told.says_second.says_second behind
+        parts_told setting.rrsets name all (form_parts shown.chain shown.form) (cased ++ last.first) last.second last.says_second behind
 
-    form_there : (which : Form) → IsFormTold which name shown (before ++ told.first) told.says_second.first
-        → HasProof all (λ each. each ≡ which)
+    form_there : (which : Form) → IsFormTold which name shown cased last.first → HasProof all (λ each. each ≡ which)
     form_there which its =
-        let front : AreWithin ((before ++ told.first) ++ told.says_second.first) all =
-        λ each there. behind each (Contains-append_left ((before ++ told.first) ++ told.says_second.first) told.says_second.second each there) in
+        let front : AreWithin (cased ++ last.first) all =
+        λ each there. behind each (Contains-append_left (cased ++ last.first) last.second each there) in
         ⊎_elim
-        (λ (once : IsProofSaid its.proof (before ++ told.first) × (told.says_second.first ≡ [])).
+        (λ (once : IsProofSaid its.proof cased × (last.first ≡ [])).
         let said = once.0 in
         let found : HasProof all (λ each. each ≡ which) = record {
           proof = said.said;
-          among = front (line.Proof said.said) (Contains-append_left (before ++ told.first) told.says_second.first (line.Proof said.said) said.among);
+          among = front (line.Proof said.said) (Contains-append_left cased last.first (line.Proof said.said) said.among);
           such = said.same.form ∙ its.is.its_form;
         } in found)
-        (λ (once : (¬ IsProofSaid its.proof (before ++ told.first)) × (told.says_second.first ≡ line.Proof its.proof ∷ [])).
-        let There : List Line → Type 0 = λ more. Contains ((before ++ told.first) ++ more) (line.Proof its.proof) in
+        (λ (once : (¬ IsProofSaid its.proof cased) × (last.first ≡ line.Proof its.proof ∷ [])).
+        let There : List Line → Type 0 = λ more. Contains (cased ++ more) (line.Proof its.proof) in
         let found : HasProof all (λ each. each ≡ which) = record {
           proof = its.proof;
-          among = front (line.Proof its.proof) (subst There (sym once.1) (Contains-push (before ++ told.first) (line.Proof its.proof)));
+          among = front (line.Proof its.proof) (subst There (sym once.1) (Contains-push cased (line.Proof its.proof)));
           such = its.is.its_form;
         } in found)
         its.once
 
     pub proof_there : (which : Form) → told_form shown.form ≡ Some which → HasProof all (λ each. each ≡ which)
     proof_there which is =
-        let Of : Option Form → Type 0 = λ each. IsProofOf each name shown (before ++ told.first) told.says_second.first in
-        form_there which (subst Of is told.says_second.says_first)
+        let Of : Option Form → Type 0 = λ each. IsProofOf each name shown cased last.first in form_there which (subst Of is last.says_first)
 
 -- ---- forms
 

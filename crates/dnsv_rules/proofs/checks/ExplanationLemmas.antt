@@ -76,9 +76,7 @@ module _ (setting : Setting) (links : List Link) (last : Labels) (t : ℕ) (all 
       (no_data_told setting told.trust told.good all (map (λ (each : Link). each.name) links) last t told.shown told.is) before lines told.told within
   settled_so (Insecure cut) before lines told within =
       unsigned_from_so setting (map (λ (each : Link). each.name) links) last t all before lines told within
-  settled_so (Pending unknown) before lines told within = absurd told
-  settled_so Bogus before lines told within = absurd told
-  settled_so Indeterminate before lines told within = absurd told
+  settled_so verdict before lines told within = absurd told
 
   -- ---- the last lines
 
@@ -94,18 +92,10 @@ module _ (setting : Setting) (links : List Link) (last : Labels) (t : ℕ) (all 
   -- ---- what fails
 
   fault_so : (each : Line) → IsFault each → So setting here all each
-  fault_so (line.Reason reason) fault = tt
-  fault_so (line.Follows untrusted) fault = tt
-  fault_so (line.Key key) fault = tt
-  fault_so (line.Trusted keys) fault = tt
-  fault_so (line.Signed signed) fault = tt
   fault_so (line.Proof proof) fault = absurd fault
   fault_so (line.Part part) fault = absurd fault
   fault_so (line.Case cut) fault = absurd fault
-  fault_so (line.Unusable ds) fault = tt
-  fault_so (line.Hope kind) fault = tt
-  fault_so (line.Holds interval) fault = tt
-  fault_so (line.Rrset place) fault = tt
+  fault_so each fault = tt
 
   keys_so : (reasons lines : List Line) → AreLinesOfKeysAsked setting reasons lines → Are lines
   keys_so reasons lines are =
@@ -143,24 +133,16 @@ module _ (explained : Explained) (t : ℕ) (links : List Link) (last : Labels) (
 
   verdict_so : (verdict : Verdict) (before lines : List Line) → IsVerdictTold explained last t verdict before lines
       → AreWithin (before ++ lines) all → Hold lines
-  verdict_so (SecureAnswer k s) before lines told within = settled_so (setting_in explained) links last t all (SecureAnswer k s) before lines told within
-  verdict_so (SecureAlias k s) before lines told within = settled_so (setting_in explained) links last t all (SecureAlias k s) before lines told within
-  verdict_so (SecureNoName proof) before lines told within = settled_so (setting_in explained) links last t all (SecureNoName proof) before lines told within
-  verdict_so (SecureNoData proof) before lines told within = settled_so (setting_in explained) links last t all (SecureNoData proof) before lines told within
-  verdict_so (Insecure cut) before lines told within = settled_so (setting_in explained) links last t all (Insecure cut) before lines told within
   verdict_so (Pending unknown) before lines told within = hope_so unknown before lines told within
   verdict_so Bogus before lines told within = held_so (setting_in explained) question all last before lines told
   verdict_so Indeterminate before lines told within = held_so (setting_in explained) question all last before lines told
+  verdict_so verdict before lines told within = settled_so (setting_in explained) links last t all verdict before lines told within
 
   last_so : (verdict : Verdict) (before lines : List Line) → IsEndTold explained verdict before lines → Hold lines
-  last_so (SecureAnswer k s) before lines told = end_so (setting_in explained) links last t all before lines told
-  last_so (SecureAlias k s) before lines told = end_so (setting_in explained) links last t all before lines told
-  last_so (SecureNoName proof) before lines told = end_so (setting_in explained) links last t all before lines told
-  last_so (SecureNoData proof) before lines told = end_so (setting_in explained) links last t all before lines told
-  last_so (Insecure cut) before lines told = end_so (setting_in explained) links last t all before lines told
   last_so (Pending unknown) before lines told = places_so (setting_in explained) links last t all before lines told
   last_so Bogus before lines told = places_so (setting_in explained) links last t all before lines told
   last_so Indeterminate before lines told = places_so (setting_in explained) links last t all before lines told
+  last_so verdict before lines told = end_so (setting_in explained) links last t all before lines told
 
   holding_so : (verdict : Verdict) (before lines : List Line) → IsHoldingTold explained t links last verdict before lines
       → AreWithin (before ++ lines) all → Hold lines
@@ -181,27 +163,16 @@ module _ (explained : Explained) (t : ℕ) (links : List Link) (last : Labels) (
       (λ back. holding_so verdict told.first told.second told.says_second back)
 
   explanation_so : (verdict : Verdict) (lines : List Line) → IsExplanation explained t links last verdict lines → AreWithin lines all → Hold lines
-  explanation_so (SecureAnswer k s) lines is within = holding_so (SecureAnswer k s) [] lines is within
-  explanation_so (SecureAlias k s) lines is within = holding_so (SecureAlias k s) [] lines is within
-  explanation_so (SecureNoName proof) lines is within = holding_so (SecureNoName proof) [] lines is within
-  explanation_so (SecureNoData proof) lines is within = holding_so (SecureNoData proof) [] lines is within
-  explanation_so (Insecure cut) lines is within = holding_so (Insecure cut) [] lines is within
-  explanation_so (Pending unknown) lines is within = holding_so (Pending unknown) [] lines is within
   explanation_so Bogus lines is within = failed_so Bogus lines is within
   explanation_so Indeterminate lines is within = failed_so Indeterminate lines is within
+  explanation_so verdict lines is within = holding_so verdict [] lines is within
 
 -- under hope the RRsets are the same
 in_its_setting : (explained : Explained) (verdict : Verdict) (asked : Asked) (all : List Line)
     → ((each : Line) → Contains all each → IsSoFor explained.rrsets asked all each)
     → (each : Line) → Contains all each → IsSoFor (its_setting explained verdict).rrsets asked all each
-in_its_setting explained (SecureAnswer k s) asked all so = so
-in_its_setting explained (SecureAlias k s) asked all so = so
-in_its_setting explained (SecureNoName proof) asked all so = so
-in_its_setting explained (SecureNoData proof) asked all so = so
-in_its_setting explained (Insecure cut) asked all so = so
-in_its_setting explained (Pending unknown) asked all so = so
-in_its_setting explained Bogus asked all so = so
 in_its_setting explained Indeterminate asked all so = so
+in_its_setting explained verdict asked all so = so
 
 pub explanation_checks : (explained : Explained) (t : ℕ) (links : List Link) (last : Labels) (verdict : Verdict) (lines : List Line)
     → IsExplanation explained t links last verdict lines → Checks (its_setting explained verdict) (asked_by links last t) lines

@@ -1,7 +1,7 @@
 -- What is shown of a name can be told: by a chain of a zone, in a form that stands.
-use Rattle.std.proofs.Common.{◌∙◌, ◌+◌, ℕ, List, inl, refl, sym, ap, subst}
+use Rattle.std.proofs.Common.{◌∙◌, ℕ, List, inl, inr, length, refl, sym, ap, subst}
 use Rattle.std.specs.List.{Contains}
-use Rattle.dnsv_names.specs.Name.{Labels, SameName, lower_case, rightmost}
+use Rattle.dnsv_names.specs.Name.{Labels, SameName, lower_case}
 use Rattle.dnsv_zones.specs.forms.Forms.{IsAbove}
 use Rattle.dnsv_canonical.specs.declared.number.RecordNumber.{RecordNumber}
 use Rattle.dnsv_chain.specs.Trust.{KeptTrust, SecuredIn as KeptIn}
@@ -9,22 +9,23 @@ use Rattle.dnsv_denial.specs.forms.Denials.{IsDelegationAt}
 use Rattle.dnsv_denial.specs.forms.ProofForms.{ShowsNoCloser, form_records}
 use Rattle.dnsv_denial.specs.forms.ProofForms.ShowsNoCloser.{no_closer as closer_shown}
 use Rattle.dnsv_denial.specs.forms.ShownUnsigned.{ShowsDelegation, ShowsOptOut}
+use Rattle.dnsv_denial.specs.proving.ProofParts.{IsPartName, form_parts}
 use Rattle.dnsv_denial.specs.proving.ShownDenials.{IsFirstShown, IsShownNoCloser, IsShownNoData, IsShownNoName}
 use Rattle.dnsv_denial.specs.unsigned_cuts.ShownCut.{IsShownOptOutCloser}
 use Rattle.dnsv_denial.specs.words.EvidenceWords.{Chain, evidence_said, number_cmp}
 use Rattle.dnsv_denial.specs.declared.forms.proof_form.ProofForm.{ProofForm}
+use Rattle.dnsv_denial.specs.declared.proving.proof_part.ProofPart.{ProofPart}
 use Rattle.dnsv_denial.specs.declared.proving.shown_denial.ShownDenial.{ShownDenial}
 use Rattle.dnsv_zones.specs.forms.Parts.{OptsOut}
-use Rattle.dnsv_derivations.specs.Denials.IsShownBy.{no_name, no_data, no_closer}
+use Rattle.dnsv_derivations.specs.Denials.{IsShownBy}
+use Rattle.dnsv_derivations.specs.Denials.IsShownBy.{no_name, no_data, no_closer, no_ds, opted_out, closer_opted_out}
 use Rattle.dnsv_derivations.specs.Explained.{Setting}
 use Rattle.dnsv_derivations.specs.derivations.OwnDerivations.{IsTrustIn}
-use Rattle.dnsv_derivations.specs.unsigned_cuts.ShownCuts.IsShownUnsigned.{closer_opted_out, no_ds, opted_out}
 use Rattle.dnsv_derivations.proofs.lemmas.denials.PartLemmas.{zone_as}
 use Rattle.dnsv_derivations.proofs.lemmas.denials.ShownLemmas.{part_shown, shown_facts, spelled}
 use Rattle.dnsv_derivations.proofs.lemmas.denials.StandingLemmas.{each_by}
-use Rattle.dnsv_derivations.proofs.lemmas.unsigned_cuts.CutLemmas.{closer_above, cut_facts}
+use Rattle.dnsv_derivations.proofs.lemmas.unsigned_cuts.CutLemmas.{closer_above, no_closer_case}
 use Rattle.dnsv_lines.specs.declared.line.Line.{Line}
-use Rattle.dnsv_lines.specs.declared.line.cut.InsecureCase.TheVariants as case
 use Rattle.dnsv_rules.specs.Checked.{Asked, IsOnWay}
 use Rattle.dnsv_rules.specs.Told.{IsShownGood}
 use Rattle.dnsv_rules.proofs.checks.FormLemmas.{Counts, delegation_stands, no_closer_stands, no_data_stands, no_name_stands, opt_out_stands, out_closer_stands}
@@ -44,6 +45,10 @@ module _ (setting : Setting) (trust : KeptTrust) (good : IsTrustIn setting trust
   abbrev Kept : ℕ → ℕ → Type 0
   Kept = KeptIn trust
 
+  parts_fit : (name : Labels) (shown : ShownDenial) → IsShownBy trust setting.rrsets name shown → (each : ProofPart)
+      → Contains (form_parts shown.chain shown.form) each → IsPartName (length name) each.name
+  parts_fit name shown by each there = (part_shown setting name shown (shown_facts setting name shown (trust, good, by)) each there).within
+
   -- ---- of the name at the way's end
 
   module _ (aliases : List Labels) (name : Labels) (t : ℕ) (shown : ShownDenial) where
@@ -55,10 +60,11 @@ module _ (setting : Setting) (trust : KeptTrust) (good : IsTrustIn setting trust
 
     pub no_name_told : IsShownNoName Kept setting.rrsets name shown → Tells
     no_name_told is = record {
+      cased = inl refl;
       chain = is.chain;
       kind = is.kind;
       listed = λ number there. (is.records.members number).1 there;
-      fits = λ each there. (part_shown setting name shown (shown_facts setting name shown (trust, good, no_name is)) each there).within;
+      fits = parts_fit name shown (no_name is);
       stands = λ own tells.
           no_name_stands Kept setting.rrsets all shown.proof.zone name aliases t is.chain shown.form
           (each_by (Counts Kept setting.rrsets all shown.proof.zone name) (form_records shown.form) own) tells is.shows;
@@ -66,10 +72,11 @@ module _ (setting : Setting) (trust : KeptTrust) (good : IsTrustIn setting trust
 
     pub no_data_told : IsShownNoData Kept setting.rrsets name t shown → Tells
     no_data_told is = record {
+      cased = inl refl;
       chain = is.chain;
       kind = is.kind;
       listed = λ number there. (is.records.members number).1 there;
-      fits = λ each there. (part_shown setting name shown (shown_facts setting name shown (trust, good, no_data t is)) each there).within;
+      fits = parts_fit name shown (no_data t is);
       stands = λ own tells.
           no_data_stands Kept setting.rrsets all shown.proof.zone name aliases t is.chain shown.form
           (each_by (Counts Kept setting.rrsets all shown.proof.zone name) (form_records shown.form) own) tells is.shows;
@@ -78,24 +85,22 @@ module _ (setting : Setting) (trust : KeptTrust) (good : IsTrustIn setting trust
     pub delegation_told : (labels : ℕ) → IsFirstShown Kept setting.rrsets name (λ said zone. IsDelegationAt said zone name labels)
         (λ said zone. ShowsDelegation number_cmp said zone name labels) shown → Tells
     delegation_told labels is = record {
+      cased = inl refl;
       chain = is.chain;
       kind = is.kind;
       listed = λ number there. (is.records.members number).1 there;
-      fits = λ each there.
-          (part_shown setting name shown (cut_facts setting name shown case.UnsignedDelegation (rightmost name labels) (no_ds trust good labels is))
-          each there).within;
+      fits = parts_fit name shown (no_ds labels is);
       stands = λ own tells. delegation_stands Kept setting.rrsets all shown.proof.zone name aliases t is.chain labels shown.form is.shows;
     }
 
     pub opt_out_told : (labels : ℕ) → IsFirstShown Kept setting.rrsets name (λ said zone. OptsOut said zone name labels)
         (λ said zone. ShowsOptOut number_cmp said zone name labels) shown → Tells
     opt_out_told labels is = record {
+      cased = inl refl;
       chain = is.chain;
       kind = is.kind;
       listed = λ number there. (is.records.members number).1 there;
-      fits = λ each there.
-          (part_shown setting name shown (cut_facts setting name shown case.OptOut (rightmost name (labels + 1)) (opted_out trust good labels is))
-          each there).within;
+      fits = parts_fit name shown (opted_out labels is);
       stands = λ own tells.
           opt_out_stands Kept setting.rrsets all shown.proof.zone name aliases t is.chain labels shown.form
           (each_by (Counts Kept setting.rrsets all shown.proof.zone name) (form_records shown.form) own) tells is.shows;
@@ -106,13 +111,11 @@ module _ (setting : Setting) (trust : KeptTrust) (good : IsTrustIn setting trust
         let above = closer_above Kept setting.rrsets zone name is.chain labels shown.form is.shows in
         let same : SameName zone shown.proof.zone = spelled name zone labels above ∙ sym (ap lower_case is.zone) in
         let Among : RecordNumber → List RecordNumber → Type 0 = λ number each. Contains each number in record {
+          cased = inl refl;
           chain = is.chain;
           kind = is.kind;
           listed = λ number there. subst (Among number) (sym is.records) there;
-          fits = λ each there.
-              (part_shown setting name shown
-              (cut_facts setting name shown case.OptOutWildcard (rightmost name (labels + 1)) (closer_opted_out trust good labels zone is))
-              each there).within;
+          fits = parts_fit name shown (closer_opted_out labels zone is);
           stands = λ own tells.
               out_closer_stands Kept setting.rrsets all zone name shown.proof.zone same aliases t is.chain labels shown.form
               (each_by (Counts Kept setting.rrsets all zone name) (form_records shown.form)
@@ -127,11 +130,11 @@ module _ (setting : Setting) (trust : KeptTrust) (good : IsTrustIn setting trust
   no_closer_told asked name on_way shown labels zone is =
       let same = closer_same Kept setting name labels zone shown is in
       let Among : RecordNumber → List RecordNumber → Type 0 = λ number each. Contains each number in record {
+        cased = inr (no_closer_case (evidence_said Kept setting.rrsets zone is.chain) zone name labels shown.form is.shows);
         chain = is.chain;
         kind = is.kind;
         listed = λ number there. subst (Among number) (sym is.records) there;
-        fits = λ each there.
-            (part_shown setting name shown (shown_facts setting name shown (trust, good, no_closer labels zone is)) each there).within;
+        fits = parts_fit name shown (no_closer labels zone is);
         stands = λ own tells.
             no_closer_stands Kept setting.rrsets all zone name shown.proof.zone same asked on_way is.chain labels shown.form
             (each_by (Counts Kept setting.rrsets all zone name) (form_records shown.form)

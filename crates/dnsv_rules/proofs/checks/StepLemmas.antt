@@ -1,8 +1,8 @@
 -- What each line of a step says of the question is so.
-use Rattle.std.proofs.Common.{◌≡◌, ◌+◌, List, [], ◌∷◌, ◌++◌, Option, Some, None, length, refl, sym, subst, ⊎_elim}
+use Rattle.std.proofs.Common.{◌≡◌, ◌∙◌, ◌⊎◌, ◌+◌, List, [], ◌∷◌, ◌++◌, Option, Some, None, length, refl, sym, subst, ⊎_elim}
 use Rattle.std.specs.List.{AllByRecursion, Contains}
 use Rattle.std.specs.Option.{option_map}
-use Rattle.dnsv_names.specs.Name.{Labels, rightmost}
+use Rattle.dnsv_names.specs.Name.{IsAtOrBelow, Labels, rightmost}
 use Rattle.dnsv_names.specs.Tree.AncestorLaws.{rightmost_above, rightmost_below}
 use Rattle.dnsv_canonical.specs.declared.number.RecordNumber.{RecordNumber}
 use Rattle.dnsv_denial.specs.forms.ProofForms.{form_encloser, form_records}
@@ -10,12 +10,14 @@ use Rattle.dnsv_denial.specs.proving.ProofParts.{IsPartName, form_parts, part_na
 use Rattle.dnsv_denial.specs.proving.ShownDenials.{kind_of}
 use Rattle.dnsv_denial.specs.words.EvidenceWords.{Chain}
 use Rattle.dnsv_denial.specs.words.EvidenceWords.Chain.{ByNsec, ByNsec3}
+use Rattle.dnsv_denial.specs.declared.forms.proof_form.ProofForm.{ProofForm}
+use Rattle.dnsv_denial.specs.declared.forms.proof_form.ProofForm.TheVariants as shown_form
 use Rattle.dnsv_denial.specs.declared.proving.proof_part.PartName.{PartName}
 use Rattle.dnsv_denial.specs.declared.proving.proof_part.PartName.TheVariants as part
 use Rattle.dnsv_denial.specs.declared.proving.proof_part.ProofPart.{ProofPart}
 use Rattle.dnsv_denial.specs.declared.proving.shown_denial.ShownDenial.{ShownDenial}
 use Rattle.dnsv_denial.specs.declared.records.chain_kind.ChainKind.{ChainKind}
-use Rattle.dnsv_derivations.specs.Denials.{IsDenialTold, IsPartSaid, IsPartTold, IsProofLine, IsProofOf, IsProofSaid, IsProofTold, IsProofWithParts, told_chain, told_form, told_role}
+use Rattle.dnsv_derivations.specs.Denials.{IsCaseFor, IsDenialTold, IsPartSaid, IsPartTold, IsProofLine, IsProofOf, IsProofSaid, IsProofTold, IsProofWithParts, told_case, told_chain, told_form, told_role}
 use Rattle.dnsv_derivations.specs.Explained.{Setting}
 use Rattle.dnsv_derivations.specs.Following.Parts.{IsOfKind}
 use Rattle.dnsv_derivations.specs.Saying.{AreBoth, AreEach}
@@ -23,6 +25,7 @@ use Rattle.dnsv_derivations.specs.derivations.OwnDerivations.{AreRecordsDerived}
 use Rattle.dnsv_verifier.proofs.NumberLemmas.{at_front, further}
 use Rattle.dnsv_lines.specs.declared.line.Line.{Line}
 use Rattle.dnsv_lines.specs.declared.line.Line.TheVariants as line
+use Rattle.dnsv_lines.specs.declared.line.cut.InsecureCase.{InsecureCase}
 use Rattle.dnsv_lines.specs.declared.line.denial.Form.{Form}
 use Rattle.dnsv_lines.specs.declared.line.denial.Proof.{Proof}
 use Rattle.dnsv_lines.specs.declared.line.denial.Role.{Role}
@@ -45,6 +48,26 @@ name_fits name (part.NextCloser labels) within = rightmost_above name (labels + 
 name_fits name (part.Wildcard labels) within = (rightmost name labels, rightmost_below name labels within, refl)
 name_fits name part.Name within = refl
 name_fits name (part.Cut labels) within = rightmost_above name labels
+
+-- the name of a case is at or above the question's
+abbrev IsCaseAbove : Labels → Option (InsecureCase × PartName) → Type 0
+IsCaseAbove name None = Unit {0}
+IsCaseAbove name (Some which) = IsAtOrBelow name (part_name name which.1)
+
+case_above : (name : Labels) (shape : ProofForm RecordNumber) → IsCaseAbove name (told_case shape)
+case_above name (shown_form.NoName parts) = tt
+case_above name (shown_form.NoData number) = tt
+case_above name (shown_form.EmptyNonTerminal number) = tt
+case_above name (shown_form.WildcardNoData parts) = tt
+case_above name (shown_form.EmptyWildcard parts) = tt
+case_above name (shown_form.NoCloser labels number) = tt
+case_above name (shown_form.Delegation labels number) = rightmost_above name labels
+case_above name (shown_form.OptOut labels encloser number) = rightmost_above name (labels + 1)
+case_above name (shown_form.WildcardOptOut parts) = rightmost_above name (parts.labels + 1)
+case_above name (shown_form.OptOutCloser labels number) = rightmost_above name (labels + 1)
+
+never_both : (which : InsecureCase × PartName) → Some which ≡ None → ⊥
+never_both which clash = cc
 
 -- the proof line of a form
 abbrev proof_line : Form → Labels → ShownDenial → Proof
@@ -87,9 +110,10 @@ module _ (setting : Setting) (asked : Asked) (all : List Line) where
   -- ---- a proof with its parts
 
   module _ (name : Labels) (on_way : IsOnWay asked name) (shown : ShownDenial) where
-    -- The denial is shown by a chain of the zone; and where lines show its records to be signed and tell its parts, what
-    -- its proof line says stands.
+    -- The denial is shown by a chain of the zone, and is of a case for the name asked alone; and where lines show its records
+    -- to be signed and tell its parts, what its proof line says stands.
     pub record Tellable : Type 0 where
+      pub cased : (asked.name ≡ name) ⊎ (told_case shown.form ≡ None)
       pub chain : Chain
       pub kind : shown.chain ≡ kind_of chain
       pub listed : (number : RecordNumber) → Contains (form_records shown.form) number → Contains shown.proof.records number
@@ -137,20 +161,38 @@ module _ (setting : Setting) (asked : Asked) (all : List Line) where
           one_each So (line.Part told.part) lines once.1 (name, on_way, fits))
           told.once
 
+      case_so : (which : Option (InsecureCase × PartName)) → IsCaseAbove name which → told_case shown.form ≡ which → (before lines : List Line)
+          → IsCaseFor which name shown.proof.zone before lines → Each So lines
+      case_so None above is before lines told = none_each So lines told
+      case_so (Some which) above is before lines told =
+          ⊎_elim
+          (λ (same : asked.name ≡ name).
+          one_each So (line.Case told.cut) lines told.are
+          (subst (λ of. IsAtOrBelow of told.cut.name) (sym same) (subst (λ at. IsAtOrBelow name at) (sym told.is_name) above)))
+          (λ (none : told_case shown.form ≡ None). absurd (never_both which (sym is ∙ none)))
+          tellable.cased
+
       pub with_parts_so : (before lines : List Line) → IsProofWithParts setting.rrsets name shown before lines
           → AreWithin (before ++ lines) all → Each So lines
       with_parts_so before lines told within =
+          let rest = told.says_second in
+          let cased : List Line = before ++ told.first in
           let Lines : List Line → Type 0 = λ more. AreWithin (before ++ more) all in
-          let parted : AreWithin (before ++ (told.first ++ told.second)) all = subst Lines told.parts within in
-          let back : AreWithin ((before ++ told.first) ++ told.second) all = within_back before told.first told.second all parted in
+          let Then : List Line → Type 0 = λ more. AreWithin (cased ++ more) all in
+          let behind : AreWithin (cased ++ told.second) all = within_back before told.first told.second all (subst Lines told.parts within) in
+          let back : AreWithin ((cased ++ rest.first) ++ rest.second) all =
+          within_back cased rest.first rest.second all (subst Then rest.parts behind) in
           let Tell : ChainKind → Type 0 = λ each. AllByRecursion (IsPartTellable all name) (form_parts each shown.form) in
           let parts : Tell shown.chain =
-          parts_told setting.rrsets name all (form_parts shown.chain shown.form) (before ++ told.first) told.second told.says_second back in
+          parts_told setting.rrsets name all (form_parts shown.chain shown.form) (cased ++ rest.first) rest.second rest.says_second back in
           let stands = tellable.stands (λ number there. own number (tellable.listed number there)) (subst Tell tellable.kind parts) in
-          both_so (IsProofTold name shown) (AreEach (IsPartTold setting.rrsets name) (form_parts shown.chain shown.form)) before lines told within
-          (λ front. proof_so (told_form shown.form) refl before told.first stands told.says_first)
-          (λ behind. each_so (IsPartTold setting.rrsets name) (form_parts shown.chain shown.form) (before ++ told.first) told.second behind
-          (λ each there old new inside one. part_so each there old new one) told.says_second)
+          let Parts : List Line → List Line → Type 0 = AreEach (IsPartTold setting.rrsets name) (form_parts shown.chain shown.form) in
+          both_so (IsCaseFor (told_case shown.form) name shown.proof.zone) (AreBoth (IsProofTold name shown) Parts) before lines told within
+          (λ front. case_so (told_case shown.form) (case_above name shown.form) refl before told.first told.says_first)
+          (λ after. both_so (IsProofTold name shown) Parts cased told.second rest after
+          (λ front. proof_so (told_form shown.form) refl cased rest.first stands rest.says_first)
+          (λ last. each_so (IsPartTold setting.rrsets name) (form_parts shown.chain shown.form) (cased ++ rest.first) rest.second last
+          (λ each there old new inside one. part_so each there old new one) rest.says_second))
 
     -- ---- a denial
 

@@ -1,17 +1,16 @@
 -- What each line says of a name that may be unsigned is so.
-use Rattle.std.proofs.Common.{◌+◌, ℕ, List, ◌++◌, Option, Some, None, inl, refl, sym, subst}
+use Rattle.std.proofs.Common.{ℕ, List, ◌++◌, Option, None, inl, refl, sym, subst}
 use Rattle.dnsv_names.specs.Name.{Labels, IsAtOrBelow, rightmost}
 use Rattle.dnsv_names.specs.Tree.AncestorLaws.{rightmost_above}
 use Rattle.dnsv_chain.specs.Trust.{KeptTrust, SecuredIn as KeptIn}
 use Rattle.dnsv_denial.specs.unsigned_cuts.ShownCut.{IsShownCut}
 use Rattle.dnsv_denial.specs.unsigned_cuts.ShownCut.IsShownCut.{no_ds, no_usable_ds, opt_out}
-use Rattle.dnsv_denial.specs.declared.proving.shown_denial.ShownDenial.{ShownDenial}
 use Rattle.dnsv_denial.specs.declared.unsigned_cuts.shown_cut.ShownCut.{ShownCut}
-use Rattle.dnsv_derivations.specs.Denials.{IsProofWithParts}
+use Rattle.dnsv_derivations.specs.Denials.{IsDenialTold}
 use Rattle.dnsv_derivations.specs.Explained.{Setting}
 use Rattle.dnsv_derivations.specs.Saying.{AreBoth}
-use Rattle.dnsv_derivations.specs.derivations.OwnDerivations.{AreRecordsDerived, IsSignatureTold, IsTrustIn}
-use Rattle.dnsv_derivations.specs.unsigned_cuts.ShownCuts.{IsCutTold, IsUnsignedTold}
+use Rattle.dnsv_derivations.specs.derivations.OwnDerivations.{IsSignatureTold, IsTrustIn}
+use Rattle.dnsv_derivations.specs.unsigned_cuts.ShownCuts.{IsCutTold}
 use Rattle.dnsv_derivations.specs.unsigned_cuts.UnsignedCuts.{AreAllTold, IsCaseTold, IsUnusableTold}
 use Rattle.dnsv_lines.specs.declared.line.Line.{Line}
 use Rattle.dnsv_lines.specs.declared.line.Line.TheVariants as line
@@ -21,10 +20,10 @@ use Rattle.dnsv_explain.specs.Explanation.{IsUnsignedFromTold, signature_of}
 use Rattle.dnsv_explain.specs.Explanation.IsUnsignedFromTold.{by_cut, by_wildcard}
 use Rattle.dnsv_explain.proofs.lemmas.keys.EachLemmas.{Each, mapped_each, one_each}
 use Rattle.dnsv_rules.specs.Checked.{Asked}
-use Rattle.dnsv_rules.proofs.checks.DerivedLemmas.{records_so, signature_so}
+use Rattle.dnsv_rules.proofs.checks.DerivedLemmas.{signature_so}
 use Rattle.dnsv_rules.proofs.checks.ShownLemmas.{delegation_told, opt_out_told, out_closer_told}
-use Rattle.dnsv_rules.proofs.checks.StepLemmas.{So, Tellable, both_so, with_parts_so}
-use Rattle.dnsv_rules.proofs.checks.TellLemmas.{AreWithin, records_own, within_front}
+use Rattle.dnsv_rules.proofs.checks.StepLemmas.{So, both_so, denial_so}
+use Rattle.dnsv_rules.proofs.checks.TellLemmas.{AreWithin}
 
 module _ (setting : Setting) (aliases : List Labels) (name : Labels) (t : ℕ) (all : List Line) where
   abbrev here : Asked
@@ -39,22 +38,6 @@ module _ (setting : Setting) (aliases : List Labels) (name : Labels) (t : ℕ) (
   case_so kind labels of_zone before lines told =
       let Above : Labels → Type 0 = λ each. IsAtOrBelow name each in
       one_each (So setting here all) (line.Case told.cut) lines told.are (subst Above (sym told.is_name) (rightmost_above name labels))
-
-  unsigned_so : (kind : InsecureCase) (labels : ℕ) (shown : ShownDenial) → Tellable setting here all name (inl refl) shown → (before lines : List Line)
-      → IsUnsignedTold setting name shown kind (rightmost name labels) before lines → AreWithin (before ++ lines) all → Are lines
-  unsigned_so kind labels shown tellable before lines told within =
-      let zone = shown.proof.zone in
-      let Lines : List Line → Type 0 = λ more. AreWithin (before ++ more) all in
-      let front : AreWithin (before ++ told.first) all = within_front before told.first told.second all (subst Lines told.parts within) in
-      both_so setting here all (AreRecordsDerived setting zone shown.proof.records)
-      (AreBoth (IsCaseTold kind (rightmost name labels) (Some zone)) (IsProofWithParts setting.rrsets name shown)) before lines told within
-      (λ inside. records_so setting here all zone shown.proof.records before told.first told.says_first)
-      (λ back. both_so setting here all (IsCaseTold kind (rightmost name labels) (Some zone)) (IsProofWithParts setting.rrsets name shown)
-      (before ++ told.first) told.second told.says_second back
-      (λ inside. case_so kind labels (Some zone) (before ++ told.first) told.says_second.first told.says_second.says_first)
-      (λ behind. with_parts_so setting here all name (inl refl) shown tellable
-      (records_own setting zone shown.proof.records before told.first all told.says_first front)
-      ((before ++ told.first) ++ told.says_second.first) told.says_second.second told.says_second.says_second behind))
 
   -- ---- a DS RRset without a record that can be used
 
@@ -79,18 +62,16 @@ module _ (setting : Setting) (aliases : List Labels) (name : Labels) (t : ℕ) (
   cut_so : (trust : KeptTrust) → IsTrustIn setting trust → (cut : ShownCut) (before lines : List Line)
       → IsShownCut (KeptIn trust) setting.rrsets name cut → IsCutTold setting name cut before lines → AreWithin (before ++ lines) all → Are lines
   cut_so trust good _ before lines (no_ds labels shown fewest is) told within =
-      unsigned_so case.UnsignedDelegation labels shown (delegation_told setting trust good all aliases name t shown labels is) before lines told within
+      denial_so setting here all name (inl refl) shown (delegation_told setting trust good all aliases name t shown labels is) before lines told within
   cut_so trust good _ before lines (no_usable_ds labels none fewest) told within = unusable_so labels before lines told within
   cut_so trust good _ before lines (opt_out labels shown no_delegation no_unusable most is) told within =
-      unsigned_so case.OptOut (labels + 1) shown (opt_out_told setting trust good all aliases name t shown labels is) before lines told within
+      denial_so setting here all name (inl refl) shown (opt_out_told setting trust good all aliases name t shown labels is) before lines told within
 
   pub unsigned_from_so : (before lines : List Line) → IsUnsignedFromTold setting name t before lines → AreWithin (before ++ lines) all → Are lines
   unsigned_from_so before lines (by_cut shown is told) within = cut_so is.0 is.1 shown before lines is.2 told within
   unsigned_from_so before lines (by_wildcard trust good none k s first shown is told) within =
-      let labels = first.such.rrsig.labels in
-      both_so setting here all (IsSignatureTold setting (signature_of k s))
-      (IsUnsignedTold setting name shown case.OptOutWildcard (rightmost name (labels + 1))) before lines told within
+      both_so setting here all (IsSignatureTold setting (signature_of k s)) (IsDenialTold setting name shown) before lines told within
       (λ inside. signature_so setting here all (signature_of k s) before told.first told.says_first)
-      (λ back. unsigned_so case.OptOutWildcard (labels + 1) shown
-      (out_closer_told setting trust good all aliases name t shown labels first.such.rrsig.signer is) (before ++ told.first) told.second
-      told.says_second back)
+      (λ back. denial_so setting here all name (inl refl) shown
+      (out_closer_told setting trust good all aliases name t shown first.such.rrsig.labels first.such.rrsig.signer is) (before ++ told.first)
+      told.second told.says_second back)

@@ -38,10 +38,7 @@ module _ (setting : Setting) (asked : Asked) (lines : List Line) (zone : Labels)
   ends_of form.NoName encloser needs (stands, same) = record { labels = stands.labels; ends = stands.ends; same = same }
   ends_of form.NoData3 encloser needs (stands, same) = record { labels = stands.labels; ends = stands.ends; same = same }
   ends_of form.NoData4 encloser needs (stands, same) = record { labels = stands.labels; ends = stands.ends; same = same }
-  ends_of form.NoData1 encloser needs stands = absurd needs
-  ends_of form.NoData2 encloser needs stands = absurd needs
-  ends_of form.NoCloser encloser needs stands = absurd needs
-  ends_of form.OptOut encloser needs stands = absurd needs
+  ends_of other encloser needs stands = absurd needs
 
   -- that is the encloser with the name
   same_encloser : (encloser : Option Labels) (name other : Labels) → encloser ≡ Some name → SameEncloser encloser (Some other) → SameName name other

@@ -17,9 +17,9 @@ use Rattle.dnsv_chain.specs.Anchor.{anchor_owner}
 use Rattle.dnsv_chain.specs.declared.anchor.Anchor.{Anchor}
 use Rattle.dnsv_chain.specs.declared.anchor.Anchor.TheVariants as given
 use Rattle.dnsv_faults.specs.Groups.{anchor_wanted}
-use Rattle.dnsv_faults.specs.Vouchers.{wanted_key}
-use Rattle.dnsv_faults.specs.Vouchers.Wanted.{by_digest}
-use Rattle.dnsv_faults.proofs.lemmas.ZoneKeyLemmas.{same_number}
+use Rattle.dnsv_zone_keys.specs.Vouchers.{wanted_key}
+use Rattle.dnsv_zone_keys.specs.Vouchers.Wanted.{by_digest}
+use Rattle.dnsv_zone_keys.proofs.lemmas.ZoneKeyLemmas.{same_number}
 use Rattle.dnsv_gaps.specs.Asking.{Asking}
 use Rattle.dnsv_lines.specs.declared.line.Line.{Line}
 use Rattle.dnsv_lines.specs.declared.line.Line.TheVariants as line

@@ -42,7 +42,7 @@ use Rattle.dnsv_faults.proofs.lemmas.zones.ClosedLemmas.{contains_of}
 use Rattle.dnsv_faults.proofs.lemmas.zones.InPlaceLemmas.{at_or_above, in_place}
 use Rattle.dnsv_faults.proofs.lemmas.zones.TrustLemmas.{zip_left}
 use Rattle.dnsv_faults.proofs.lemmas.zones.ZoneLemmas.{held_at}
-use Rattle.dnsv_faults.proofs.lemmas.ZoneKeyLemmas.{same_number}
+use Rattle.dnsv_zone_keys.proofs.lemmas.ZoneKeyLemmas.{same_number}
 use Rattle.dnsv_gaps.specs.Asking.{Asking}
 use Rattle.dnsv_reasons.specs.Lines.{IsTrustLine}
 use Rattle.dnsv_reasons.specs.Places.{IsEntry, IsShown}

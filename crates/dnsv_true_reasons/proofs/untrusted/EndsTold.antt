@@ -31,7 +31,7 @@ use Rattle.dnsv_remedies.proofs.Once.{each_told, only_told, unanchored_reasons}
 use Rattle.dnsv_faults.proofs.lemmas.zones.ClosedLemmas.{off_by}
 use Rattle.dnsv_faults.proofs.lemmas.zones.TrustLemmas.{number_of}
 use Rattle.dnsv_faults.proofs.lemmas.zones.WholeLemmas.{whole}
-use Rattle.dnsv_faults.proofs.lemmas.ZoneKeyLemmas.{same_number}
+use Rattle.dnsv_zone_keys.proofs.lemmas.ZoneKeyLemmas.{same_number}
 use Rattle.dnsv_gaps.specs.Asking.{Asking}
 use Rattle.dnsv_reasons.specs.Failures.{AreFailures}
 use Rattle.dnsv_reasons.specs.Lines.{AreSaidLines, IsSaidLine, IsTrustLine}

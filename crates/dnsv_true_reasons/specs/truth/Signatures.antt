@@ -6,8 +6,8 @@ use Rattle.dnsv_records.specs.declared.rrsig.Rrsig.{Rrsig}
 use Rattle.dnsv_canonical.specs.Rrsets.{IsNumbered, ReceivedRrset}
 use Rattle.dnsv_canonical.specs.SignedData.{IsExpanded, signed_label_count}
 use Rattle.dnsv_chain.specs.Trusted.{IsGoodByTrust, IsKeyOf}
-use Rattle.dnsv_faults.specs.Answers.{IsAnswered}
-use Rattle.dnsv_faults.specs.Keys.{HasKeys, IsNamed, IsZoneKey, NamesKey, NamesZoneKey}
+use Rattle.dnsv_zone_keys.specs.Answers.{IsAnswered}
+use Rattle.dnsv_zone_keys.specs.Keys.{HasKeys, IsNamed, IsZoneKey, NamesKey, NamesZoneKey}
 use Rattle.dnsv_faults.specs.Signatures.{IsSignatureAt, times_of}
 use Rattle.dnsv_lines.specs.declared.line.fault.signature.SignatureFault.{SignatureFault}
 use Rattle.dnsv_lines.specs.declared.line.fault.signature.UnsignedRrset.{UnsignedRrset}

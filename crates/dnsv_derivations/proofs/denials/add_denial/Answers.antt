@@ -9,6 +9,9 @@ add_records-requires c =
     its_records (setting_in c.args.evidence.now) c.args.name.now c.args.shown.now c.zone.result.now c.records.result.now
     c.zone.ensures c.records.ensures (shown_facts (setting_in c.args.evidence.now) c.args.name.now c.args.shown.now c.requires)
 
+pub add_case_for-requires : goal.add_case_for-requires
+add_case_for-requires c = (shown_facts (setting_in c.args.evidence.now) c.args.name.now c.args.shown.now c.requires).facts.case
+
 pub add_proof-requires : goal.add_proof-requires
 add_proof-requires c = (shown_facts (setting_in c.args.evidence.now) c.args.name.now c.args.shown.now c.requires).facts.encloser
 
@@ -20,5 +23,5 @@ add_parts-requires c =
 pub returns : goal.returns
 returns c =
     denial_told (setting_in c.args.evidence.now) c.args.name.now c.args.shown.now c.zone.result.now c.records.result.now c.deref.result.now
-    _ _ _ _ c.zone.ensures c.records.ensures (c.deref.ensures.0 ∙ c.parts.ensures)
-    c.in_ok-add_records.ensures c.in_ok-add_proof.ensures c.in_ok-add_parts.ensures
+    _ _ _ _ _ c.zone.ensures c.records.ensures (c.deref.ensures.0 ∙ c.parts.ensures)
+    c.in_ok-add_records.ensures c.in_ok-add_case_for.ensures c.in_ok-add_proof.ensures c.in_ok-add_parts.ensures

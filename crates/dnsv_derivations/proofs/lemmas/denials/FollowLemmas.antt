@@ -4,20 +4,23 @@ use Rattle.std.proofs.lemmas.List.{append-nil}
 use Rattle.std.proofs.lemmas.List.Elements.{Contains-append_left, Contains-push}
 use Rattle.std.specs.List.{AllByRecursion, Contains}
 use Rattle.dnsv_names.specs.Name.{Labels, SameName, lower_case}
-use Rattle.dnsv_chain.specs.Trust.{SecuredIn as KeptIn}
+use Rattle.dnsv_zones.specs.forms.RecordWords.{RecordWords}
+use Rattle.dnsv_chain.specs.Trust.{KeptTrust, SecuredIn as KeptIn}
 use Rattle.dnsv_denial.specs.forms.ProofForms.{form_records}
 use Rattle.dnsv_denial.specs.gathering.Evidence.{IsSecuredBy}
 use Rattle.dnsv_denial.specs.proving.ProofParts.{form_parts, part_name}
-use Rattle.dnsv_denial.specs.proving.ShownDenials.{kind_of}
+use Rattle.dnsv_denial.specs.proving.ShownDenials.{IsFirstShown, kind_of}
 use Rattle.dnsv_denial.specs.words.EvidenceWords.{Chain, evidence_said}
 use Rattle.dnsv_denial.specs.words.EvidenceWords.Chain.{ByNsec, ByNsec3}
+use Rattle.dnsv_denial.specs.declared.forms.proof_form.ProofForm.{ProofForm}
 use Rattle.dnsv_denial.specs.declared.proving.proof_part.PartName.{PartName}
 use Rattle.dnsv_denial.specs.declared.proving.proof_part.PartRelation.{PartRelation}
 use Rattle.dnsv_denial.specs.declared.proving.proof_part.ProofPart.{ProofPart}
 use Rattle.dnsv_denial.specs.declared.proving.shown_denial.ShownDenial.{ShownDenial}
 use Rattle.dnsv_canonical.specs.declared.number.RecordNumber.{RecordNumber}
 use Rattle.dnsv_derivations.specs.Explained.{Setting}
-use Rattle.dnsv_derivations.specs.Denials.{IsDenialTold, IsExpandedTold, IsPartLine, IsPartSaid, IsPartTold, IsFormTold, IsProofOf, IsProofSaid, IsProofTold, IsShownDenial, IsTellingOf, told_chain, told_form, told_relation, told_role}
+use Rattle.dnsv_derivations.specs.Denials.{IsCaseFor, IsDenialTold, IsExpandedTold, IsPartLine, IsPartSaid, IsPartTold, IsFormTold, IsProofOf, IsProofSaid, IsShownBy, IsShownDenial, IsTellingOf, told_case, told_chain, told_form, told_relation, told_role}
+use Rattle.dnsv_derivations.specs.Denials.IsShownBy.{no_name, no_data, no_closer, no_ds, opted_out, closer_opted_out}
 use Rattle.dnsv_derivations.specs.derivations.OwnDerivations.{AreRecordsDerived, IsOwnDerivation, SecuredIn}
 use Rattle.dnsv_derivations.specs.derivations.Derivations.Subject.{signature}
 use Rattle.dnsv_derivations.specs.Following.{EachFollows, IsSaidSigned, IsSignatureSaid}
@@ -25,8 +28,6 @@ use Rattle.dnsv_derivations.specs.Following.Cases.{IsCaseBy}
 use Rattle.dnsv_derivations.specs.Following.Parts.{IsOfKind, IsPartOf, IsSaidBy, IsWord, IsZoneNamed}
 use Rattle.dnsv_derivations.specs.Following.Parts.IsZoneNamed.{by_case, by_proof}
 use Rattle.dnsv_derivations.specs.Saying.{AreBoth, AreEach}
-use Rattle.dnsv_derivations.specs.unsigned_cuts.ShownCuts.{IsShownUnsigned, IsUnsignedTold}
-use Rattle.dnsv_derivations.specs.unsigned_cuts.ShownCuts.IsShownUnsigned.{closer_opted_out, no_ds, opted_out}
 use Rattle.dnsv_derivations.specs.unsigned_cuts.UnsignedCuts.{IsCaseTold}
 use Rattle.dnsv_lines.specs.declared.line.Line.{Line}
 use Rattle.dnsv_lines.specs.declared.line.Line.TheVariants as line
@@ -40,9 +41,9 @@ use Rattle.dnsv_lines.specs.declared.line.denial.Relation.{Relation}
 use Rattle.dnsv_lines.specs.declared.line.denial.Role.{Role}
 use Rattle.dnsv_canonical.specs.declared.number.SignatureNumber.{SignatureNumber}
 use Rattle.dnsv_derivations.proofs.lemmas.denials.StandingLemmas.{Counts, delegation_by, each_by, opt_out_by, opt_out_closer_by}
-use Rattle.dnsv_derivations.proofs.lemmas.unsigned_cuts.CutLemmas.{closer_above, cut_facts}
+use Rattle.dnsv_derivations.proofs.lemmas.unsigned_cuts.CutLemmas.{closer_above, delegation_case, no_closer_case, no_data_case, no_name_case, opt_out_case, out_closer_case}
 use Rattle.dnsv_derivations.proofs.lemmas.denials.FormLemmas.{PartSays, each_member}
-use Rattle.dnsv_derivations.proofs.lemmas.denials.ShownLemmas.{IsListed, ShownFacts, has_form, part_listed, part_shown, shown_facts, spelled}
+use Rattle.dnsv_derivations.proofs.lemmas.denials.ShownLemmas.{HasOne, IsListed, ShownFacts, has_one, part_listed, part_shown, shown_facts, spelled}
 use Rattle.dnsv_derivations.proofs.lemmas.derivations.DerivationLemmas.{derivation_follows, number_said}
 use Rattle.dnsv_derivations.proofs.lemmas.denials.PartLemmas.{secured_too, word_by, zone_as}
 
@@ -149,41 +150,6 @@ module _ (setting : Setting) where
 
   -- ---- a case
 
-  -- what it says is shown by the records that were derived
-  case_shown : (name : Labels) (shown : ShownDenial) (kind : InsecureCase) (cut : Labels) → IsShownUnsigned setting name shown kind cut
-      → (before : List Line) → ((number : RecordNumber) → Contains shown.proof.records number → OwnSaid shown.proof.zone before number.rrset)
-      → IsCaseBy (Said before) (IsSaidSigned before) setting.rrsets kind cut (Some shown.proof.zone)
-  case_shown name shown _ _ (no_ds trust good labels is) before own =
-      let zone = shown.proof.zone in
-      let counted = each_by (Counts (KeptIn trust) (Said before) setting.rrsets zone name) (form_records shown.form)
-      (λ number there. own number ((is.records.members number).1 there)) in
-      let shows = delegation_by (KeptIn trust) (Said before) setting.rrsets zone name is.chain labels shown.form counted is.shows in
-      (zone, refl, (name, labels, is.chain, refl, shows))
-  case_shown name shown _ _ (opted_out trust good labels is) before own =
-      let zone = shown.proof.zone in
-      let counted = each_by (Counts (KeptIn trust) (Said before) setting.rrsets zone name) (form_records shown.form)
-      (λ number there. own number ((is.records.members number).1 there)) in
-      let shows = opt_out_by (KeptIn trust) (Said before) setting.rrsets zone name is.chain labels shown.form counted is.shows in
-      (zone, refl, (name, labels, is.chain, refl, shows))
-  case_shown name shown _ _ (closer_opted_out trust good labels zone is) before own =
-      let above = closer_above (KeptIn trust) setting.rrsets zone name is.chain labels shown.form is.shows in
-      let same = ap lower_case is.zone ∙ sym (spelled name zone labels above) in
-      let Among : RecordNumber → List RecordNumber → Type 0 = λ number each. Contains each number in (
-        zone,
-        same,
-        (
-          name,
-          labels,
-          is.chain,
-          refl,
-          opt_out_closer_by (KeptIn trust) (Said before) setting.rrsets zone name is.chain labels shown.form
-              (each_by (Counts (KeptIn trust) (Said before) setting.rrsets zone name) (form_records shown.form)
-              (λ number there.
-              zone_as (Said before) setting.rrsets shown.proof.zone zone number.rrset same (own number (subst (Among number) (sym is.records) there))))
-              is.shows,
-        ),
-      )
-
   abbrev CaseSaid : List Line → InsecureCase → Labels → Option Labels → Type 0
   CaseSaid before = IsCaseBy (Said before) (IsSaidSigned before) setting.rrsets
 
@@ -198,6 +164,63 @@ module _ (setting : Setting) where
         subst Zone (sym told.is_zone) (subst Name (sym told.is_name) (subst Kind (sym told.is_kind) said)),
         tt,
       )
+
+  -- where there is one
+  abbrev CaseSaidOf : List Line → Labels → Labels → Option (InsecureCase × PartName) → Type 0
+  CaseSaidOf before name zone None = Unit {0}
+  CaseSaidOf before name zone (Some which) = CaseSaid before which.0 (part_name name which.1) (Some zone)
+
+  case_for_follows : (which : Option (InsecureCase × PartName)) (name zone : Labels) (before lines : List Line)
+      → IsCaseFor which name zone before lines → CaseSaidOf before name zone which → Follow before lines
+  case_for_follows None name zone before lines told said =
+      let Lines : List Line → Type 0 = λ all. Follow before all in subst Lines (sym told) tt
+  case_for_follows (Some which) name zone before lines told said =
+      case_follows which.0 (part_name name which.1) (Some zone) before lines told said
+
+  -- what it says is shown by the records that were derived
+  module _ (trust : KeptTrust) (name : Labels) (shown : ShownDenial) (before : List Line)
+      (own : (number : RecordNumber) → Contains shown.proof.records number → OwnSaid shown.proof.zone before number.rrset) where
+    abbrev Kept : ℕ → ℕ → Type 0
+    Kept = KeptIn trust
+
+    abbrev SaidOf : Option (InsecureCase × PartName) → Type 0
+    SaidOf which = CaseSaidOf before name shown.proof.zone which
+
+    counted : (Stands : RecordWords RecordNumber → Labels → Type 0) (Shows : RecordWords RecordNumber → Labels → ProofForm RecordNumber → Type 0)
+        → IsFirstShown Kept setting.rrsets name Stands Shows shown
+        → AllByRecursion (Counts Kept (Said before) setting.rrsets shown.proof.zone name) (form_records shown.form)
+    counted Stands Shows is =
+        each_by (Counts Kept (Said before) setting.rrsets shown.proof.zone name) (form_records shown.form)
+        (λ number there. own number ((is.records.members number).1 there))
+
+    case_shown : IsShownBy trust setting.rrsets name shown → SaidOf (told_case shown.form)
+    case_shown (no_name is) =
+        subst SaidOf (sym (no_name_case (evidence_said Kept setting.rrsets shown.proof.zone is.chain) shown.proof.zone name shown.form is.shows)) tt
+    case_shown (no_data t is) =
+        subst SaidOf (sym (no_data_case (evidence_said Kept setting.rrsets shown.proof.zone is.chain) shown.proof.zone name t shown.form is.shows)) tt
+    case_shown (no_closer labels zone is) =
+        subst SaidOf (sym (no_closer_case (evidence_said Kept setting.rrsets zone is.chain) zone name labels shown.form is.shows)) tt
+    case_shown (no_ds labels is) =
+        let zone = shown.proof.zone in
+        let shows = delegation_by Kept (Said before) setting.rrsets zone name is.chain labels shown.form (counted _ _ is) is.shows in
+        subst SaidOf (sym (delegation_case (evidence_said Kept setting.rrsets zone is.chain) zone name labels shown.form is.shows))
+        (zone, refl, (name, labels, is.chain, refl, shows))
+    case_shown (opted_out labels is) =
+        let zone = shown.proof.zone in
+        let shows = opt_out_by Kept (Said before) setting.rrsets zone name is.chain labels shown.form (counted _ _ is) is.shows in
+        subst SaidOf (sym (opt_out_case (evidence_said Kept setting.rrsets zone is.chain) zone name labels shown.form is.shows))
+        (zone, refl, (name, labels, is.chain, refl, shows))
+    case_shown (closer_opted_out labels zone is) =
+        let above = closer_above Kept setting.rrsets zone name is.chain labels shown.form is.shows in
+        let same = ap lower_case is.zone ∙ sym (spelled name zone labels above) in
+        let Among : RecordNumber → List RecordNumber → Type 0 = λ number each. Contains each number in
+        let shows = opt_out_closer_by Kept (Said before) setting.rrsets zone name is.chain labels shown.form
+        (each_by (Counts Kept (Said before) setting.rrsets zone name) (form_records shown.form)
+        (λ number there.
+        zone_as (Said before) setting.rrsets shown.proof.zone zone number.rrset same (own number (subst (Among number) (sym is.records) there))))
+        is.shows in
+        subst SaidOf (sym (out_closer_case (evidence_said Kept setting.rrsets zone is.chain) zone name labels shown.form is.shows))
+        (zone, same, (name, labels, is.chain, refl, shows))
 
   module _ (name : Labels) (shown : ShownDenial) (facts : ShownFacts setting name shown) where
     -- ---- the proof
@@ -234,21 +257,17 @@ module _ (setting : Setting) where
         (λ (once : (¬ IsProofSaid told.proof before) × (lines ≡ line.Proof told.proof ∷ [])). subst Lines (sym once.1) (tt, tt))
         told.once
 
-    -- the form of a denial has a proof
-    record HasForm : Type 0 where
-      form : Form
-      is : told_form shown.form ≡ Some form
+    any_proof_follows : (form : Option Form) (before lines : List Line) → IsProofOf form name shown before lines → Follow before lines
+    any_proof_follows None before lines told =
+        let Lines : List Line → Type 0 = λ all. Follow before all in subst Lines (sym told) tt
+    any_proof_follows (Some form) before lines told = form_follows form before lines told
 
-    proof_said : HasForm → (before lines : List Line) → IsProofTold name shown before lines
-        → IsZoneNamed (before ++ lines) facts.apex facts.chain
-    proof_said has before lines told =
-        let As : Option Form → Type 0 = λ each. IsProofOf each name shown before lines in
-        form_said has.form before lines (subst As has.is told)
-
-    proof_follows : HasForm → (before lines : List Line) → IsProofTold name shown before lines → Follow before lines
-    proof_follows has before lines told =
-        let As : Option Form → Type 0 = λ each. IsProofOf each name shown before lines in
-        form_follows has.form before lines (subst As has.is told)
+    case_said : (kind : InsecureCase) (cut : Labels) (before lines : List Line)
+        → IsCaseTold kind cut (Some shown.proof.zone) before lines → IsZoneNamed (before ++ lines) facts.apex facts.chain
+    case_said kind cut before lines told =
+        let There : List Line → Type 0 = λ more. Contains (before ++ more) (line.Case told.cut) in
+        by_case told.cut shown.proof.zone (subst There (sym told.are) (Contains-push before (line.Case told.cut))) told.is_zone
+        (sym facts.same)
 
     named_stays : (before more : List Line) → IsZoneNamed before facts.apex facts.chain
         → IsZoneNamed (before ++ more) facts.apex facts.chain
@@ -256,6 +275,15 @@ module _ (setting : Setting) where
         by_proof proof (Contains-append_left before more (line.Proof proof) there) same kind
     named_stays before more (by_case cut named there zone same) =
         by_case cut named (Contains-append_left before more (line.Case cut) there) zone same
+
+    -- the case names the zone, or the proof
+    named_by : (which : Option (InsecureCase × PartName)) (form : Option Form) → HasOne which form → (before cased proof : List Line)
+        → IsCaseFor which name shown.proof.zone before cased → IsProofOf form name shown (before ++ cased) proof
+        → IsZoneNamed ((before ++ cased) ++ proof) facts.apex facts.chain
+    named_by None None has before cased proof told its = absurd has
+    named_by None (Some form) has before cased proof told its = form_said form (before ++ cased) proof its
+    named_by (Some which) form has before cased proof told its =
+        named_stays (before ++ cased) proof (case_said which.0 (part_name name which.1) before cased told)
 
     -- ---- its parts
 
@@ -319,82 +347,41 @@ module _ (setting : Setting) where
 
     -- ---- the denial
 
-    prepared_with : (before records more : List Line) → AreRecordsDerived setting shown.proof.zone shown.proof.records before records
-        → IsZoneNamed ((before ++ records) ++ more) facts.apex facts.chain → Prepared ((before ++ records) ++ more)
-    prepared_with before records more derived zone_named = record {
-      named = zone_named;
-      own = λ number there.
-          own_stays facts.apex number.rrset (before ++ records) more
-          (zone_as (Said (before ++ records)) setting.rrsets shown.proof.zone facts.apex number.rrset (sym facts.same)
-          (each_member (λ (one : RecordNumber). OwnSaid shown.proof.zone (before ++ records) one.rrset) shown.proof.records number
-          (records_said shown.proof.zone shown.proof.records before records derived) there));
-    }
-
-    prepared_by : HasForm → (before records proof : List Line) → AreRecordsDerived setting shown.proof.zone shown.proof.records before records
-        → IsProofTold name shown (before ++ records) proof → Prepared ((before ++ records) ++ proof)
-    prepared_by has before records proof derived told =
-        prepared_with before records proof derived (proof_said has (before ++ records) proof told)
-
-    told_follows : HasForm → (before lines : List Line) → IsDenialTold setting name shown before lines → Follow before lines
-    told_follows has before lines told =
-        let rest = told.says_second in
-        both_follow _ _ before lines told
-        (records_follow shown.proof.zone shown.proof.records before told.first told.says_first)
-        (both_follow _ _ (before ++ told.first) told.second rest
-        (proof_follows has (before ++ told.first) rest.first rest.says_first)
-        (each_follow (IsPartTold setting.rrsets name) Prepared prepared_stays (form_parts shown.chain shown.form) part_follows
-        ((before ++ told.first) ++ rest.first) rest.second (prepared_by has before told.first rest.first told.says_first rest.says_first)
-        rest.says_second))
-
-    -- ---- a name that may be unsigned
-
-    any_proof_follows : (form : Option Form) (before lines : List Line) → IsProofOf form name shown before lines → Follow before lines
-    any_proof_follows None before lines told =
-        let Lines : List Line → Type 0 = λ all. Follow before all in subst Lines (sym told) tt
-    any_proof_follows (Some form) before lines told = form_follows form before lines told
-
-    case_said : (kind : InsecureCase) (cut : Labels) (before lines : List Line)
-        → IsCaseTold kind cut (Some shown.proof.zone) before lines → IsZoneNamed (before ++ lines) facts.apex facts.chain
-    case_said kind cut before lines told =
-        let There : List Line → Type 0 = λ more. Contains (before ++ more) (line.Case told.cut) in
-        by_case told.cut shown.proof.zone (subst There (sym told.are) (Contains-push before (line.Case told.cut))) told.is_zone
-        (sym facts.same)
-
-    unsigned_told_follows : (kind : InsecureCase) (cut : Labels) → IsShownUnsigned setting name shown kind cut → (before lines : List Line)
-        → IsUnsignedTold setting name shown kind cut before lines → Follow before lines
-    unsigned_told_follows kind cut is before lines told =
+    told_follows : (trust : KeptTrust) → IsShownBy trust setting.rrsets name shown → (before lines : List Line)
+        → IsDenialTold setting name shown before lines → Follow before lines
+    told_follows trust is before lines told =
         let rest = told.says_second in
         let last = rest.says_second in
-        let cased : List Line = (before ++ told.first) ++ rest.first in
+        let derived : List Line = before ++ told.first in
+        let cased : List Line = derived ++ rest.first in
+        let own : (number : RecordNumber) → Contains shown.proof.records number → OwnSaid shown.proof.zone derived number.rrset =
+        λ number there. each_member (λ (one : RecordNumber). OwnSaid shown.proof.zone derived one.rrset) shown.proof.records number
+        (records_said shown.proof.zone shown.proof.records before told.first told.says_first) there in
         both_follow _ _ before lines told
         (records_follow shown.proof.zone shown.proof.records before told.first told.says_first)
-        (both_follow _ _ (before ++ told.first) told.second rest
-        (case_follows kind cut (Some shown.proof.zone) (before ++ told.first) rest.first rest.says_first
-        (case_shown name shown kind cut is (before ++ told.first) (λ number there.
-        each_member (λ (one : RecordNumber). OwnSaid shown.proof.zone (before ++ told.first) one.rrset) shown.proof.records number
-        (records_said shown.proof.zone shown.proof.records before told.first told.says_first) there)))
+        (both_follow _ _ derived told.second rest
+        (case_for_follows (told_case shown.form) name shown.proof.zone derived rest.first rest.says_first
+        (case_shown trust name shown derived own is))
         (both_follow _ _ cased rest.second last
         (any_proof_follows (told_form shown.form) cased last.first last.says_first)
         (each_follow (IsPartTold setting.rrsets name) Prepared prepared_stays (form_parts shown.chain shown.form) part_follows
         (cased ++ last.first) last.second
-        (prepared_stays cased last.first (prepared_with before told.first rest.first told.says_first
-        (case_said kind cut (before ++ told.first) rest.first rest.says_first)))
+        (record {
+          named = named_by (told_case shown.form) (told_form shown.form) (has_one shown.form) derived rest.first last.first rest.says_first
+              last.says_first;
+          own = λ number there.
+              own_stays facts.apex number.rrset cased last.first
+              (own_stays facts.apex number.rrset derived rest.first
+              (zone_as (Said derived) setting.rrsets shown.proof.zone facts.apex number.rrset (sym facts.same) (own number there)));
+        })
         last.says_second)))
 
   pub denial_follows : (name : Labels) (shown : ShownDenial) (before lines : List Line) → IsShownDenial setting name shown
       → IsDenialTold setting name shown before lines → Follow before lines
-  denial_follows name shown before lines is told =
-      let facts = shown_facts setting name shown is in
-      let form = has_form setting name shown is in
-      told_follows name shown facts (record { form = form.0; is = form.1 }) before lines told
+  denial_follows name shown before lines is told = told_follows name shown (shown_facts setting name shown is) is.0 is.2 before lines told
 
   pub expanded_follows : (name : Labels) (number : SignatureNumber) (shown : ShownDenial) (before lines : List Line)
       → IsShownDenial setting name shown → IsExpandedTold setting name number shown before lines → Follow before lines
   expanded_follows name number shown before lines is told =
       both_follow _ _ before lines told (derivation_follows setting before (signature number) told.first told.says_first)
       (denial_follows name shown (before ++ told.first) told.second is told.says_second)
-
-  pub unsigned_follows : (name : Labels) (shown : ShownDenial) (kind : InsecureCase) (cut : Labels) (before lines : List Line)
-      → IsShownUnsigned setting name shown kind cut → IsUnsignedTold setting name shown kind cut before lines → Follow before lines
-  unsigned_follows name shown kind cut before lines is told =
-      unsigned_told_follows name shown (cut_facts setting name shown kind cut is) kind cut is before lines told

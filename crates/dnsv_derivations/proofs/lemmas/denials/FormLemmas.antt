@@ -22,7 +22,7 @@ use Rattle.dnsv_denial.specs.declared.proving.proof_part.PartRelation.{PartRelat
 use Rattle.dnsv_denial.specs.declared.proving.proof_part.PartRelation.TheVariants as related
 use Rattle.dnsv_denial.specs.declared.proving.proof_part.ProofPart.{ProofPart}
 use Rattle.dnsv_canonical.specs.declared.number.RecordNumber.{RecordNumber}
-use Rattle.dnsv_derivations.specs.Denials.{FitsEncloser, told_relation, told_role}
+use Rattle.dnsv_derivations.specs.Denials.{FitsCase, FitsEncloser, told_case, told_relation, told_role}
 use Rattle.dnsv_derivations.specs.Following.Parts.{IsWord}
 use Rattle.dnsv_lines.specs.declared.line.denial.Relation.TheVariants as relation
 use Rattle.dnsv_lines.specs.declared.line.denial.Role.TheVariants as role
@@ -93,6 +93,7 @@ module _ (S : ℕ → ℕ → Type 0) (rrsets : List ReceivedRrset) (apex name :
   pub record FormFacts (chain : Chain) (shape : ProofForm RecordNumber) : Type 0 where
     pub parts : AreShownParts chain (form_parts (kind_of chain) shape)
     pub encloser : FitsEncloser name (form_encloser shape)
+    pub case : FitsCase name (told_case shape)
     pub records : AllByRecursion IsSigned (form_records shape)
 
   pub wildcard_records_signed : (chain : Chain) (Says : Labels → RecordNumber → Type 0) (last : PartRelation)
@@ -114,6 +115,7 @@ module _ (S : ℕ → ℕ → Type 0) (rrsets : List ReceivedRrset) (apex name :
       let below = shows.shows.above.proper in record {
         parts = wildcard_says chain _ related.Covered parts shows.shows (λ number says. says);
         encloser = omega (arith, below);
+        case = tt;
         records = wildcard_records_signed chain _ related.Covered parts shows.shows (λ number says. says);
       }
 
@@ -122,23 +124,27 @@ module _ (S : ℕ → ℕ → Type 0) (rrsets : List ReceivedRrset) (apex name :
   no_data_facts chain t shape (at_name number shows) = record {
     parts = (record { within = tt; says = (t, shows.types.says) }, tt);
     encloser = tt;
+    case = tt;
     records = (word_signed S rrsets apex number chain role.Name relation.Matched name (t, shows.types.says), tt);
   }
   no_data_facts chain t shape (empty number shows) = record {
     parts = (record { within = tt; says = shows.empty.says }, tt);
     encloser = tt;
+    case = tt;
     records = (word_signed S rrsets apex number chain role.Name relation.NonTerminal name shows.empty.says, tt);
   }
   no_data_facts chain t shape (at_wildcard parts shows) =
       let below = shows.shows.above.proper in record {
         parts = wildcard_says chain _ related.Matched parts shows.shows (λ number says. (t, says));
         encloser = omega (arith, below);
+        case = tt;
         records = wildcard_records_signed chain _ related.Matched parts shows.shows (λ number says. (t, says));
       }
   no_data_facts chain t shape (empty_wildcard parts shows) =
       let below = shows.shows.above.proper in record {
         parts = wildcard_says chain _ related.NonTerminal parts shows.shows (λ number says. says);
         encloser = omega (arith, below);
+        case = tt;
         records = wildcard_records_signed chain _ related.NonTerminal parts shows.shows (λ number says. says);
       }
 
@@ -148,6 +154,7 @@ module _ (S : ℕ → ℕ → Type 0) (rrsets : List ReceivedRrset) (apex name :
       let below = shows.above.proper in record {
         parts = (record { within = shows.above.proper; says = shows.next_closer.says }, tt);
         encloser = omega (arith, below);
+        case = tt;
         records = (
           word_signed S rrsets apex number chain role.NextCloser relation.Covered (rightmost name (labels + 1)) shows.next_closer.says,
           tt,

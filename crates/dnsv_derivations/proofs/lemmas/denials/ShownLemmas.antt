@@ -5,15 +5,14 @@ use Rattle.dnsv_names.specs.Name.{Labels, SameName, lower_case, rightmost}
 use Rattle.dnsv_names.specs.Tree.AncestorLaws.{rightmost_above, rightmost_same}
 use Rattle.dnsv_names.specs.Tree.TreeLaws.{at_or_below_trans}
 use Rattle.dnsv_zones.specs.forms.Forms.{IsAbove}
+use Rattle.dnsv_zones.specs.forms.RecordWords.{RecordWords}
 use Rattle.dnsv_canonical.specs.Rrsets.{ReceivedRrset}
-use Rattle.dnsv_denial.specs.forms.ProofForms.{ShowsNoCloser, ShowsNoData, ShowsNoName, form_records}
+use Rattle.dnsv_denial.specs.forms.ProofForms.{ShowsNoCloser, form_records}
 use Rattle.dnsv_denial.specs.forms.ProofForms.ShowsNoCloser.{no_closer as closer_shown}
-use Rattle.dnsv_denial.specs.forms.ProofForms.ShowsNoData.{at_name, empty, at_wildcard, empty_wildcard}
-use Rattle.dnsv_denial.specs.forms.ProofForms.ShowsNoName.{no_name as name_shown}
 use Rattle.dnsv_denial.specs.gathering.Evidence.{IsSecuredBy}
 use Rattle.dnsv_denial.specs.records.RecordsAt.{listed}
 use Rattle.dnsv_denial.specs.proving.ProofParts.{encloser_part, form_parts, opt_out_parts, part_by, part_name}
-use Rattle.dnsv_denial.specs.proving.ShownDenials.{kind_of}
+use Rattle.dnsv_denial.specs.proving.ShownDenials.{IsFirstShown, kind_of}
 use Rattle.dnsv_denial.specs.words.EvidenceWords.{Chain, evidence_said, number_cmp}
 use Rattle.dnsv_denial.specs.declared.forms.proof_form.ProofForm.{ProofForm}
 use Rattle.dnsv_denial.specs.declared.forms.proof_form.ProofForm.TheVariants as form
@@ -26,15 +25,16 @@ use Rattle.dnsv_denial.specs.declared.proving.shown_denial.ShownDenial.{ShownDen
 use Rattle.dnsv_denial.specs.declared.records.chain_kind.ChainKind.{ChainKind}
 use Rattle.dnsv_canonical.specs.declared.number.RecordNumber.{RecordNumber}
 use Rattle.dnsv_derivations.specs.Explained.{Setting}
-use Rattle.dnsv_derivations.specs.Denials.{HasRrset, IsPartFit, IsShownBy, IsShownDenial, told_form, told_relation, told_role}
+use Rattle.dnsv_derivations.specs.Denials.{HasRrset, IsPartFit, IsShownBy, IsShownDenial, told_case, told_form, told_relation, told_role}
 use Rattle.dnsv_derivations.specs.derivations.OwnDerivations.{IsTrustIn, SecuredIn}
-use Rattle.dnsv_derivations.specs.Denials.IsShownBy.{no_name, no_data, no_closer}
+use Rattle.dnsv_derivations.specs.Denials.IsShownBy.{no_name, no_data, no_closer, no_ds, opted_out, closer_opted_out}
+use Rattle.dnsv_lines.specs.declared.line.cut.InsecureCase.{InsecureCase}
 use Rattle.dnsv_lines.specs.declared.line.denial.Form.{Form}
-use Rattle.dnsv_lines.specs.declared.line.denial.Form.TheVariants as told
 use Rattle.dnsv_derivations.proofs.lemmas.denials.PartLemmas.{word_signed, zone_as}
 use Rattle.dnsv_chain.specs.Trust.{KeptTrust, SecuredIn as KeptIn}
 use Rattle.dnsv_derivations.proofs.lemmas.denials.FormLemmas.{FormFacts, IsShownPart, IsSigned, PartSays, each_member, no_closer_facts, no_data_facts, no_name_facts}
 use Rattle.dnsv_derivations.proofs.lemmas.denials.TrustLemmas.{facts_too, kept_good}
+use Rattle.dnsv_derivations.proofs.lemmas.unsigned_cuts.CutLemmas.{closer_above as out_above, closer_facts, delegation_facts, opt_out_facts}
 
 -- ---- the records of parts
 
@@ -101,43 +101,55 @@ module _ (setting : Setting) (name : Labels) (shown : ShownDenial) where
       → IsAbove zone name labels
   closer_above trust labels zone chain shape (closer_shown number shows) = shows.above
 
-  pub good_facts : (trust : KeptTrust) → IsTrustIn setting trust → (apex : Labels) (chain : Chain)
+  good_facts : (trust : KeptTrust) → IsTrustIn setting trust → (apex : Labels) (chain : Chain)
       → FormFacts (KeptIn trust) setting.rrsets apex name chain shown.form → FormFacts (SecuredIn setting) setting.rrsets apex name chain shown.form
   good_facts trust good apex chain facts =
       facts_too (KeptIn trust) (SecuredIn setting) (kept_good setting trust good) setting.rrsets apex name chain shown.form facts
 
-  facts_by : (trust : KeptTrust) → IsTrustIn setting trust → IsShownBy trust setting.rrsets name shown → ShownFacts
-  facts_by trust good (no_name is) = record {
-    apex = shown.proof.zone;
-    same = refl;
-    chain = is.chain;
-    kind = is.kind;
-    facts = good_facts trust good shown.proof.zone is.chain
-        (no_name_facts (KeptIn trust) setting.rrsets shown.proof.zone name is.chain shown.form is.shows);
-    records = λ number there. (is.records.members number).0 there;
-    named = λ number there. (is.records.members number).1 there;
-  }
-  facts_by trust good (no_data t is) = record {
-    apex = shown.proof.zone;
-    same = refl;
-    chain = is.chain;
-    kind = is.kind;
-    facts = good_facts trust good shown.proof.zone is.chain
-        (no_data_facts (KeptIn trust) setting.rrsets shown.proof.zone name is.chain t shown.form is.shows);
-    records = λ number there. (is.records.members number).0 there;
-    named = λ number there. (is.records.members number).1 there;
-  }
-  facts_by trust good (no_closer labels zone is) =
-      let Among : RecordNumber → List RecordNumber → Type 0 = λ number each. Contains each number in record {
-        apex = zone;
-        same = spelled name zone labels (closer_above trust labels zone is.chain shown.form is.shows) ∙ sym (ap lower_case is.zone);
-        chain = is.chain;
-        kind = is.kind;
-        facts = good_facts trust good zone is.chain
-            (no_closer_facts (KeptIn trust) setting.rrsets zone name is.chain labels shown.form is.shows);
-        records = λ number there. subst (Among number) is.records there;
-        named = λ number there. subst (Among number) (sym is.records) there;
-      }
+  module _ (trust : KeptTrust) (good : IsTrustIn setting trust) where
+    first_facts : (Stands : RecordWords RecordNumber → Labels → Type 0) (Shows : RecordWords RecordNumber → Labels → ProofForm RecordNumber → Type 0)
+        → (is : IsFirstShown (KeptIn trust) setting.rrsets name Stands Shows shown)
+        → FormFacts (KeptIn trust) setting.rrsets shown.proof.zone name is.chain shown.form → ShownFacts
+    first_facts Stands Shows is facts = record {
+      apex = shown.proof.zone;
+      same = refl;
+      chain = is.chain;
+      kind = is.kind;
+      facts = good_facts trust good shown.proof.zone is.chain facts;
+      records = λ number there. (is.records.members number).0 there;
+      named = λ number there. (is.records.members number).1 there;
+    }
+
+    -- in a zone that is known
+    zone_facts : (zone : Labels) (labels : ℕ) (chain : Chain) → IsAbove zone name labels → shown.proof.zone ≡ rightmost name (length zone)
+        → shown.chain ≡ kind_of chain → shown.proof.records ≡ form_records shown.form
+        → FormFacts (KeptIn trust) setting.rrsets zone name chain shown.form → ShownFacts
+    zone_facts zone labels chain above its_zone kind records facts =
+        let Among : RecordNumber → List RecordNumber → Type 0 = λ number each. Contains each number in record {
+          apex = zone;
+          same = spelled name zone labels above ∙ sym (ap lower_case its_zone);
+          chain = chain;
+          kind = kind;
+          facts = good_facts trust good zone chain facts;
+          records = λ number there. subst (Among number) records there;
+          named = λ number there. subst (Among number) (sym records) there;
+        }
+
+    facts_by : IsShownBy trust setting.rrsets name shown → ShownFacts
+    facts_by (no_name is) =
+        first_facts _ _ is (no_name_facts (KeptIn trust) setting.rrsets shown.proof.zone name is.chain shown.form is.shows)
+    facts_by (no_data t is) =
+        first_facts _ _ is (no_data_facts (KeptIn trust) setting.rrsets shown.proof.zone name is.chain t shown.form is.shows)
+    facts_by (no_closer labels zone is) =
+        zone_facts zone labels is.chain (closer_above trust labels zone is.chain shown.form is.shows) is.zone is.kind is.records
+        (no_closer_facts (KeptIn trust) setting.rrsets zone name is.chain labels shown.form is.shows)
+    facts_by (no_ds labels is) =
+        first_facts _ _ is (delegation_facts (KeptIn trust) setting.rrsets shown.proof.zone name is.chain labels shown.form is.shows)
+    facts_by (opted_out labels is) =
+        first_facts _ _ is (opt_out_facts (KeptIn trust) setting.rrsets shown.proof.zone name is.chain labels shown.form is.shows)
+    facts_by (closer_opted_out labels zone is) =
+        zone_facts zone labels is.chain (out_above (KeptIn trust) setting.rrsets zone name is.chain labels shown.form is.shows)
+        is.zone is.kind is.records (closer_facts (KeptIn trust) setting.rrsets zone name is.chain labels shown.form is.shows)
 
   pub shown_facts : IsShownDenial setting name shown → ShownFacts
   shown_facts is = facts_by is.0 is.1 is.2
@@ -179,31 +191,20 @@ module _ (setting : Setting) (name : Labels) (shown : ShownDenial) where
         let is = part_shown each there in
         record { name = is.within; by = by_there each.name each.relation each.by is.says }
 
--- a denial has a form that is told
-module _ (S : ℕ → ℕ → Type 0) (rrsets : List ReceivedRrset) (apex name : Labels) (chain : Chain) where
-  no_name_form : (shape : ProofForm RecordNumber) → ShowsNoName number_cmp (evidence_said S rrsets apex chain) apex name shape
-      → (told_as : Form) × (told_form shape ≡ Some told_as)
-  no_name_form shape (name_shown parts shows) = (told.NoName, refl)
+-- a form has a case or a proof, which names its zone
+abbrev pub HasOne : Option (InsecureCase × PartName) → Option Form → Type 0
+HasOne None None = ⊥
+HasOne None (Some form) = Unit {0}
+HasOne (Some which) form = Unit {0}
 
-  no_data_form : (t : ℕ) (shape : ProofForm RecordNumber) → ShowsNoData number_cmp (evidence_said S rrsets apex chain) apex name t shape
-      → (told_as : Form) × (told_form shape ≡ Some told_as)
-  no_data_form t shape (at_name number shows) = (told.NoData1, refl)
-  no_data_form t shape (empty number shows) = (told.NoData2, refl)
-  no_data_form t shape (at_wildcard parts shows) = (told.NoData3, refl)
-  no_data_form t shape (empty_wildcard parts shows) = (told.NoData4, refl)
-
-  no_closer_form : (labels : ℕ) (shape : ProofForm RecordNumber)
-      → ShowsNoCloser number_cmp (evidence_said S rrsets apex chain) apex name labels shape
-      → (told_as : Form) × (told_form shape ≡ Some told_as)
-  no_closer_form labels shape (closer_shown number shows) = (told.NoCloser, refl)
-
-form_by : (trust : KeptTrust) (rrsets : List ReceivedRrset) (name : Labels) (shown : ShownDenial) → IsShownBy trust rrsets name shown
-    → (told_as : Form) × (told_form shown.form ≡ Some told_as)
-form_by trust rrsets name shown (no_name is) = no_name_form (KeptIn trust) rrsets shown.proof.zone name is.chain shown.form is.shows
-form_by trust rrsets name shown (no_data t is) = no_data_form (KeptIn trust) rrsets shown.proof.zone name is.chain t shown.form is.shows
-form_by trust rrsets name shown (no_closer labels zone is) =
-    no_closer_form (KeptIn trust) rrsets zone name is.chain labels shown.form is.shows
-
-pub has_form : (setting : Setting) (name : Labels) (shown : ShownDenial) → IsShownDenial setting name shown
-    → (told_as : Form) × (told_form shown.form ≡ Some told_as)
-has_form setting name shown is = form_by is.0 setting.rrsets name shown is.2
+pub has_one : (shape : ProofForm RecordNumber) → HasOne (told_case shape) (told_form shape)
+has_one (form.NoName parts) = tt
+has_one (form.NoData number) = tt
+has_one (form.EmptyNonTerminal number) = tt
+has_one (form.WildcardNoData parts) = tt
+has_one (form.EmptyWildcard parts) = tt
+has_one (form.NoCloser labels number) = tt
+has_one (form.Delegation labels number) = tt
+has_one (form.OptOut labels encloser number) = tt
+has_one (form.WildcardOptOut parts) = tt
+has_one (form.OptOutCloser labels number) = tt

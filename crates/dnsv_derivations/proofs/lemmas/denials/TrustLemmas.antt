@@ -49,5 +49,6 @@ module _ (S T : ℕ → ℕ → Type 0) (more : (k s : ℕ) → S k s → T k s)
   facts_too shape facts = record {
     parts = parts_too (form_parts (kind_of chain) shape) facts.parts;
     encloser = facts.encloser;
+    case = facts.case;
     records = records_too (form_records shape) facts.records;
   }

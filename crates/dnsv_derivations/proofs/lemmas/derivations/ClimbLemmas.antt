@@ -1,6 +1,6 @@
 -- Derivations, from the bottom up.
-use Rattle.std.proofs.Common.{◌≡◌, ◌<◌, ℕ, List, [], ◌∷◌, ◌++◌, Some, None, Option, length, reverse, refl, sym, ap, ◌∙◌, subst, arith, append_assoc}
-use Rattle.std.proofs.lemmas.List.{append-nil, reverse-append}
+use Rattle.std.proofs.Common.{◌≡◌, ◌<◌, ℕ, List, [], ◌∷◌, ◌++◌, Some, None, length, refl, sym, ap, ◌∙◌, subst, arith, append_assoc}
+use Rattle.std.proofs.lemmas.List.{append-nil}
 use Rattle.std.specs.Option.{option_map_or}
 use Rattle.dnsv_names.specs.Tree.TreeLaws.{below_length, same_labels}
 use Rattle.dnsv_canonical.specs.Rrsets.{IsNumbered, ReceivedRrset}
@@ -8,7 +8,7 @@ use Rattle.dnsv_chain.specs.Trusted.{IsSecured}
 use Rattle.dnsv_canonical.specs.declared.number.RecordNumber.{RecordNumber}
 use Rattle.dnsv_records.specs.declared.number.DigestType.{DigestType}
 use Rattle.dnsv_derivations.specs.Explained.{Setting}
-use Rattle.dnsv_derivations.specs.derivations.Climb.{Climbs, IsUpTo, LeadsUp, labels_at}
+use Rattle.dnsv_derivations.specs.derivations.Climb.{Climbs, labels_at}
 use Rattle.dnsv_derivations.specs.derivations.Derivations.{IsByAnchor, IsDerivation, IsLowestSecured}
 use Rattle.dnsv_derivations.specs.derivations.Derivations.IsDerivation.{said_trusted as by_said_trust, anchored as by_anchored, delegated as by_delegated, said_signed as by_said_signature, signed as by_signature}
 use Rattle.dnsv_derivations.specs.derivations.Derivations.Subject.{keys, signature}
@@ -108,35 +108,6 @@ module _ (setting : Setting) (before : List Line) where
           },
           fewer_labels k s trusted number digest_type signed is voucher its,
         )
-
-  -- ---- steps one after another
-
-  pub at_the_bottom : (k : ℕ) → IsTrustedSet setting k → LeadsUp setting before k [] k
-  at_the_bottom k trusted =
-      let Derives : List Line → Type 0 = λ lines. IsDerivation setting before (keys k) lines in record {
-        derives = λ above is. subst Derives (sym (append-nil above)) is;
-        trusted = trusted;
-      }
-
-  pub further_up : (k next : ℕ) (lines after : List Line) (then : Option ℕ) → LeadsUp setting before k lines next
-      → Climbs setting before next lines after then → IsUpTo setting before k after then
-  further_up k next lines after None leads (more, grown, climbed) =
-      let Derives : List Line → Type 0 = λ each. IsDerivation setting before (keys k) each in
-      let turned : reverse after ≡ reverse more ++ reverse lines = ap reverse grown ∙ reverse-append lines more in
-      subst Derives (sym turned) (leads.derives (reverse more) climbed)
-  further_up k next lines after (Some further) leads (more, grown, up, fewer) =
-      let Derives : List Line → Type 0 = λ each. IsDerivation setting before (keys k) each in
-      let turned : reverse after ≡ reverse more ++ reverse lines = ap reverse grown ∙ reverse-append lines more in record {
-        derives = λ above is.
-            let joined : above ++ reverse after ≡ (above ++ reverse more) ++ reverse lines =
-            ap (λ rest. above ++ rest) turned ∙ sym (append_assoc above (reverse more) (reverse lines)) in
-            subst Derives (sym joined) (leads.derives (above ++ reverse more) (up.derives above is));
-        trusted = up.trusted;
-      }
-
-  pub fewer_left : (k next : ℕ) (lines after : List Line) → Climbs setting before k lines after (Some next)
-      → labels_at setting.rrsets next < labels_at setting.rrsets k
-  fewer_left k next lines after (more, grown, up, fewer) = fewer
 
   -- ---- a signature
 

@@ -93,9 +93,6 @@ module _ (setting : Setting) (zone : Labels) (k : ℕ) where
               (own.signed.secured.0 ∙ sym is));
         }
 
-    pub none_own : IsNoneOwn rrset zone numbers 0
-    none_own = λ j below has. absurd (omega (arith, below))
-
     pub none_more : (i : ℕ) → ¬ HasZoneSignature (λ s. s ≡ get_or numbers i 0) rrset zone → IsNoneOwn rrset zone numbers i
         → IsNoneOwn rrset zone numbers (i + 1)
     none_more i never none = λ j below has. ⊎_elim

@@ -4,9 +4,9 @@ use Rattle.std.specs.List.{All, Contains}
 use Rattle.std.proofs.Math.Seq.{take-append_seam}
 use Rattle.std.proofs.lemmas.Bool.{cases_lt}
 use Rattle.std.proofs.lemmas.List.{take_more}
-use Rattle.std.proofs.lemmas.List.Elements.{All-contains, All-get_or, All-nil, All-push, All-same, All-take, Contains-append_right}
+use Rattle.std.proofs.lemmas.List.Elements.{All-contains, All-get_or, All-push, All-same, All-take, Contains-append_right}
 use Rattle.dnsv_records.specs.Rrsig.Time.{ValidAt}
-use Rattle.dnsv_derivations.specs.intervals.Holding.{IsHolding, last_moment, AreValidAt, IsGreatestAround}
+use Rattle.dnsv_derivations.specs.intervals.Holding.{IsHolding, AreValidAt, IsGreatestAround}
 use Rattle.dnsv_derivations.specs.intervals.Reach.{IsReach, seconds_before, seconds_behind}
 use Rattle.dnsv_lines.specs.declared.line.interval.Interval.{Interval}
 use Rattle.dnsv_derivations.specs.declared.interval.Times.{Times}
@@ -64,16 +64,6 @@ reach_greatest times moment from to reach valid is begins ends fits each =
     (λ (within : to ≤ moment + seconds_behind times moment). within)
     (cases_lt (moment + seconds_behind times moment) to) in
     (omega (arith, is.from, before), omega (arith, is.to, behind, fits))
-
--- no signature limits the moments
-pub holding_none : (moment : ℕ) → IsHolding [] moment (record { from = 0; to = max moment last_moment })
-holding_none moment = record {
-  begins = omega arith;
-  ends = omega arith;
-  last = omega arith;
-  holds = λ other from to. All-nil (λ times. IsValid times other);
-  greatest = λ from to begins ends last valid. (omega arith, omega arith);
-}
 
 -- one signature more
 pub holding_more : (before : List Times) (times : Times) (moment : ℕ) (interval reach both : Interval)

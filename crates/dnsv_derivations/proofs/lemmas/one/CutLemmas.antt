@@ -1,5 +1,5 @@
 -- Where a name may be unsigned is told in one way.
-use Rattle.std.proofs.Common.{◌≡◌, ◌∙◌, ◌+◌, ◌≤◌, ℕ, List, [], ◌∷◌, Option, Some, None, length, map, arith, refl, sym, ap, subst}
+use Rattle.std.proofs.Common.{◌≡◌, ◌∙◌, ◌+◌, ◌≤◌, ℕ, List, [], ◌∷◌, None, length, map, arith, refl, sym, ap, subst}
 use Rattle.std.specs.List.{AllZip}
 use Rattle.dnsv_names.specs.Name.{Labels, rightmost}
 use Rattle.dnsv_records.proofs.OneRecord.{one_ds}
@@ -8,41 +8,28 @@ use Rattle.dnsv_records.specs.declared.ds.Ds.{Ds}
 use Rattle.dnsv_canonical.specs.Rrsets.{ReceivedRrset}
 use Rattle.dnsv_chain.proofs.ChainLemmas.{same_ds}
 use Rattle.dnsv_denial.specs.gathering.Evidence.{IsRecordAt}
-use Rattle.dnsv_denial.specs.declared.proving.shown_denial.ShownDenial.{ShownDenial}
 use Rattle.dnsv_canonical.specs.declared.number.RecordNumber.{RecordNumber}
 use Rattle.dnsv_denial.specs.declared.unsigned_cuts.shown_cut.ShownCut.{ShownCut}
 use Rattle.dnsv_denial.specs.declared.unsigned_cuts.shown_cut.ShownCut.TheVariants as cut
-use Rattle.dnsv_derivations.specs.Denials.{IsProofWithParts}
 use Rattle.dnsv_derivations.specs.Explained.{Setting}
 use Rattle.dnsv_derivations.specs.Following.Parts.{IsUnusableRecord, IsWhy}
 use Rattle.dnsv_derivations.specs.Saying.{AreBoth}
 use Rattle.dnsv_derivations.specs.derivations.Derivations.{IsLowestSecured}
-use Rattle.dnsv_derivations.specs.derivations.OwnDerivations.{AreRecordsDerived, IsSignatureTold}
-use Rattle.dnsv_derivations.specs.unsigned_cuts.ShownCuts.{IsCutTold, IsUnsignedTold}
+use Rattle.dnsv_derivations.specs.derivations.OwnDerivations.{IsSignatureTold}
+use Rattle.dnsv_derivations.specs.unsigned_cuts.ShownCuts.{IsCutTold}
 use Rattle.dnsv_derivations.specs.unsigned_cuts.UnsignedCuts.{AreAllTold, AreToldFrom, IsCaseTold, IsUnusableTold, record_of}
 use Rattle.dnsv_lines.specs.declared.line.Line.{Line}
 use Rattle.dnsv_lines.specs.declared.line.Line.TheVariants as line
-use Rattle.dnsv_lines.specs.declared.line.cut.Cut.{Cut}
-use Rattle.dnsv_lines.specs.declared.line.cut.InsecureCase.{InsecureCase}
 use Rattle.dnsv_lines.specs.declared.line.cut.InsecureCase.TheVariants as case
 use Rattle.dnsv_lines.specs.declared.line.cut.UnusableDs.{UnusableDs}
 use Rattle.dnsv_lines.specs.declared.line.cut.WhyUnusable.{WhyUnusable}
 use Rattle.dnsv_lines.specs.declared.line.cut.WhyUnusable.TheVariants as why
 use Rattle.dnsv_canonical.specs.declared.number.SignatureNumber.{SignatureNumber}
-use Rattle.dnsv_derivations.proofs.lemmas.one.DenialLemmas.{one_with_parts}
-use Rattle.dnsv_derivations.proofs.lemmas.one.DerivationLemmas.{one_records, one_signature}
+use Rattle.dnsv_derivations.proofs.lemmas.one.DenialLemmas.{one_case, one_denial}
+use Rattle.dnsv_derivations.proofs.lemmas.one.DerivationLemmas.{one_signature}
 use Rattle.dnsv_derivations.proofs.lemmas.one.SignedLemmas.{one_lowest}
 use Rattle.dnsv_derivations.proofs.lemmas.one.StepLemmas.{IsOne, even, one_both}
 use Rattle.dnsv_derivations.proofs.lemmas.one.TrustedLemmas.{AreApart, one_record}
-
-one_case : (kind : InsecureCase) (name : Labels) (of_zone : Option Labels) → IsOne (IsCaseTold kind name of_zone)
-one_case kind name of_zone before a b x y =
-    let same : x.cut ≡ y.cut = λ i. record {
-      case = (x.is_kind ∙ sym y.is_kind) i;
-      name = (x.is_name ∙ sym y.is_name) i;
-      zone = (x.is_zone ∙ sym y.is_zone) i;
-    } in
-    x.are ∙ ap (λ (each : Cut). line.Case each ∷ []) same ∙ sym y.are
 
 -- ---- records that can't be used
 
@@ -129,17 +116,7 @@ module _ (setting : Setting) (apart : AreApart setting.todo) where
       (one_both (IsCaseTold case.UnusableDs name None) (AreAllTold setting.rrsets y.k) (one_case case.UnusableDs name None) (one_all setting.rrsets y.k))
       before a b (subst At number x.told) y.told
 
-  pub one_unsigned : (name : Labels) (shown : ShownDenial) (kind : InsecureCase) (at : Labels) → IsOne (IsUnsignedTold setting name shown kind at)
-  one_unsigned name shown kind at =
-      one_both (AreRecordsDerived setting shown.proof.zone shown.proof.records)
-      (AreBoth (IsCaseTold kind at (Some shown.proof.zone)) (IsProofWithParts setting.rrsets name shown))
-      (one_records setting apart shown.proof.zone shown.proof.records)
-      (one_both (IsCaseTold kind at (Some shown.proof.zone)) (IsProofWithParts setting.rrsets name shown)
-      (one_case kind at (Some shown.proof.zone)) (one_with_parts setting.rrsets name shown))
-
   pub one_cut_told : (name : Labels) (shown : ShownCut) → IsOne (IsCutTold setting name shown)
-  one_cut_told name (cut.NoDs labels shown) before a b x y =
-      one_unsigned name shown case.UnsignedDelegation (rightmost name labels) before a b x y
+  one_cut_told name (cut.NoDs labels shown) before a b x y = one_denial setting apart name shown before a b x y
   one_cut_told name (cut.NoUsableDs labels) before a b x y = one_unusable_told (rightmost name labels) before a b x y
-  one_cut_told name (cut.OptOut labels shown) before a b x y =
-      one_unsigned name shown case.OptOut (rightmost name (labels + 1)) before a b x y
+  one_cut_told name (cut.OptOut labels shown) before a b x y = one_denial setting apart name shown before a b x y

@@ -1,17 +1,22 @@
 -- A denial is told in one way.
-use Rattle.std.proofs.Common.{◌≡◌, ◌∙◌, List, Option, Some, None, sym, ap, subst}
+use Rattle.std.proofs.Common.{◌≡◌, ◌∙◌, List, [], ◌∷◌, Option, Some, None, sym, ap, subst}
 use Rattle.dnsv_names.specs.Name.{Labels}
 use Rattle.dnsv_canonical.specs.Rrsets.{IsNumbered, ReceivedRrset}
-use Rattle.dnsv_denial.specs.proving.ProofParts.{form_parts}
+use Rattle.dnsv_denial.specs.proving.ProofParts.{form_parts, part_name}
+use Rattle.dnsv_denial.specs.declared.proving.proof_part.PartName.{PartName}
 use Rattle.dnsv_denial.specs.declared.proving.proof_part.ProofPart.{ProofPart}
 use Rattle.dnsv_denial.specs.declared.proving.shown_denial.ShownDenial.{ShownDenial}
 use Rattle.dnsv_canonical.specs.declared.number.RecordNumber.{RecordNumber}
-use Rattle.dnsv_derivations.specs.Denials.{IsDenialTold, IsExpandedTold, IsFormTold, IsPartLine, IsPartSaid, IsPartTold, IsProofLine, IsProofOf, IsProofSaid, IsProofTold, IsProofWithParts, IsTellingOf, told_form}
+use Rattle.dnsv_derivations.specs.Denials.{IsCaseFor, IsDenialTold, IsExpandedTold, IsFormTold, IsPartLine, IsPartSaid, IsPartTold, IsProofLine, IsProofOf, IsProofSaid, IsProofTold, IsProofWithParts, IsTellingOf, told_case, told_form}
 use Rattle.dnsv_derivations.specs.Explained.{Setting}
 use Rattle.dnsv_derivations.specs.Following.Parts.{IsPlaceOfRecord}
-use Rattle.dnsv_derivations.specs.Saying.{AreEach}
+use Rattle.dnsv_derivations.specs.Saying.{AreBoth, AreEach}
 use Rattle.dnsv_derivations.specs.derivations.OwnDerivations.{AreRecordsDerived, IsSignatureTold}
+use Rattle.dnsv_derivations.specs.unsigned_cuts.UnsignedCuts.{IsCaseTold}
+use Rattle.dnsv_lines.specs.declared.line.Line.{Line}
 use Rattle.dnsv_lines.specs.declared.line.Line.TheVariants as line
+use Rattle.dnsv_lines.specs.declared.line.cut.Cut.{Cut}
+use Rattle.dnsv_lines.specs.declared.line.cut.InsecureCase.{InsecureCase}
 use Rattle.dnsv_lines.specs.declared.line.denial.Form.{Form}
 use Rattle.dnsv_lines.specs.declared.line.denial.Part.{Part}
 use Rattle.dnsv_lines.specs.declared.line.denial.Proof.{Proof}
@@ -21,6 +26,21 @@ use Rattle.dnsv_derivations.proofs.lemmas.NumberedLemmas.{same_number}
 use Rattle.dnsv_derivations.proofs.lemmas.one.DerivationLemmas.{one_records, one_signature}
 use Rattle.dnsv_derivations.proofs.lemmas.one.StepLemmas.{IsOne, one_both, one_each, one_once}
 use Rattle.dnsv_derivations.proofs.lemmas.one.TrustedLemmas.{AreApart}
+
+-- ---- the case
+
+pub one_case : (kind : InsecureCase) (name : Labels) (of_zone : Option Labels) → IsOne (IsCaseTold kind name of_zone)
+one_case kind name of_zone before a b x y =
+    let same : x.cut ≡ y.cut = λ i. record {
+      case = (x.is_kind ∙ sym y.is_kind) i;
+      name = (x.is_name ∙ sym y.is_name) i;
+      zone = (x.is_zone ∙ sym y.is_zone) i;
+    } in
+    x.are ∙ ap (λ (each : Cut). line.Case each ∷ []) same ∙ sym y.are
+
+one_case_for : (which : Option (InsecureCase × PartName)) (name zone : Labels) → IsOne (IsCaseFor which name zone)
+one_case_for None name zone before a b x y = x ∙ sym y
+one_case_for (Some which) name zone before a b x y = one_case which.0 (part_name name which.1) (Some zone) before a b x y
 
 -- ---- the proof
 
@@ -78,11 +98,13 @@ module _ (rrsets : List ReceivedRrset) where
     one_part shown before a b x y =
         one_once IsPartSaid (λ part. line.Part part) x.part y.part (one_part_line shown x.part y.part x.is y.is) before a b x.once y.once
 
-    pub one_with_parts : (shown : ShownDenial) → IsOne (IsProofWithParts rrsets question shown)
+    one_with_parts : (shown : ShownDenial) → IsOne (IsProofWithParts rrsets question shown)
     one_with_parts shown =
-        one_both (IsProofTold question shown) (AreEach (IsPartTold rrsets question) (form_parts shown.chain shown.form))
-        (one_proof_of (told_form shown.form) question shown)
-        (one_each (IsPartTold rrsets question) one_part (form_parts shown.chain shown.form))
+        let Case : List Line → List Line → Type 0 = IsCaseFor (told_case shown.form) question shown.proof.zone in
+        let Parts : List Line → List Line → Type 0 = AreEach (IsPartTold rrsets question) (form_parts shown.chain shown.form) in
+        one_both Case (AreBoth (IsProofTold question shown) Parts) (one_case_for (told_case shown.form) question shown.proof.zone)
+        (one_both (IsProofTold question shown) Parts (one_proof_of (told_form shown.form) question shown)
+        (one_each (IsPartTold rrsets question) one_part (form_parts shown.chain shown.form)))
 
 -- ---- the denial
 

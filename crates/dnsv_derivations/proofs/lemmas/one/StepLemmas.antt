@@ -1,6 +1,5 @@
 -- Steps that add the same lines each time.
-use Rattle.std.proofs.Common.{◌≡◌, ◌∙◌, ⊎_elim, ℕ, ◌<◌, ◌≤◌, List, [], ◌∷◌, ◌++◌, arith, sym, subst}
-use Rattle.std.proofs.lemmas.Bool.{cases_lt}
+use Rattle.std.proofs.Common.{◌≡◌, ◌∙◌, ⊎_elim, ℕ, ◌≤◌, List, [], ◌∷◌, ◌++◌, arith, sym, subst}
 use Rattle.dnsv_derivations.specs.Saying.{AreBoth, AreEach, IsOnce}
 use Rattle.dnsv_lines.specs.declared.line.Line.{Line}
 
@@ -38,12 +37,6 @@ one_once {X = X} IsSaid line_of u v same before a b x y =
     once (IsSaid v) (line_of v) before a b (subst Once same x) y
 
 -- ---- numbers
-
--- neither is below the other
-pub level : (m n : ℕ) → ¬ (m < n) → ¬ (n < m) → m ≡ n
-level m n up down = ⊎_elim (λ (less : m < n). absurd (up less))
-    (λ (above : n ≤ m). ⊎_elim (λ (more : n < m). absurd (down more)) (λ (below : m ≤ n). omega (arith, above, below)) (cases_lt n m))
-    (cases_lt m n)
 
 -- each is at most the other
 pub even : (m n : ℕ) → m ≤ n → n ≤ m → m ≡ n

@@ -1,5 +1,6 @@
 -- One line says that a DNSKEY RRset is trusted.
-use Rattle.std.proofs.Common.{◌≡◌, ◌≢◌, ◌∙◌, inl, inr, ℕ, List, Option, Some, None, arith, map, refl, sym, ap, subst}
+use Rattle.std.proofs.Common.{◌≡◌, ◌≢◌, ◌∙◌, ℕ, List, Option, Some, None, arith, refl, sym, ap, subst}
+use Rattle.std.proofs.lemmas.Bool.Decides.{nat_tests}
 use Rattle.std.proofs.lemmas.Cmp.{nat_list_cmp_total}
 use Rattle.std.proofs.lemmas.Map.Lookups.{exact_bytes}
 use Rattle.std.specs.Ordering.{ordering_reverse}
@@ -10,10 +11,9 @@ use Rattle.dnsv_records.specs.Ds.{IsDs}
 use Rattle.dnsv_records.specs.Dnskey.KeyTag.{key_tag_of}
 use Rattle.dnsv_records.specs.Rrsig.{IsRrsig}
 use Rattle.dnsv_records.specs.declared.ds.Ds.{Ds}
+use Rattle.dnsv_records.specs.declared.number.DigestType.{DigestType}
 use Rattle.dnsv_records.specs.declared.rrsig.Rrsig.{Rrsig}
-use Rattle.dnsv_canonical.proofs.CanonicalLemmas.{canonical_unique}
-use Rattle.dnsv_canonical.specs.Canonical.{IsCanonical, rdata_cmp}
-use Rattle.dnsv_canonical.specs.CanonicalRdata.{canonical_form}
+use Rattle.dnsv_canonical.specs.Canonical.{rdata_cmp}
 use Rattle.dnsv_canonical.specs.Rrsets.{IsNumbered, ReceivedRrset}
 use Rattle.dnsv_verifier.proofs.EntryLemmas.{one_entry}
 use Rattle.dnsv_verifier.specs.Admissible.{DnskeyRecord, IsEntryOf}
@@ -21,19 +21,23 @@ use Rattle.dnsv_verifier.specs.declared.entry.Entry.{Entry}
 use Rattle.dnsv_chain.specs.Trusted.{IsKeyOf}
 use Rattle.dnsv_chain.specs.declared.anchor.Anchor.{Anchor}
 use Rattle.dnsv_chain.specs.declared.anchor.Anchor.TheVariants as anchor
+use Rattle.dnsv_denial.proofs.lemmas.gathering.EvidenceLemmas.{one_record as record_numbered}
 use Rattle.dnsv_denial.specs.gathering.Evidence.{IsRecordAt}
+use Rattle.dnsv_denial.specs.words.EvidenceWords.{number_cmp}
 use Rattle.dnsv_canonical.specs.declared.number.RecordNumber.{RecordNumber}
 use Rattle.dnsv_derivations.specs.Explained.{IsTodo, Setting}
-use Rattle.dnsv_derivations.specs.Following.{IsGoodUnder, IsMatchedBy, IsNamed}
-use Rattle.dnsv_derivations.specs.derivations.Ways.{HasSecured, IsFirstWay, IsLess, IsTrustedLine, IsWayInto, Way, voucher_rank}
+use Rattle.dnsv_derivations.specs.Following.{IsDsMatch, IsGoodUnder, IsNamed}
+use Rattle.dnsv_derivations.specs.derivations.WaySearch.{record_at}
+use Rattle.dnsv_derivations.specs.derivations.Ways.{IsFirstWay, IsTrustedLine, IsWayInto, Way, voucher_rank}
 use Rattle.dnsv_lines.specs.declared.line.derivation.KeyName.{KeyName}
 use Rattle.dnsv_canonical.specs.declared.number.SignatureNumber.{SignatureNumber}
 use Rattle.dnsv_lines.specs.declared.line.derivation.TrustedKeys.{TrustedKeys}
 use Rattle.dnsv_lines.specs.declared.line.derivation.Voucher.{Voucher}
 use Rattle.dnsv_lines.specs.declared.line.derivation.Voucher.TheVariants as voucher
 use Rattle.dnsv_derivations.proofs.lemmas.NumberedLemmas.{among, same_number}
+use Rattle.dnsv_derivations.proofs.lemmas.derivations.WayLemmas.FirstLemmas.{Matched}
 use Rattle.dnsv_derivations.proofs.lemmas.derivations.WayLemmas.SearchLemmas.{one_key}
-use Rattle.dnsv_derivations.proofs.lemmas.one.StepLemmas.{even, level}
+use Rattle.dnsv_derivations.proofs.lemmas.one.StepLemmas.{even}
 
 -- ---- values
 
@@ -50,14 +54,7 @@ same_rdata a b up down = ordered a b (rdata_cmp a b) refl up down
 pub one_record : (rrsets : List ReceivedRrset) (m n : RecordNumber) (r s : ReceivedRrset) (x y : List ℕ) → m ≡ n
     → IsRecordAt rrsets m r x → IsRecordAt rrsets n s y → (r ≡ s) × (x ≡ y)
 one_record rrsets m n r s x y same first second =
-    let Rrset : RecordNumber → Type 0 = λ number. IsNumbered rrsets number.rrset r in
-    let rrset : r ≡ s = same_number rrsets n.rrset r s (subst Rrset same first.is_rrset) second.is_rrset in
-    let Canonical : ReceivedRrset → Type 0 = λ one. IsCanonical (map (canonical_form one.rtype) one.rdata) first.canonical in
-    let lists : first.canonical ≡ second.canonical =
-    canonical_unique (map (canonical_form s.rtype) s.rdata) first.canonical second.canonical (subst Canonical rrset first.is_canonical) second.is_canonical in
-    let Place : RecordNumber → Type 0 = λ number. IsNumbered first.canonical number.place x in
-    let In : List (List ℕ) → Type 0 = λ list. IsNumbered list n.place x in
-    (rrset, same_number second.canonical n.place x y (subst In lists (subst Place same first.is_rdata)) second.is_rdata)
+    let At : RecordNumber → Type 0 = λ number. IsRecordAt rrsets number r x in record_numbered rrsets n r s x y (subst At same first) second
 
 -- two names of one key
 pub one_name : (k l : DnskeyRecord) (a b : KeyName) → k ≡ l → IsNamed k a → IsNamed l b → a ≡ b
@@ -115,47 +112,45 @@ good_entry setting m n r s k l number key x y =
 -- ---- ways
 
 module _ (setting : Setting) where
-  -- neither rank is less
-  ranks : (a b : ℕ × ℕ × ℕ) → ¬ IsLess a b → ¬ IsLess b a → (a.0 ≡ b.0) × (a.1 ≡ b.1) × (a.2 ≡ b.2)
-  ranks a b x y =
-      let first : a.0 ≡ b.0 = level a.0 b.0 (λ less. x (inl less)) (λ less. y (inl less)) in
-      let second : a.1 ≡ b.1 = level a.1 b.1 (λ less. x (inr (first, inl less))) (λ less. y (inr (sym first, inl less))) in
-      let third : a.2 ≡ b.2 =
-      level a.2 b.2 (λ less. x (inr (first, inr (second, less)))) (λ less. y (inr (sym first, inr (sym second, less)))) in
-      (first, second, third)
-
-  abbrev Matched : Voucher → DnskeyRecord → Type 0
-  Matched = IsMatchedBy (HasSecured setting) setting
+  -- neither goes before the other
+  ranks : (a b : RecordNumber) → number_cmp a b ≢ Less → number_cmp b a ≢ Less → a ≡ b
+  ranks a b up down =
+      let same : (a.rrset ≡ b.rrset) × (a.place ≡ b.place) = grind (arith, nat_tests, up, down) in
+      λ i. record { rrset = same.0 i; place = same.1 i }
 
   -- the anchor with the number is one
-  one_anchor : (m n : ℕ) (a b : Anchor) → m ≡ n → IsNumbered setting.anchors m a → IsNumbered setting.anchors n b → a ≡ b
+  one_anchor : (m n : ℕ) (a b : Anchor) → record_at 0 m ≡ record_at 0 n → IsNumbered setting.anchors m a → IsNumbered setting.anchors n b → a ≡ b
   one_anchor m n a b same x y =
-      let At : ℕ → Type 0 = λ number. IsNumbered setting.anchors number a in same_number setting.anchors n a b (subst At same x) y
+      let At : RecordNumber → Type 0 = λ number. IsNumbered setting.anchors number.place a in
+      same_number setting.anchors n a b (subst At same x) y
 
-  one_voucher : (k l : DnskeyRecord) (a b : Voucher) → Matched a k → Matched b l
-      → ((voucher_rank a).0 ≡ (voucher_rank b).0) × ((voucher_rank a).1 ≡ (voucher_rank b).1) × ((voucher_rank a).2 ≡ (voucher_rank b).2)
-      → a ≡ b
-  one_voucher k l (voucher.KeyAnchor m) (voucher.KeyAnchor n) x y rank = ap (λ number. voucher.KeyAnchor number) rank.1
+  -- no DS RRset has the number of anchors
+  never_anchor : (m : ℕ) (n : RecordNumber) (d : DigestType) (key : DnskeyRecord) → record_at 0 m ≡ n → IsDsMatch setting n d key → ⊥
+  never_anchor m n d key same is =
+      let counted = is.at.is_rrset.0 in
+      let none : 0 ≡ n.rrset = ap (λ (number : RecordNumber). number.rrset) same in omega (arith, counted, none)
+
+  one_voucher : (k l : DnskeyRecord) (a b : Voucher) → Matched setting a k → Matched setting b l → voucher_rank a ≡ voucher_rank b → a ≡ b
+  one_voucher k l (voucher.KeyAnchor m) (voucher.KeyAnchor n) x y rank = ap (λ (number : RecordNumber). voucher.KeyAnchor number.place) rank
   one_voucher k l (voucher.KeyAnchor m) (voucher.DsAnchor n d) x y rank =
-      let clash : anchor.Key x.0 x.1 ≡ anchor.Ds y.0 y.1 = one_anchor m n (anchor.Key x.0 x.1) (anchor.Ds y.0 y.1) rank.1 x.2 y.2 in cc
-  one_voucher k l (voucher.KeyAnchor m) (voucher.Ds n d) x y rank = absurd (omega (arith, rank.0))
+      let clash : anchor.Key x.0 x.1 ≡ anchor.Ds y.0 y.1 = one_anchor m n (anchor.Key x.0 x.1) (anchor.Ds y.0 y.1) rank x.2 y.2 in cc
+  one_voucher k l (voucher.KeyAnchor m) (voucher.Ds n d) x y rank = absurd (never_anchor m n d l rank y.0)
   one_voucher k l (voucher.DsAnchor m d) (voucher.KeyAnchor n) x y rank =
-      let clash : anchor.Ds x.0 x.1 ≡ anchor.Key y.0 y.1 = one_anchor m n (anchor.Ds x.0 x.1) (anchor.Key y.0 y.1) rank.1 x.2 y.2 in cc
+      let clash : anchor.Ds x.0 x.1 ≡ anchor.Key y.0 y.1 = one_anchor m n (anchor.Ds x.0 x.1) (anchor.Key y.0 y.1) rank x.2 y.2 in cc
   one_voucher k l (voucher.DsAnchor m d) (voucher.DsAnchor n e) x y rank =
-      let whole : anchor.Ds x.0 x.1 ≡ anchor.Ds y.0 y.1 = one_anchor m n (anchor.Ds x.0 x.1) (anchor.Ds y.0 y.1) rank.1 x.2 y.2 in
+      let whole : anchor.Ds x.0 x.1 ≡ anchor.Ds y.0 y.1 = one_anchor m n (anchor.Ds x.0 x.1) (anchor.Ds y.0 y.1) rank x.2 y.2 in
       let ds : x.1 ≡ y.1 = cc in
       let digest : d.0 ≡ e.0 = x.3 ∙ ap (λ (each : Ds). each.digest_type.0) ds ∙ sym y.3 in
-      λ i. voucher.DsAnchor (rank.1 i) (record { 0 = digest i })
-  one_voucher k l (voucher.DsAnchor m d) (voucher.Ds n e) x y rank = absurd (omega (arith, rank.0))
-  one_voucher k l (voucher.Ds m d) (voucher.KeyAnchor n) x y rank = absurd (omega (arith, rank.0))
-  one_voucher k l (voucher.Ds m d) (voucher.DsAnchor n e) x y rank = absurd (omega (arith, rank.0))
+      λ i. voucher.DsAnchor (rank i).place (record { 0 = digest i })
+  one_voucher k l (voucher.DsAnchor m d) (voucher.Ds n e) x y rank = absurd (never_anchor m n e l rank y.0)
+  one_voucher k l (voucher.Ds m d) (voucher.KeyAnchor n) x y rank = absurd (never_anchor n m d k (sym rank) x.0)
+  one_voucher k l (voucher.Ds m d) (voucher.DsAnchor n e) x y rank = absurd (never_anchor n m d k (sym rank) x.0)
   one_voucher k l (voucher.Ds m d) (voucher.Ds n e) x y rank =
-      let number : m ≡ n = λ i. record { rrset = rank.1 i; place = rank.2 i } in
-      let at = one_record setting.rrsets m n x.0.rrset y.0.rrset x.0.rdata y.0.rdata number x.0.at y.0.at in
+      let at = one_record setting.rrsets m n x.0.rrset y.0.rrset x.0.rdata y.0.rdata rank x.0.at y.0.at in
       let Read : List ℕ → Type 0 = λ octets. IsDs octets x.0.ds in
       let ds : x.0.ds ≡ y.0.ds = one_ds y.0.rdata x.0.ds y.0.ds (subst Read at.1 x.0.read) y.0.read in
       let digest : d.0 ≡ e.0 = x.0.digest ∙ ap (λ (each : Ds). each.digest_type.0) ds ∙ sym y.0.digest in
-      λ i. voucher.Ds (number i) (record { 0 = digest i })
+      λ i. voucher.Ds (rank i) (record { 0 = digest i })
 
   module _ (k : ℕ) where
     one_set : (a b : Way) (x : IsWayInto setting k a) (y : IsWayInto setting k b) → x.set ≡ y.set

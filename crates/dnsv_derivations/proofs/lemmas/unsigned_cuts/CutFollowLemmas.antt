@@ -13,13 +13,13 @@ use Rattle.dnsv_derivations.specs.Following.{EachFollows, IsSaidSigned, IsSignat
 use Rattle.dnsv_derivations.specs.Following.Cases.{IsCaseBy}
 use Rattle.dnsv_derivations.specs.derivations.OwnDerivations.{IsTrustIn}
 use Rattle.dnsv_derivations.specs.unsigned_cuts.ShownCuts.{IsCutShownBy, IsCutTold}
-use Rattle.dnsv_derivations.specs.unsigned_cuts.ShownCuts.IsShownUnsigned.{no_ds as delegation_shown, opted_out}
+use Rattle.dnsv_derivations.specs.Denials.IsShownBy.{no_ds as delegation_shown, opted_out}
 use Rattle.dnsv_derivations.specs.unsigned_cuts.UnsignedCuts.{AreAllTold, AreToldFrom, IsUnusableTold}
 use Rattle.dnsv_lines.specs.declared.line.Line.{Line}
 use Rattle.dnsv_lines.specs.declared.line.Line.TheVariants as line
 use Rattle.dnsv_lines.specs.declared.line.cut.InsecureCase.TheVariants as case
 use Rattle.dnsv_lines.specs.declared.line.cut.UnusableDs.{UnusableDs}
-use Rattle.dnsv_derivations.proofs.lemmas.denials.FollowLemmas.{both_follow, case_follows, unsigned_follows}
+use Rattle.dnsv_derivations.proofs.lemmas.denials.FollowLemmas.{both_follow, case_follows, denial_follows}
 use Rattle.dnsv_derivations.proofs.lemmas.derivations.DerivationLemmas.{derivation_follows, signature_said}
 
 signed_stays : (before more : List Line) (k : ℕ) → IsSaidSigned before k → IsSaidSigned (before ++ more) k
@@ -82,11 +82,11 @@ module _ (setting : Setting) where
   shown_follows : (trust : KeptTrust) → IsTrustIn setting trust → (name : Labels) (cut : ShownCut) (before lines : List Line)
       → IsShownCut (SecuredIn trust) setting.rrsets name cut → IsCutTold setting name cut before lines → EachFollows setting before lines
   shown_follows trust good name cut before lines (no_ds labels shown fewest is) told =
-      unsigned_follows setting name shown case.UnsignedDelegation (rightmost name labels) before lines (delegation_shown trust good labels is) told
+      denial_follows setting name shown before lines (trust, good, delegation_shown labels is) told
   shown_follows trust good name cut before lines (no_usable_ds labels none fewest) told =
       unusable_follows (rightmost name labels) before lines told
   shown_follows trust good name cut before lines (opt_out labels shown no_delegation no_unusable most is) told =
-      unsigned_follows setting name shown case.OptOut (rightmost name (labels + 1)) before lines (opted_out trust good labels is) told
+      denial_follows setting name shown before lines (trust, good, opted_out labels is) told
 
   pub cut_follows : (name : Labels) (cut : ShownCut) (before lines : List Line) → IsCutShownBy setting name cut
       → IsCutTold setting name cut before lines → EachFollows setting before lines

@@ -13,7 +13,7 @@ use dnsv_lines::Voucher;
 /// The first way into the DNSKEY RRset by an anchor: by the anchor of lowest number, then by the lowest key.
 pub fn way_by_anchor(evidence: &Evidence<'_>, set: &KeySet<'_>) -> Option<FoundWay>
     requires { IsKeySet (setting_in evidence.now) set.now }
-    ensures { MatchOption result (IsNoWayBefore (setting_in evidence.now) set.now.number (1, 0, 0))
+    ensures { MatchOption result (IsNoWayBefore (setting_in evidence.now) set.now.number 1 0)
         (IsFoundWay (setting_in evidence.now) set.now.number) }
 {
     for (place, anchor) in evidence.anchors().iter().enumerate() {

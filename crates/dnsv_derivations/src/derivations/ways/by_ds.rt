@@ -23,7 +23,7 @@ pub fn way_by_ds(
     set: &KeySet<'_>,
 ) -> Result<Option<FoundWay>, AllocError>
     requires set { IsKeySet (setting_in evidence.now) set.now }
-    requires before { IsNoWayBefore (setting_in evidence.now) set.now.number (1, 0, 0) }
+    requires before { IsNoWayBefore (setting_in evidence.now) set.now.number 1 0 }
     ensures { IfOk result (λ way. MatchOption way (IsNoWay (setting_in evidence.now) set.now.number)
         (IsFoundWay (setting_in evidence.now) set.now.number)) }
 {
@@ -51,8 +51,8 @@ fn way_in(
 ) -> Result<Option<FoundWay>, AllocError>
     requires set { IsKeySet (setting_in evidence.now) set.now }
     requires ds { IsNumbered evidence.now.rrsets from ds.now }
-    requires before { IsNoWayBefore (setting_in evidence.now) set.now.number (1, from, 0) }
-    ensures { IfOk result (λ way. MatchOption way (IsNoWayBefore (setting_in evidence.now) set.now.number (1, from + 1, 0))
+    requires before { IsNoWayBefore (setting_in evidence.now) set.now.number from 0 }
+    ensures { IfOk result (λ way. MatchOption way (IsNoWayBefore (setting_in evidence.now) set.now.number (from + 1) 0)
         (IsFoundWay (setting_in evidence.now) set.now.number)) }
 {
     if !may_delegate(evidence, from, ds, set.rrset.owner()) {

@@ -4,7 +4,7 @@ use Rattle.std.proofs.lemmas.List.Elements.{Contains-append_cases}
 use Rattle.std.specs.List.{Contains}
 use Rattle.dnsv_canonical.specs.Rrsets.{IsNumbered}
 use Rattle.dnsv_verifier.proofs.NumberLemmas.{contains_from_map}
-use Rattle.dnsv_explain.specs.Listing.{AreOfEach, AreOfNumbered, AreParted, AreWhere}
+use Rattle.dnsv_explain.specs.Listing.{AreOfNumbered, AreWhere}
 use Rattle.dnsv_lines.specs.declared.line.Line.{Line}
 use Rattle.dnsv_explain.proofs.lemmas.MemberLemmas.{first_or_rest, member_of, none_in, numbered_from}
 
@@ -28,11 +28,6 @@ module _ (Such : Line → Type 0) where
       ⊎_elim (λ (left : Contains first each). one each left) (λ (right : Contains second each). two each right)
       (Contains-append_cases first second each (subst In parts there))
 
-  pub parted_each : (First Second : List Line → Type 0) (lines : List Line) → AreParted First Second lines
-      → ((some : List Line) → First some → Each some) → ((some : List Line) → Second some → Each some) → Each lines
-  parted_each First Second lines parts one two =
-      both_each parts.first parts.second lines parts.parts (one parts.first parts.is_first) (two parts.second parts.is_second)
-
   pub mapped_each : {X : Type 0} (told : X → Line) → ((x : X) → Such (told x)) → (xs : List X) (lines : List Line) → lines ≡ map told xs
       → Each lines
   mapped_each told such xs lines are each there =
@@ -44,12 +39,6 @@ module _ (Such : Line → Type 0) where
   numbered_each Are xs lines are one each there =
       let m = member_of Are 1 xs lines are each there in
       one (1 + m.i) m.x m.ys (numbered_from xs m.i m.x m.at) m.are each m.there
-
-  pub each_each : {X : Type 0} (Are : X → List Line → Type 0) (xs : List X) (lines : List Line) → AreOfEach Are xs lines
-      → ((x : X) (some : List Line) → Are x some → Each some) → Each lines
-  each_each Are [] lines none one = none_each lines none
-  each_each Are (x ∷ xs) lines parts one =
-      parted_each (Are x) (AreOfEach Are xs) lines parts (one x) (λ some are. each_each Are xs some are one)
 
   pub where_each : (Holds : Type 0) (Are : List Line → Type 0) (lines : List Line) → AreWhere Holds Are lines
       → (Holds → (some : List Line) → Are some → Each some) → Each lines

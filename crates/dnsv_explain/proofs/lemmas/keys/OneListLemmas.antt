@@ -1,6 +1,6 @@
 -- Lists of what is so are one.
-use Rattle.std.proofs.Common.{◌≡◌, ◌∙◌, ℕ, ◌+◌, inl, inr, List, [], ◌∷◌, ◌++◌, sym, ap, subst}
-use Rattle.dnsv_explain.specs.Listing.{AreOfEach, AreOfNumbered, AreParted, AreThose, AreWhere}
+use Rattle.std.proofs.Common.{◌≡◌, ◌∙◌, ℕ, ◌+◌, inl, inr, List, [], ◌∷◌, ◌++◌, sym}
+use Rattle.dnsv_explain.specs.Listing.{AreOfEach, AreOfNumbered, AreParted, AreWhere}
 
 -- one list at most is such
 abbrev pub IsOneList : {X : Type 0} → (List X → Type 0) → Type 0
@@ -30,20 +30,3 @@ one_where {X = X} Holds Are one a b (inl x) (inl y) = one a b x.1 y.1
 one_where {X = X} Holds Are one a b (inl x) (inr y) = absurd (y.0 x.0)
 one_where {X = X} Holds Are one a b (inr x) (inl y) = absurd (x.0 y.0)
 one_where {X = X} Holds Are one a b (inr x) (inr y) = x.1 ∙ sym y.1
-
-pub one_those : {X : Type 0} (Such : X → Type 0) (xs : List X) → IsOneList (AreThose Such xs)
-one_those {X = X} Such [] a b x y = x ∙ sym y
-one_those {X = X} Such (each ∷ xs) a b (inl x) (inl y) = one_those Such xs a b x.1 y.1
-one_those {X = X} Such (each ∷ xs) a b (inl x) (inr y) = absurd (x.0 y.0)
-one_those {X = X} Such (each ∷ xs) a b (inr x) (inl y) = absurd (y.0 x.0)
-one_those {X = X} Such (each ∷ xs) a b (inr x) (inr y) =
-    let rest : x.1.0 ≡ y.1.0 = one_those Such xs x.1.0 y.1.0 x.1.1 y.1.1 in
-    x.1.2 ∙ ap (λ others. each ∷ others) rest ∙ sym y.1.2
-
--- those of a list that is one
-pub one_those_of : {X : Type 0} (Are : List X → Type 0) (Such : X → Type 0) → IsOneList Are
-    → IsOneList (λ (xs : List X). (all : List X) × Are all × AreThose Such all xs)
-one_those_of {X = X} Are Such one a b x y =
-    let all : x.0 ≡ y.0 = one x.0 y.0 x.1 y.1 in
-    let Of : List X → Type 0 = λ each. AreThose Such each a in
-    one_those Such y.0 a b (subst Of all x.2) y.2

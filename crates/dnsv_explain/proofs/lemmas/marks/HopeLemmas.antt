@@ -1,5 +1,5 @@
 -- What follows by a table follows by the hopeful one too.
-use Rattle.std.proofs.Common.{◌≡◌, ◌∙◌, ℕ, Bool, true, false, cond, List, [], ◌∷◌, ◌++◌, Option, Some, None, map, refl, sym, ap, subst}
+use Rattle.std.proofs.Common.{◌≡◌, ◌∙◌, ℕ, Bool, true, false, cond, List, [], ◌∷◌, ◌++◌, Option, Some, map, refl, sym, ap, subst}
 use Rattle.std.specs.Map.{lookup}
 use Rattle.std.specs.Ordering.{is_eq}
 use Rattle.std.specs.Prelude.{unwrap_or}
@@ -19,7 +19,7 @@ use Rattle.dnsv_verdict.specs.declared.verdict.Verdict.{Verdict}
 use Rattle.dnsv_verdict.specs.declared.verdict.Verdict.TheVariants.{Pending}
 use Rattle.dnsv_derivations.specs.Explained.{Explained, setting_in}
 use Rattle.dnsv_explain.specs.Explained.{basis_in, explained_by, hoped}
-use Rattle.dnsv_explain.specs.Explanation.{IsHopeTold, IsSettledTold, IsVerdictTold, told_kind}
+use Rattle.dnsv_explain.specs.Explanation.{IsHopeTold, IsSettledTold, told_kind}
 use Rattle.dnsv_derivations.specs.Following.{EachFollows, IsGoodUnder}
 use Rattle.dnsv_derivations.specs.Saying.{Adds}
 use Rattle.dnsv_lines.specs.declared.line.Kind.{Kind}
@@ -86,9 +86,6 @@ module _ (case : CaseContents) (name : Labels) (t : ℕ) (verdict : Verdict) (ho
   has_its : HasHope case name t (Pending unknown) hope
   has_its = let Has : Verdict → Type 0 = λ each. HasHope case name t each hope in subst Has is has
 
-  pub no_hope : hope ≡ None → ⊥
-  no_hope none = let Has : Option Hope → Type 0 = λ each. HasHope case name t (Pending unknown) each in subst Has none has_its
-
   pub the_hope : (this : Hope) → hope ≡ Some this → IsHope case name t this
   the_hope this some = let Has : Option Hope → Type 0 = λ each. HasHope case name t (Pending unknown) each in subst Has some has_its
 
@@ -121,9 +118,3 @@ module _ (explained its : Explained) (case : CaseContents) (hope : Hope) (unknow
           told = both.says;
         };
       }
-
--- of a verdict that needs more answers
-pub hope_of : (explained : Explained) (name : Labels) (t : ℕ) (verdict : Verdict) (unknown : List Entry) (old new : List Line)
-    → verdict ≡ Pending unknown → Adds (IsHopeTold explained name t unknown) old new → Adds (IsVerdictTold explained name t verdict) old new
-hope_of explained name t verdict unknown old new is told =
-    let Told : Verdict → Type 0 = λ each. Adds (IsVerdictTold explained name t each) old new in subst Told (sym is) told

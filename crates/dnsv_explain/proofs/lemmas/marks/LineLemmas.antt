@@ -1,17 +1,18 @@
 -- Each line that calls keys trusted, or a signature good, is that of a first way, or of a first key; and no line of what
 -- holds says that something fails.
-use Rattle.std.proofs.Common.{◌≡◌, ⊎_elim, ◌+◌, ℕ, List, [], ◌∷◌, ◌++◌, Option, Some, None, map, sym, subst}
+use Rattle.std.proofs.Common.{◌≡◌, ⊎_elim, ℕ, List, [], ◌∷◌, ◌++◌, Option, Some, None, map, sym, subst}
 use Rattle.std.specs.List.{AllByRecursion}
 use Rattle.dnsv_names.specs.Name.{Labels, rightmost}
-use Rattle.dnsv_denial.specs.proving.ProofParts.{form_parts}
+use Rattle.dnsv_denial.specs.proving.ProofParts.{form_parts, part_name}
+use Rattle.dnsv_denial.specs.declared.proving.proof_part.PartName.{PartName}
 use Rattle.dnsv_denial.specs.declared.proving.shown_denial.ShownDenial.{ShownDenial}
 use Rattle.dnsv_canonical.specs.declared.number.RecordNumber.{RecordNumber}
 use Rattle.dnsv_denial.specs.declared.unsigned_cuts.shown_cut.ShownCut.{ShownCut}
 use Rattle.dnsv_denial.specs.declared.unsigned_cuts.shown_cut.ShownCut.TheVariants as cut
 use Rattle.dnsv_verdict.specs.declared.link.Link.{Link}
 use Rattle.dnsv_verdict.specs.declared.verdict.Verdict.{Verdict}
-use Rattle.dnsv_verdict.specs.declared.verdict.Verdict.TheVariants.{SecureAnswer, SecureAlias, SecureNoName, SecureNoData, Insecure, Pending, Bogus, Indeterminate}
-use Rattle.dnsv_derivations.specs.Denials.{IsDenialTold, IsPartSaid, IsPartTold, IsProofOf, IsProofSaid, IsProofTold, IsProofWithParts, told_form}
+use Rattle.dnsv_verdict.specs.declared.verdict.Verdict.TheVariants.{SecureAnswer, SecureAlias, SecureNoName, SecureNoData, Insecure}
+use Rattle.dnsv_derivations.specs.Denials.{IsCaseFor, IsDenialTold, IsPartSaid, IsPartTold, IsProofOf, IsProofSaid, IsProofTold, IsProofWithParts, told_case, told_form}
 use Rattle.dnsv_derivations.specs.Explained.{Setting}
 use Rattle.dnsv_explain.specs.Explanation.{IsLinkTold, IsSetTold, IsSettledTold, IsUnsignedFromTold, signature_of}
 use Rattle.dnsv_explain.specs.Explanation.IsSetTold.{as_owned, by_wildcard}
@@ -22,7 +23,7 @@ use Rattle.dnsv_derivations.specs.derivations.Derivations.IsDerivation.{said_tru
 use Rattle.dnsv_derivations.specs.derivations.Derivations.Subject.{keys, signature}
 use Rattle.dnsv_derivations.specs.derivations.OwnDerivations.{AreRecordsDerived, IsOwnDerivation, IsSignatureTold}
 use Rattle.dnsv_derivations.specs.derivations.Ways.{IsSignedLine, IsTrustedLine}
-use Rattle.dnsv_derivations.specs.unsigned_cuts.ShownCuts.{IsCutTold, IsUnsignedTold}
+use Rattle.dnsv_derivations.specs.unsigned_cuts.ShownCuts.{IsCutTold}
 use Rattle.dnsv_derivations.specs.unsigned_cuts.UnsignedCuts.{AreAllTold, IsCaseTold, IsUnusableTold}
 use Rattle.dnsv_lines.specs.declared.line.Line.{Line}
 use Rattle.dnsv_lines.specs.declared.line.Line.TheVariants as line
@@ -89,21 +90,29 @@ module _ (Of : Setting → Type 0) where
       proof_of None shown before lines told = subst Are (sym told) tt
       proof_of (Some form) shown before lines told = once (IsProofSaid told.proof) (line.Proof told.proof) tt before lines told.once
 
+      case_told : (kind : InsecureCase) (at : Labels) (of_zone : Option Labels) (before lines : List Line) → IsCaseTold kind at of_zone before lines → Are lines
+      case_told kind at of_zone before lines told = subst Are (sym told.are) (tt, tt)
+
+      case_for : (which : Option (InsecureCase × PartName)) (zone : Labels) (before lines : List Line) → IsCaseFor which name zone before lines → Are lines
+      case_for None zone before lines told = subst Are (sym told) tt
+      case_for (Some which) zone before lines told = case_told which.0 (part_name name which.1) (Some zone) before lines told
+
       with_parts : (shown : ShownDenial) (before lines : List Line) → IsProofWithParts setting.rrsets name shown before lines → Are lines
       with_parts shown before lines told =
-          both (IsProofTold name shown) (AreEach (IsPartTold setting.rrsets name) (form_parts shown.chain shown.form)) before lines told
-          (λ old new proof. proof_of (told_form shown.form) shown old new proof)
-          (λ old new parts.
-          each (IsPartTold setting.rrsets name) (λ part older newer part_told. once (IsPartSaid part_told.part) (line.Part part_told.part) tt older newer part_told.once)
-          (form_parts shown.chain shown.form) old new parts)
+          let Parts : List Line → List Line → Type 0 = AreEach (IsPartTold setting.rrsets name) (form_parts shown.chain shown.form) in
+          both (IsCaseFor (told_case shown.form) name shown.proof.zone) (AreBoth (IsProofTold name shown) Parts) before lines told
+          (case_for (told_case shown.form) shown.proof.zone)
+          (λ old new rest.
+          both (IsProofTold name shown) Parts old new rest
+          (λ older newer proof. proof_of (told_form shown.form) shown older newer proof)
+          (λ older newer parts.
+          each (IsPartTold setting.rrsets name) (λ part oldest newest part_told. once (IsPartSaid part_told.part) (line.Part part_told.part) tt oldest newest part_told.once)
+          (form_parts shown.chain shown.form) older newer parts))
 
       denial_told : (shown : ShownDenial) (before lines : List Line) → IsDenialTold setting name shown before lines → Are lines
       denial_told shown before lines told =
           both (AreRecordsDerived setting shown.proof.zone shown.proof.records) (IsProofWithParts setting.rrsets name shown) before lines told
           (records_told shown.proof.zone shown.proof.records) (with_parts shown)
-
-      case_told : (kind : InsecureCase) (at : Labels) (of_zone : Option Labels) (before lines : List Line) → IsCaseTold kind at of_zone before lines → Are lines
-      case_told kind at of_zone before lines told = subst Are (sym told.are) (tt, tt)
 
       unusables : (told : List UnusableDs) → Are (map (λ unusable. line.Unusable unusable) told)
       unusables [] = tt
@@ -119,20 +128,10 @@ module _ (Of : Setting → Type 0) where
           (λ old new rest.
           both (IsCaseTold case.UnusableDs at None) (AreAllTold setting.rrsets told.k) old new rest (case_told case.UnusableDs at None) (all_told told.k))
 
-      unsigned_told : (shown : ShownDenial) (kind : InsecureCase) (at : Labels) (before lines : List Line)
-          → IsUnsignedTold setting name shown kind at before lines → Are lines
-      unsigned_told shown kind at before lines told =
-          both (AreRecordsDerived setting shown.proof.zone shown.proof.records)
-          (AreBoth (IsCaseTold kind at (Some shown.proof.zone)) (IsProofWithParts setting.rrsets name shown)) before lines told
-          (records_told shown.proof.zone shown.proof.records)
-          (λ old new rest.
-          both (IsCaseTold kind at (Some shown.proof.zone)) (IsProofWithParts setting.rrsets name shown) old new rest
-          (case_told kind at (Some shown.proof.zone)) (with_parts shown))
-
       cut_told : (shown : ShownCut) (before lines : List Line) → IsCutTold setting name shown before lines → Are lines
-      cut_told (cut.NoDs labels shown) before lines told = unsigned_told shown case.UnsignedDelegation (rightmost name labels) before lines told
+      cut_told (cut.NoDs labels shown) before lines told = denial_told shown before lines told
       cut_told (cut.NoUsableDs labels) before lines told = unusable_told (rightmost name labels) before lines told
-      cut_told (cut.OptOut labels shown) before lines told = unsigned_told shown case.OptOut (rightmost name (labels + 1)) before lines told
+      cut_told (cut.OptOut labels shown) before lines told = denial_told shown before lines told
 
       set_told : (number : SignatureNumber) (before lines : List Line) → IsSetTold setting name number before lines → Are lines
       set_told number before lines (as_owned r g at own told) = signature_told number before lines told
@@ -142,10 +141,8 @@ module _ (Of : Setting → Type 0) where
       unsigned_from_told : (t : ℕ) (before lines : List Line) → IsUnsignedFromTold setting name t before lines → Are lines
       unsigned_from_told t before lines (by_cut shown is told) = cut_told shown before lines told
       unsigned_from_told t before lines (loosely trust good none k s first shown is told) =
-          both (IsSignatureTold setting (signature_of k s))
-          (IsUnsignedTold setting name shown case.OptOutWildcard (rightmost name (first.such.rrsig.labels + 1))) before lines told
-          (signature_told (signature_of k s))
-          (unsigned_told shown case.OptOutWildcard (rightmost name (first.such.rrsig.labels + 1)))
+          both (IsSignatureTold setting (signature_of k s)) (IsDenialTold setting name shown) before lines told (signature_told (signature_of k s))
+          (denial_told shown)
 
       pub settled_told : (t : ℕ) (verdict : Verdict) (before lines : List Line) → IsSettledTold setting name t verdict before lines → Are lines
       settled_told t (SecureAnswer k s) before lines told = set_told (signature_of k s) before lines told
@@ -153,9 +150,7 @@ module _ (Of : Setting → Type 0) where
       settled_told t (SecureNoName proof) before lines told = denial_told told.shown before lines told.told
       settled_told t (SecureNoData proof) before lines told = denial_told told.shown before lines told.told
       settled_told t (Insecure cut) before lines told = unsigned_from_told t before lines told
-      settled_told t (Pending entries) before lines told = absurd told
-      settled_told t Bogus before lines told = absurd told
-      settled_told t Indeterminate before lines told = absurd told
+      settled_told t verdict before lines told = absurd told
 
     pub links_told : (links : List Link) (before lines : List Line) → AreEach (IsLinkTold setting) links before lines → Are lines
     links_told links before lines told =

@@ -51,14 +51,8 @@ kind_of_case n =
     else if n == 4 then Some kind.SecureNoData else if n == 5 then Some kind.Insecure else None
 
 by_case : (verdict : Verdict) → told_kind verdict ≡ kind_of_case (case_of verdict)
-by_case (SecureAnswer k s) = refl
-by_case (SecureAlias k s) = refl
-by_case (SecureNoName proof) = refl
-by_case (SecureNoData proof) = refl
-by_case (Insecure cut) = refl
-by_case (Pending entries) = refl
-by_case Bogus = refl
 by_case Indeterminate = refl
+by_case verdict = refl
 
 -- verdicts of one case have one kind
 same_kind : (a b : Verdict) → case_of a ≤ case_of b → case_of b ≤ case_of a → told_kind a ≡ told_kind b
@@ -66,14 +60,10 @@ same_kind a b up down =
     let same : case_of a ≡ case_of b = omega (arith, up, down) in by_case a ∙ ap (λ n. kind_of_case n) same ∙ sym (by_case b)
 
 as_verdict : (basis : Basis) (name : Labels) (t : ℕ) (verdict : Verdict) → IsSettledAsBy basis name t verdict → IsVerdictAt basis name t verdict
-as_verdict basis name t (SecureAnswer k s) is = is
-as_verdict basis name t (SecureAlias k s) is = is
-as_verdict basis name t (SecureNoName proof) is = is
-as_verdict basis name t (SecureNoData proof) is = is
-as_verdict basis name t (Insecure cut) is = is
 as_verdict basis name t (Pending entries) is = absurd is
 as_verdict basis name t Bogus is = absurd is
 as_verdict basis name t Indeterminate is = absurd is
+as_verdict basis name t verdict is = is
 
 -- trust depends on what is asked
 abbrev pub DependsOnAsked : Type 0

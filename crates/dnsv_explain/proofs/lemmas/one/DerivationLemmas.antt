@@ -7,7 +7,7 @@ use Rattle.dnsv_verdict.specs.Verdict.{Basis}
 use Rattle.dnsv_verdict.specs.Way.{IsVerdictOf}
 use Rattle.dnsv_verdict.specs.declared.link.Link.{Link}
 use Rattle.dnsv_verdict.specs.declared.verdict.Verdict.{Verdict}
-use Rattle.dnsv_verdict.specs.declared.verdict.Verdict.TheVariants.{SecureAnswer, SecureAlias, SecureNoName, SecureNoData, Insecure, Pending, Bogus, Indeterminate}
+use Rattle.dnsv_verdict.specs.declared.verdict.Verdict.TheVariants.{Bogus, Indeterminate}
 use Rattle.dnsv_derivations.specs.Explained.{Explained}
 use Rattle.dnsv_explain.specs.Derived.{AreLinksDerived, AreLinksTold, IsDerivationOf, IsDerivationTold, explained_with}
 use Rattle.dnsv_lines.specs.declared.line.Line.{Line}
@@ -17,14 +17,9 @@ use Rattle.dnsv_explain.proofs.lemmas.one.WholeLemmas.{NeedsApart, needs_apart, 
 module _ (explained : Explained) (none : AreApart explained.todo) (t : ℕ) (links : List Link) (last : Labels) where
   one_derivation_told : (verdict : Verdict) → NeedsApart explained none t verdict → (a b : List Line)
       → IsDerivationTold explained t links last verdict a → IsDerivationTold explained t links last verdict b → a ≡ b
-  one_derivation_told (SecureAnswer k s) apart a b x y = one_way explained none t links last (SecureAnswer k s) apart [] a b x y
-  one_derivation_told (SecureAlias k s) apart a b x y = one_way explained none t links last (SecureAlias k s) apart [] a b x y
-  one_derivation_told (SecureNoName proof) apart a b x y = one_way explained none t links last (SecureNoName proof) apart [] a b x y
-  one_derivation_told (SecureNoData proof) apart a b x y = one_way explained none t links last (SecureNoData proof) apart [] a b x y
-  one_derivation_told (Insecure cut) apart a b x y = one_way explained none t links last (Insecure cut) apart [] a b x y
-  one_derivation_told (Pending unknown) apart a b x y = one_way explained none t links last (Pending unknown) apart [] a b x y
   one_derivation_told Bogus apart a b x y = one_links explained none t links [] a b x y
   one_derivation_told Indeterminate apart a b x y = one_links explained none t links [] a b x y
+  one_derivation_told verdict apart a b x y = one_way explained none t links last verdict apart [] a b x y
 
 -- a verdict has one derivation
 pub one_derivation : (basis : Basis) (name : Labels) (t : ℕ) (links : List Link) (last : Labels) (verdict : Verdict) (a b : List Line)

@@ -1,5 +1,5 @@
 -- An explanation has one text.
-use Rattle.std.proofs.Common.{◌≡◌, ◌∙◌, ◌+◌, ◌-◌, ◌<◌, ◌≤◌, ⊎_elim, ℕ, List, [], ◌∷◌, Some, arith, get_or, refl, sym, ap, subst}
+use Rattle.std.proofs.Common.{◌≡◌, ◌∙◌, ◌-◌, ◌<◌, ◌≤◌, ⊎_elim, ℕ, List, [], ◌∷◌, Some, arith, get_or, refl, sym, ap, subst}
 use Rattle.std.proofs.lemmas.Bool.{cases_lt}
 use Rattle.std.proofs.lemmas.Cmp.{tied_itself}
 use Rattle.std.proofs.lemmas.Map.Keys.{Less-from_sorted}
@@ -7,7 +7,7 @@ use Rattle.std.proofs.lemmas.Option.{get_or_from_slice_get, slice_get_within}
 use Rattle.std.specs.List.{Contains}
 use Rattle.std.specs.List.Sorted.{IsStrictlySortedBy}
 use Rattle.std.specs.declared.cmp.Ordering.TheVariants.{Less, Equal}
-use Rattle.dnsv_names.specs.Name.{Labels, rightmost}
+use Rattle.dnsv_names.specs.Name.{Labels}
 use Rattle.dnsv_records.specs.declared.rrsig.Rrsig.{Rrsig}
 use Rattle.dnsv_canonical.specs.Rrsets.{IsNumbered, ReceivedRrset}
 use Rattle.dnsv_canonical.specs.SignedData.{IsExpanded}
@@ -39,15 +39,13 @@ use Rattle.dnsv_explain.specs.Explanation.{IsEndTold, IsExplanation, IsExplanati
 use Rattle.dnsv_explain.specs.Explanation.IsSetTold.{as_owned, by_wildcard}
 use Rattle.dnsv_explain.specs.Explanation.IsUnsignedFromTold.{by_cut, by_wildcard as loosely}
 use Rattle.dnsv_derivations.specs.Saying.{AreBoth, AreEach}
-use Rattle.dnsv_derivations.specs.derivations.OwnDerivations.{IsSignatureTold}
-use Rattle.dnsv_derivations.specs.unsigned_cuts.ShownCuts.{IsCutTold, IsUnsignedTold}
+use Rattle.dnsv_derivations.specs.unsigned_cuts.ShownCuts.{IsCutTold}
 use Rattle.dnsv_lines.specs.declared.line.Kind.{Kind}
 use Rattle.dnsv_lines.specs.declared.line.Line.{Line}
 use Rattle.dnsv_lines.specs.declared.line.Line.TheVariants as line
-use Rattle.dnsv_lines.specs.declared.line.cut.InsecureCase.TheVariants as case
 use Rattle.dnsv_canonical.specs.declared.number.SignatureNumber.{SignatureNumber}
 use Rattle.dnsv_explain.proofs.lemmas.one.FailureLemmas.{one_failure_told}
-use Rattle.dnsv_derivations.proofs.lemmas.one.CutLemmas.{one_cut_told, one_unsigned}
+use Rattle.dnsv_derivations.proofs.lemmas.one.CutLemmas.{one_cut_told}
 use Rattle.dnsv_derivations.proofs.lemmas.one.DenialLemmas.{one_denial, one_expanded}
 use Rattle.dnsv_derivations.proofs.lemmas.one.DerivationLemmas.{one_held, one_signature}
 use Rattle.dnsv_explain.proofs.lemmas.one.PlaceLemmas.{one_end, one_places_told}
@@ -120,10 +118,6 @@ module _ (setting : Setting) (apart : AreApart setting.todo) (name : Labels) whe
         (one_signature_at setting.rrsets (signature_of k s) (signature_of j r) x.such.rrset y.such.rrset x.such.rdata y.such.rdata
         x.such.rrsig y.such.rrsig same (x.such.is_rrset, x.such.is_signature, x.such.read) (y.such.is_rrset, y.such.is_signature, y.such.read)).1
 
-    abbrev Loose : SignatureNumber → Rrsig → ShownDenial → List Line → List Line → Type 0
-    Loose number rrsig shown =
-        AreBoth (IsSignatureTold setting number) (IsUnsignedTold setting name shown case.OptOutWildcard (rightmost name (rrsig.labels + 1)))
-
     one_unsigned_from : IsOne (IsUnsignedFromTold setting name t)
     one_unsigned_from before a b (by_cut p is told) (by_cut q its said) =
         let signed : signed_of is.0 ≡ signed_of its.0 = one_trust setting is.0 its.0 is.1 its.1 in
@@ -151,14 +145,10 @@ module _ (setting : Setting) (apart : AreApart setting.todo) (name : Labels) whe
         let shown : p ≡ q =
         one_shown_out (Kept (signed_of kept)) setting.rrsets name other.such.rrsig.labels other.such.rrsig.signer p q
         (subst Of rrsig (subst By signed is)) its in
-        let there : Loose (signature_of j r) other.such.rrsig q before a =
-        subst (λ each. Loose (signature_of j r) other.such.rrsig each before a) shown
-        (subst (λ each. Loose (signature_of j r) each p before a) rrsig (subst (λ each. Loose each first.such.rrsig p before a) number told)) in
-        one_both (IsSignatureTold setting (signature_of j r))
-        (IsUnsignedTold setting name q case.OptOutWildcard (rightmost name (other.such.rrsig.labels + 1)))
-        (one_signature setting apart (signature_of j r))
-        (one_unsigned setting apart name q case.OptOutWildcard (rightmost name (other.such.rrsig.labels + 1)))
-        before a b there said
+        let there : IsExpandedTold setting name (signature_of j r) q before a =
+        subst (λ each. IsExpandedTold setting name (signature_of j r) each before a) shown
+        (subst (λ each. IsExpandedTold setting name each p before a) number told) in
+        one_expanded setting apart name (signature_of j r) q before a b there said
 
     -- ---- the verdict
 
@@ -168,9 +158,7 @@ module _ (setting : Setting) (apart : AreApart setting.todo) (name : Labels) whe
     one_settled (SecureNoName proof) before a b x y = one_no_name before a b x y
     one_settled (SecureNoData proof) before a b x y = one_no_data t before a b x y
     one_settled (Insecure cut) before a b x y = one_unsigned_from before a b x y
-    one_settled (Pending entries) before a b x y = absurd x
-    one_settled Bogus before a b x y = absurd x
-    one_settled Indeterminate before a b x y = absurd x
+    one_settled verdict before a b x y = absurd x
 
 -- ---- entries that have one number each
 
@@ -219,24 +207,16 @@ module _ (explained : Explained) (none : AreApart explained.todo) (t : ℕ) wher
   NeedsApart verdict = Unit {0}
 
   one_verdict_told : (name : Labels) (verdict : Verdict) → NeedsApart verdict → IsOne (IsVerdictTold explained name t verdict)
-  one_verdict_told name (SecureAnswer k s) apart before a b x y = one_settled (setting_in explained) none name t (SecureAnswer k s) before a b x y
-  one_verdict_told name (SecureAlias k s) apart before a b x y = one_settled (setting_in explained) none name t (SecureAlias k s) before a b x y
-  one_verdict_told name (SecureNoName proof) apart before a b x y = one_settled (setting_in explained) none name t (SecureNoName proof) before a b x y
-  one_verdict_told name (SecureNoData proof) apart before a b x y = one_settled (setting_in explained) none name t (SecureNoData proof) before a b x y
-  one_verdict_told name (Insecure cut) apart before a b x y = one_settled (setting_in explained) none name t (Insecure cut) before a b x y
   one_verdict_told name (Pending unknown) apart before a b x y = one_hope name unknown apart before a b x y
   one_verdict_told name Bogus apart before a b x y = one_held (setting_in explained) none name before a b x y
   one_verdict_told name Indeterminate apart before a b x y = one_held (setting_in explained) none name before a b x y
+  one_verdict_told name verdict apart before a b x y = one_settled (setting_in explained) none name t verdict before a b x y
 
   one_end_told : (verdict : Verdict) → IsOne (IsEndTold explained verdict)
-  one_end_told (SecureAnswer k s) before a b x y = one_end explained.rrsets explained.table.moment before a b x y
-  one_end_told (SecureAlias k s) before a b x y = one_end explained.rrsets explained.table.moment before a b x y
-  one_end_told (SecureNoName proof) before a b x y = one_end explained.rrsets explained.table.moment before a b x y
-  one_end_told (SecureNoData proof) before a b x y = one_end explained.rrsets explained.table.moment before a b x y
-  one_end_told (Insecure cut) before a b x y = one_end explained.rrsets explained.table.moment before a b x y
   one_end_told (Pending unknown) before a b x y = one_places_told explained.rrsets before a b x y
   one_end_told Bogus before a b x y = one_places_told explained.rrsets before a b x y
   one_end_told Indeterminate before a b x y = one_places_told explained.rrsets before a b x y
+  one_end_told verdict before a b x y = one_end explained.rrsets explained.table.moment before a b x y
 
   pub one_links : (links : List Link) → IsOne (AreEach (IsLinkTold (setting_in explained)) links)
   one_links links before a b x y =
@@ -263,25 +243,14 @@ module _ (explained : Explained) (none : AreApart explained.todo) (t : ℕ) wher
 
   one_explanation : (links : List Link) (last : Labels) (verdict : Verdict) → NeedsApart verdict → (a b : List Line)
       → IsExplanation explained t links last verdict a → IsExplanation explained t links last verdict b → a ≡ b
-  one_explanation links last (SecureAnswer k s) apart a b x y = one_holding links last (SecureAnswer k s) apart [] a b x y
-  one_explanation links last (SecureAlias k s) apart a b x y = one_holding links last (SecureAlias k s) apart [] a b x y
-  one_explanation links last (SecureNoName proof) apart a b x y = one_holding links last (SecureNoName proof) apart [] a b x y
-  one_explanation links last (SecureNoData proof) apart a b x y = one_holding links last (SecureNoData proof) apart [] a b x y
-  one_explanation links last (Insecure cut) apart a b x y = one_holding links last (Insecure cut) apart [] a b x y
-  one_explanation links last (Pending unknown) apart a b x y = one_holding links last (Pending unknown) apart [] a b x y
   one_explanation links last Bogus apart a b x y = one_failed links last Bogus apart [] a b x y
   one_explanation links last Indeterminate apart a b x y = one_failed links last Indeterminate apart [] a b x y
+  one_explanation links last verdict apart a b x y = one_holding links last verdict apart [] a b x y
 
 pub needs_apart : (explained : Explained) (none : AreApart explained.todo) (basis : Basis) (name : Labels) (t : ℕ) (verdict : Verdict)
     → IsVerdictAt basis name t verdict → NeedsApart explained none t verdict
-needs_apart explained none basis name t (SecureAnswer k s) is = tt
-needs_apart explained none basis name t (SecureAlias k s) is = tt
-needs_apart explained none basis name t (SecureNoName proof) is = tt
-needs_apart explained none basis name t (SecureNoData proof) is = tt
-needs_apart explained none basis name t (Insecure cut) is = tt
 needs_apart explained none basis name t (Pending unknown) is = rising_apart unknown is.2.rising
-needs_apart explained none basis name t Bogus is = tt
-needs_apart explained none basis name t Indeterminate is = tt
+needs_apart explained none basis name t verdict is = tt
 
 pub one_of_report : (basis : Basis) (name : Labels) (t : ℕ) (report : Report) (a b : List Line)
     → IsVerdictOf basis name t report.links report.last report.verdict → IsExplanationOf basis t report a → IsExplanationOf basis t report b → a ≡ b

@@ -1,5 +1,5 @@
 -- What is told of where a name may be unsigned stands wherever the signatures count that its lines call good.
-use Rattle.std.proofs.Common.{◌∙◌, ◌+◌, ◌≤◌, ℕ, List, ◌++◌, None, Some, inl, inr, length, sym, ap, subst}
+use Rattle.std.proofs.Common.{◌∙◌, ◌≤◌, ℕ, List, ◌++◌, None, inl, inr, length, sym, ap, subst}
 use Rattle.std.specs.List.{Contains}
 use Rattle.dnsv_names.specs.Name.{Labels, lower_case, rightmost}
 use Rattle.dnsv_zones.specs.forms.Parts.{OptsOut, OptsOutNextCloser}
@@ -7,7 +7,6 @@ use Rattle.dnsv_chain.specs.Trust.{KeptTrust, SecuredIn as KeptIn}
 use Rattle.dnsv_denial.specs.forms.Denials.{IsDelegationAt}
 use Rattle.dnsv_denial.specs.forms.ProofForms.{form_records}
 use Rattle.dnsv_denial.specs.forms.ShownUnsigned.{ShowsDelegation, ShowsOptOut}
-use Rattle.dnsv_denial.specs.gathering.Evidence.{IsSecuredBy}
 use Rattle.dnsv_denial.specs.proving.ShownDenials.{IsFirstShown}
 use Rattle.dnsv_denial.specs.unsigned_cuts.Cuts.{HasUnsignedCut, IsOptOutCut, IsUnsignedDelegationCut, IsUnusableDsCut}
 use Rattle.dnsv_denial.specs.unsigned_cuts.ShownCut.{IsShownCut}
@@ -17,60 +16,50 @@ use Rattle.dnsv_denial.specs.declared.proving.shown_denial.ShownDenial.{ShownDen
 use Rattle.dnsv_canonical.specs.declared.number.RecordNumber.{RecordNumber}
 use Rattle.dnsv_denial.specs.declared.unsigned_cuts.shown_cut.ShownCut.{ShownCut}
 use Rattle.dnsv_verdict.specs.Insecure.{IsUnsigned}
-use Rattle.dnsv_derivations.specs.Denials.{IsProofWithParts}
+use Rattle.dnsv_derivations.specs.Denials.{IsDenialTold}
 use Rattle.dnsv_derivations.specs.Explained.{Setting}
 use Rattle.dnsv_explain.specs.Explanation.{IsUnsignedFromTold, signature_of}
 use Rattle.dnsv_explain.specs.Explanation.IsUnsignedFromTold.{by_cut, by_wildcard}
 use Rattle.dnsv_derivations.specs.Following.{IsSignatureSaid}
 use Rattle.dnsv_derivations.specs.Saying.{AreBoth}
-use Rattle.dnsv_derivations.specs.derivations.OwnDerivations.{AreRecordsDerived, IsSignatureTold}
-use Rattle.dnsv_derivations.specs.unsigned_cuts.ShownCuts.{IsCutTold, IsUnsignedTold}
+use Rattle.dnsv_derivations.specs.derivations.OwnDerivations.{IsSignatureTold}
+use Rattle.dnsv_derivations.specs.unsigned_cuts.ShownCuts.{IsCutTold}
 use Rattle.dnsv_derivations.specs.unsigned_cuts.UnsignedCuts.{AreAllTold, IsCaseTold, IsUnusableTold}
 use Rattle.dnsv_lines.specs.declared.line.Line.{Line}
-use Rattle.dnsv_lines.specs.declared.line.cut.InsecureCase.{InsecureCase}
 use Rattle.dnsv_lines.specs.declared.line.cut.InsecureCase.TheVariants as case
 use Rattle.dnsv_derivations.proofs.lemmas.denials.PartLemmas.{zone_as}
 use Rattle.dnsv_derivations.proofs.lemmas.denials.ShownLemmas.{spelled}
 use Rattle.dnsv_derivations.proofs.lemmas.denials.StandingLemmas.{Counts, delegation_by, each_by, opt_out_by, opt_out_closer_by}
-use Rattle.dnsv_explain.proofs.lemmas.stands.ToldLemmas.{Lies, back, front, records_count, signature_counts}
+use Rattle.dnsv_explain.proofs.lemmas.stands.ToldLemmas.{Lies, back, denial_counts, front, signature_counts}
 
 module _ (setting : Setting) (T : ℕ → ℕ → Type 0) (all : List Line) (counts : (k s : ℕ) → IsSignatureSaid all (signature_of k s) → T k s)
     (name : Labels) where
   abbrev LiesIn : List Line → List Line → Type 0
   LiesIn before lines = Lies setting T all counts before lines
 
-  unsigned_counts : (shown : ShownDenial) (kind : InsecureCase) (at : Labels) (before lines : List Line) → LiesIn before lines
-      → IsUnsignedTold setting name shown kind at before lines
-      → (number : RecordNumber) → Contains shown.proof.records number → IsSecuredBy T setting.rrsets shown.proof.zone number.rrset
-  unsigned_counts shown kind at before lines lies told =
-      records_count setting T all counts before told.first
-      (front setting T all counts (AreRecordsDerived setting shown.proof.zone shown.proof.records)
-      (AreBoth (IsCaseTold kind at (Some shown.proof.zone)) (IsProofWithParts setting.rrsets name shown)) before lines told lies)
-      shown.proof.zone shown.proof.records told.says_first
-
-  delegation_stands : (S : ℕ → ℕ → Type 0) (labels : ℕ) (shown : ShownDenial) (kind : InsecureCase) (at : Labels) (before lines : List Line) → LiesIn before lines
+  delegation_stands : (S : ℕ → ℕ → Type 0) (labels : ℕ) (shown : ShownDenial) (before lines : List Line) → LiesIn before lines
       → IsFirstShown S setting.rrsets name (λ said zone. IsDelegationAt said zone name labels) (λ said zone. ShowsDelegation number_cmp said zone name labels) shown
-      → IsUnsignedTold setting name shown kind at before lines → IsUnsignedDelegationCut T setting.rrsets name labels
-  delegation_stands S labels shown kind at before lines lies is told =
+      → IsDenialTold setting name shown before lines → IsUnsignedDelegationCut T setting.rrsets name labels
+  delegation_stands S labels shown before lines lies is told =
       let zone = shown.proof.zone in
       let form : IsDelegationAt (evidence_said T setting.rrsets zone is.chain) zone name labels =
       delegation_by S T setting.rrsets zone name is.chain labels shown.form
       (each_by (Counts S T setting.rrsets zone name) (form_records shown.form)
-      (λ number there. unsigned_counts shown kind at before lines lies told number ((is.records.members number).1 there)))
+      (λ number there. denial_counts setting T all counts name shown before lines lies told number ((is.records.members number).1 there)))
       is.shows in
       let Stands : Labels → Type 0 = λ each. IsDelegationAt (evidence_said T setting.rrsets each is.chain) each name labels in
       let whole : Stands (rightmost name is.labels) = subst Stands is.zone form in
       (whole.fits, is.labels, is.at_or_above, is.chain, whole.form)
 
-  opt_out_stands : (S : ℕ → ℕ → Type 0) (labels : ℕ) (shown : ShownDenial) (kind : InsecureCase) (at : Labels) (before lines : List Line) → LiesIn before lines
+  opt_out_stands : (S : ℕ → ℕ → Type 0) (labels : ℕ) (shown : ShownDenial) (before lines : List Line) → LiesIn before lines
       → IsFirstShown S setting.rrsets name (λ said zone. OptsOut said zone name labels) (λ said zone. ShowsOptOut number_cmp said zone name labels) shown
-      → IsUnsignedTold setting name shown kind at before lines → IsOptOutCut T setting.rrsets name labels
-  opt_out_stands S labels shown kind at before lines lies is told =
+      → IsDenialTold setting name shown before lines → IsOptOutCut T setting.rrsets name labels
+  opt_out_stands S labels shown before lines lies is told =
       let zone = shown.proof.zone in
       let form : OptsOut (evidence_said T setting.rrsets zone is.chain) zone name labels =
       opt_out_by S T setting.rrsets zone name is.chain labels shown.form
       (each_by (Counts S T setting.rrsets zone name) (form_records shown.form)
-      (λ number there. unsigned_counts shown kind at before lines lies told number ((is.records.members number).1 there)))
+      (λ number there. denial_counts setting T all counts name shown before lines lies told number ((is.records.members number).1 there)))
       is.shows in
       let Stands : Labels → Type 0 = λ each. OptsOut (evidence_said T setting.rrsets each is.chain) each name labels in
       (is.labels, is.at_or_above, is.chain, subst Stands is.zone form)
@@ -98,11 +87,11 @@ module _ (setting : Setting) (T : ℕ → ℕ → Type 0) (all : List Line) (cou
   cut_stands : (trust : KeptTrust) (cut : ShownCut) (before lines : List Line) → LiesIn before lines
       → IsShownCut (KeptIn trust) setting.rrsets name cut → IsCutTold setting name cut before lines → HasUnsignedCut T setting.rrsets name
   cut_stands trust _ before lines lies (no_ds labels shown few is) told =
-      (labels, inl (delegation_stands (KeptIn trust) labels shown case.UnsignedDelegation (rightmost name labels) before lines lies is told))
+      (labels, inl (delegation_stands (KeptIn trust) labels shown before lines lies is told))
   cut_stands trust _ before lines lies (no_usable_ds labels none few) told =
       (labels, inr (inl (unusable_stands labels few.holds.at_or_above before lines lies told)))
   cut_stands trust _ before lines lies (opt_out labels shown none usable most is) told =
-      (labels, inr (inr (opt_out_stands (KeptIn trust) labels shown case.OptOut (rightmost name (labels + 1)) before lines lies is told)))
+      (labels, inr (inr (opt_out_stands (KeptIn trust) labels shown before lines lies is told)))
 
   -- a name that may be unsigned may be so
   pub unsigned_stands : (t : ℕ) (before lines : List Line) → LiesIn before lines → IsUnsignedFromTold setting name t before lines
@@ -111,8 +100,7 @@ module _ (setting : Setting) (T : ℕ → ℕ → Type 0) (all : List Line) (cou
   unsigned_stands t before lines lies (by_wildcard trust good none k s first shown is told) =
       let such = first.such in
       let First : List Line → List Line → Type 0 = IsSignatureTold setting (signature_of k s) in
-      let Second : List Line → List Line → Type 0 =
-      IsUnsignedTold setting name shown case.OptOutWildcard (rightmost name (such.rrsig.labels + 1)) in
+      let Second : List Line → List Line → Type 0 = IsDenialTold setting name shown in
       let zone = such.rrsig.signer in
       let later = back setting T all counts First Second before lines told lies in
       let above = such.such.1.1.above in
@@ -123,7 +111,7 @@ module _ (setting : Setting) (T : ℕ → ℕ → Type 0) (all : List Line) (cou
       (each_by (Counts (KeptIn trust) T setting.rrsets zone name) (form_records shown.form)
       (λ number there.
       zone_as T setting.rrsets shown.proof.zone zone number.rrset same
-      (unsigned_counts shown case.OptOutWildcard (rightmost name (such.rrsig.labels + 1)) (before ++ told.first) told.second later told.says_second number
+      (denial_counts setting T all counts name shown (before ++ told.first) told.second later told.says_second number
       (subst (Among number) (sym is.records) there))))
       is.shows in
       inr (

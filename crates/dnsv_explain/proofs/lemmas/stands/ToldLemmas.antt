@@ -72,7 +72,7 @@ module _ (setting : Setting) (T : ℕ → ℕ → Type 0) (all : List Line) (cou
         (records_said setting zone records before lines derived) there)
 
   module _ (name : Labels) where
-    denial_counts : (shown : ShownDenial) (before lines : List Line) → Lies before lines → IsDenialTold setting name shown before lines
+    pub denial_counts : (shown : ShownDenial) (before lines : List Line) → Lies before lines → IsDenialTold setting name shown before lines
         → (number : RecordNumber) → Contains shown.proof.records number → IsSecuredBy T setting.rrsets shown.proof.zone number.rrset
     denial_counts shown before lines lies told =
         records_count before told.first

@@ -21,7 +21,7 @@ use Rattle.dnsv_verdict.specs.declared.verdict.Verdict.{Verdict}
 use Rattle.dnsv_verdict.specs.declared.verdict.Verdict.TheVariants.{SecureAnswer, SecureAlias, SecureNoName, SecureNoData, Insecure, Pending, Bogus, Indeterminate}
 use Rattle.dnsv_derivations.specs.Explained.{Explained, Setting, setting_in}
 use Rattle.dnsv_explain.specs.Explained.{basis_in}
-use Rattle.dnsv_explain.specs.Explanation.{IsEndTold, IsExplanation, IsHoldingTold, IsLinkTold, IsSettledTold, IsVerdictTold, IsWayTold, its_setting, signature_of}
+use Rattle.dnsv_explain.specs.Explanation.{IsEndTold, IsExplanation, IsHoldingTold, IsLinkTold, IsSettledTold, IsVerdictTold, IsWayTold, signature_of}
 use Rattle.dnsv_derivations.specs.Following.{EachFollows, IsSignatureSaid, at_moment}
 use Rattle.dnsv_derivations.specs.Saying.{AreEach}
 use Rattle.dnsv_derivations.specs.derivations.OwnDerivations.{SecuredIn}
@@ -29,6 +29,8 @@ use Rattle.dnsv_derivations.specs.intervals.Holding.{AreShownValidAt}
 use Rattle.dnsv_lines.specs.declared.line.Line.{Line}
 use Rattle.dnsv_explain.proofs.lemmas.telling.ExplanationLemmas.{holding_follows}
 use Rattle.dnsv_explain.proofs.lemmas.telling.FollowingLemmas.{all_true, no_lines, said_secured}
+use Rattle.dnsv_explain.proofs.lemmas.telling.SecureLemmas.{settled_as}
+use Rattle.dnsv_explain.proofs.lemmas.telling.WholeLemmas.{in_setting}
 use Rattle.dnsv_derivations.proofs.lemmas.intervals.MomentLemmas.{first_or_behind, follow_at}
 use Rattle.dnsv_explain.proofs.lemmas.stands.CutLemmas.{unsigned_stands}
 use Rattle.dnsv_explain.proofs.lemmas.stands.ToldLemmas.{Lies, back, front, no_data_stands, no_name_stands, set_stands}
@@ -44,9 +46,7 @@ module _ (setting : Setting) (T : ℕ → ℕ → Type 0) (all : List Line) (cou
   case_stands name t (SecureNoName proof) before lines lies is told = no_name_stands setting T all counts name before lines lies told
   case_stands name t (SecureNoData proof) before lines lies is told = no_data_stands setting T all counts name t before lines lies told
   case_stands name t (Insecure cut) before lines lies is told = unsigned_stands setting T all counts name t before lines lies told
-  case_stands name t (Pending entries) before lines lies is told = absurd is
-  case_stands name t Bogus before lines lies is told = absurd is
-  case_stands name t Indeterminate before lines lies is told = absurd is
+  case_stands name t verdict before lines lies is told = absurd is
 
   -- the alias of a link
   pub link_stands : (t : ℕ) (links : List Link) (before lines : List Line) → Lies setting T all counts before lines
@@ -68,7 +68,7 @@ module _ (setting : Setting) (T : ℕ → ℕ → Type 0) (all : List Line) (cou
 -- ---- the links of a way
 
 -- each is the secure alias of its name
-links_secure : (explained : Explained) (t : ℕ) (name : Labels) (links : List Link) (last : Labels) → LeadTo (basis_in explained) t name links last
+pub links_secure : (explained : Explained) (t : ℕ) (name : Labels) (links : List Link) (last : Labels) → LeadTo (basis_in explained) t name links last
     → (link : Link) → Contains links link → IsSettledAsBy (basis_in explained) link.name t (SecureAlias link.rrset link.signature)
 links_secure explained t name [] last leads link there = absurd (omega (arith, there.1))
 links_secure explained t name (first ∷ links) last leads link there = ⊎_elim
@@ -82,14 +82,10 @@ links_secure explained t name (first ∷ links) last leads link there = ⊎_elim
 -- of a verdict that needs no more answers the explanation is what holds
 pub settled_holding : (explained : Explained) (t : ℕ) (links : List Link) (last : Labels) (verdict : Verdict) (lines : List Line)
     → IsSettledVerdict verdict → IsExplanation explained t links last verdict lines → IsHoldingTold explained t links last verdict [] lines
-settled_holding explained t links last (SecureAnswer k s) lines settled is = is
-settled_holding explained t links last (SecureAlias k s) lines settled is = is
-settled_holding explained t links last (SecureNoName proof) lines settled is = is
-settled_holding explained t links last (SecureNoData proof) lines settled is = is
-settled_holding explained t links last (Insecure cut) lines settled is = is
 settled_holding explained t links last (Pending unknown) lines settled is = absurd settled
 settled_holding explained t links last Bogus lines settled is = absurd settled
 settled_holding explained t links last Indeterminate lines settled is = absurd settled
+settled_holding explained t links last verdict lines settled is = is
 
 -- ---- another moment
 
@@ -105,20 +101,10 @@ module _ (keeps : KeepsTrust) (explained : Explained) (t : ℕ) (links : List Li
     (moment : ℕ) (better : Entry → Answer) (settled : IsSettledVerdict verdict) (is : IsHoldingTold explained t links last verdict [] lines)
     (valid : AreShownValidAt explained.rrsets lines moment)
     (answers : (entry : Entry) → table_answer explained.table entry ≡ Valid → better entry ≡ Valid) where
-  in_setting : (each : Verdict) → IsSettledVerdict each → EachFollows (its_setting explained each) [] lines → EachFollows (setting_in explained) [] lines
-  in_setting (SecureAnswer k s) needs follows = follows
-  in_setting (SecureAlias k s) needs follows = follows
-  in_setting (SecureNoName proof) needs follows = follows
-  in_setting (SecureNoData proof) needs follows = follows
-  in_setting (Insecure cut) needs follows = follows
-  in_setting (Pending unknown) needs follows = absurd needs
-  in_setting Bogus needs follows = absurd needs
-  in_setting Indeterminate needs follows = absurd needs
-
   then_follow : EachFollows (at_moment (setting_in explained) moment) [] lines
   then_follow =
       follow_at (setting_in explained) moment [] lines valid
-      (in_setting verdict settled (holding_follows explained t links last verdict [] lines is))
+      (in_setting explained verdict lines settled (holding_follows explained t links last verdict [] lines is))
 
   abbrev Then : ℕ → ℕ → Type 0
   Then = IsSecured better moment explained.rrsets explained.anchors
@@ -145,24 +131,10 @@ module _ (keeps : KeepsTrust) (explained : Explained) (t : ℕ) (links : List Li
 
   as_settled : (each : Verdict) (before more : List Line) → IsSettledVerdict each → IsVerdictTold explained last t each before more
       → IsSettledTold (setting_in explained) last t each before more
-  as_settled (SecureAnswer k s) before more needs told = told
-  as_settled (SecureAlias k s) before more needs told = told
-  as_settled (SecureNoName proof) before more needs told = told
-  as_settled (SecureNoData proof) before more needs told = told
-  as_settled (Insecure cut) before more needs told = told
   as_settled (Pending unknown) before more needs told = absurd needs
   as_settled Bogus before more needs told = absurd needs
   as_settled Indeterminate before more needs told = absurd needs
-
-  settled_as : (each : Verdict) → IsSettledVerdict each → IsVerdictAt (basis_in explained) last t each → IsSettledAsBy (basis_in explained) last t each
-  settled_as (SecureAnswer k s) needs at = at
-  settled_as (SecureAlias k s) needs at = at
-  settled_as (SecureNoName proof) needs at = at
-  settled_as (SecureNoData proof) needs at = at
-  settled_as (Insecure cut) needs at = at
-  settled_as (Pending unknown) needs at = absurd needs
-  settled_as Bogus needs at = absurd needs
-  settled_as Indeterminate needs at = absurd needs
+  as_settled verdict before more needs told = told
 
   pub last_no_worse : (other : Verdict) → IsVerdictAt (basis_in explained) last t verdict
       → IsVerdictAt (basis_of explained.rrsets explained.anchors moment better) last t other → case_of other ≤ case_of verdict
@@ -170,7 +142,7 @@ module _ (keeps : KeepsTrust) (explained : Explained) (t : ℕ) (links : List Li
       no_later (basis_of explained.rrsets explained.anchors moment better) last t verdict other
       (case_stands (setting_in explained) Then lines counted last t verdict is.says_first.first is.says_first.second
       (back (setting_in explained) Then lines counted Links (IsVerdictTold explained last t verdict) [] is.first is.says_first way)
-      (settled_as verdict settled at)
+      (settled_as explained last t (basis_in explained) verdict settled at)
       (as_settled verdict is.says_first.first is.says_first.second settled is.says_first.says_second))
       later
 

@@ -10,7 +10,7 @@ use Rattle.dnsv_verdict.specs.Way.{IsStoppedAt}
 use Rattle.dnsv_verdict.specs.declared.error.VerdictError.{VerdictError}
 use Rattle.dnsv_verdict.specs.declared.link.Link.{Link}
 use Rattle.dnsv_verdict.specs.declared.verdict.Verdict.{Verdict}
-use Rattle.dnsv_verdict.specs.declared.verdict.Verdict.TheVariants.{SecureAnswer, SecureAlias, SecureNoName, SecureNoData, Insecure, Pending, Bogus, Indeterminate}
+use Rattle.dnsv_verdict.specs.declared.verdict.Verdict.TheVariants.{Bogus, Indeterminate}
 use Rattle.dnsv_derivations.specs.Explained.{Explained, setting_in}
 use Rattle.dnsv_derivations.specs.Saying.{Adds, AreEach}
 use Rattle.dnsv_explain.specs.Derived.{AreLinksDerived, AreLinksTold, IsDerivationOf, IsDerivationTold, IsRefusalDerived}
@@ -20,7 +20,7 @@ use Rattle.dnsv_lines.specs.declared.line.Line.{Line}
 use Rattle.dnsv_derivations.proofs.lemmas.SayingLemmas.{all_added, both_added, next_added}
 
 -- behind no lines
-said_first : (Says : List Line → List Line → Type 0) (old new : List Line) → old ≡ [] → Adds Says old new → Says [] new
+pub said_first : (Says : List Line → List Line → Type 0) (old new : List Line) → old ≡ [] → Adds Says old new → Says [] new
 said_first Says old new empty added =
     let all : new ≡ added.more = added.is ∙ ap (λ front. front ++ added.more) empty in
     subst (λ each. Says [] each) (sym all) (subst (λ each. Says each added.more) empty added.says)
@@ -30,25 +30,15 @@ said_first Says old new empty added =
 module _ (explained : Explained) (t : ℕ) (links : List Link) (last : Labels) where
   links_alone : (verdict : Verdict) → IsUnproved verdict → (lines : List Line) → AreLinksTold explained links lines
       → IsDerivationTold explained t links last verdict lines
-  links_alone (SecureAnswer k s) unproved lines told = absurd unproved
-  links_alone (SecureAlias k s) unproved lines told = absurd unproved
-  links_alone (SecureNoName proof) unproved lines told = absurd unproved
-  links_alone (SecureNoData proof) unproved lines told = absurd unproved
-  links_alone (Insecure cut) unproved lines told = absurd unproved
-  links_alone (Pending unknown) unproved lines told = absurd unproved
   links_alone Bogus unproved lines told = told
   links_alone Indeterminate unproved lines told = told
+  links_alone verdict unproved lines told = absurd unproved
 
   whole_way : (verdict : Verdict) → ¬ IsUnproved verdict → (lines : List Line) → IsWayTold explained t links last verdict [] lines
       → IsDerivationTold explained t links last verdict lines
-  whole_way (SecureAnswer k s) proved lines told = told
-  whole_way (SecureAlias k s) proved lines told = told
-  whole_way (SecureNoName proof) proved lines told = told
-  whole_way (SecureNoData proof) proved lines told = told
-  whole_way (Insecure cut) proved lines told = told
-  whole_way (Pending unknown) proved lines told = told
   whole_way Bogus proved lines told = absurd (proved tt)
   whole_way Indeterminate proved lines told = absurd (proved tt)
+  whole_way verdict proved lines told = told
 
 module _ (explained : Explained) (case : CaseContents) (same : explained ≡ explained_by case []) (t : ℕ) (links : List Link)
     (last : Labels) (verdict : Verdict) (old new : List Line) (empty : old ≡ []) where

@@ -1,13 +1,13 @@
 -- Each line of an explanation follows from those before it.
 use Rattle.std.proofs.Common.{◌≡◌, ◌+◌, ◌∙◌, ℕ, List, [], ◌∷◌, ◌++◌, append_assoc, ap, map, refl, sym, subst}
 use Rattle.std.specs.List.{Contains}
-use Rattle.dnsv_names.specs.Name.{Labels, rightmost}
+use Rattle.dnsv_names.specs.Name.{Labels}
 use Rattle.dnsv_canonical.specs.Rrsets.{ReceivedRrset}
 use Rattle.dnsv_verifier.specs.declared.entry.Entry.{Entry}
 use Rattle.dnsv_verdict.specs.declared.link.Link.{Link}
 use Rattle.dnsv_verdict.specs.declared.verdict.Verdict.{Verdict}
 use Rattle.dnsv_verdict.specs.declared.verdict.Verdict.TheVariants.{SecureAnswer, SecureAlias, SecureNoName, SecureNoData, Insecure, Pending, Bogus, Indeterminate}
-use Rattle.dnsv_derivations.specs.Denials.IsShownBy.{no_name, no_data, no_closer}
+use Rattle.dnsv_derivations.specs.Denials.IsShownBy.{no_name, no_data, no_closer, closer_opted_out}
 use Rattle.dnsv_derivations.specs.Explained.{Explained, Setting, setting_in}
 use Rattle.dnsv_explain.specs.Explained.{hoped}
 use Rattle.dnsv_explain.specs.Explanation.{IsEnd, IsEndTold, IsExplanation, IsFailureTold, IsHoldingTold, IsHopeTold, IsLinkTold, IsSetTold, IsSettledTold, IsUnsignedFromTold, IsVerdictTold, IsWayTold, its_setting, signature_of}
@@ -18,17 +18,15 @@ use Rattle.dnsv_derivations.specs.Places.{ArePlacesOf, ArePlacesTold}
 use Rattle.dnsv_derivations.specs.Saying.{Adds, AreBoth, AreEach}
 use Rattle.dnsv_derivations.specs.derivations.Derivations.Subject.{signature}
 use Rattle.dnsv_derivations.specs.intervals.Holding.{AreShownValidAt, IsHoldingOf}
-use Rattle.dnsv_derivations.specs.unsigned_cuts.ShownCuts.IsShownUnsigned.{closer_opted_out}
 use Rattle.dnsv_lines.specs.declared.line.interval.Interval.{Interval}
 use Rattle.dnsv_lines.specs.declared.line.Line.{Line}
 use Rattle.dnsv_lines.specs.declared.line.Line.TheVariants as line
-use Rattle.dnsv_lines.specs.declared.line.cut.InsecureCase.TheVariants as case
 use Rattle.dnsv_canonical.specs.declared.number.SignatureNumber.{SignatureNumber}
 use Rattle.dnsv_lines.specs.declared.line.place.RrsetPlace.{RrsetPlace}
 use Rattle.dnsv_explain.proofs.lemmas.telling.QuietLemmas.{failure_follows}
 use Rattle.dnsv_derivations.proofs.lemmas.derivations.HeldLemmas.{held_follows}
 use Rattle.dnsv_explain.proofs.lemmas.marks.HopeLemmas.{still_follow}
-use Rattle.dnsv_derivations.proofs.lemmas.denials.FollowLemmas.{behind, both_follow, denial_follows, each_follow, expanded_follows, first_of, unsigned_follows}
+use Rattle.dnsv_derivations.proofs.lemmas.denials.FollowLemmas.{behind, both_follow, denial_follows, each_follow, expanded_follows, first_of}
 use Rattle.dnsv_derivations.proofs.lemmas.derivations.DerivationLemmas.{derivation_follows}
 use Rattle.dnsv_derivations.proofs.lemmas.unsigned_cuts.CutFollowLemmas.{cut_follows}
 
@@ -53,11 +51,8 @@ module _ (setting : Setting) where
       → EachFollows setting before lines
   unsigned_from_follows name t before lines (by_cut shown is told) = cut_follows setting name shown before lines is told
   unsigned_from_follows name t before lines (by_open_wildcard trust good none k s first shown is told) =
-      let labels = first.such.rrsig.labels in
-      both_follow setting _ _ before lines told
-      (derivation_follows setting before (signature (signature_of k s)) told.first told.says_first)
-      (unsigned_follows setting name shown case.OptOutWildcard (rightmost name (labels + 1)) (before ++ told.first) told.second
-      (closer_opted_out trust good labels first.such.rrsig.signer is) told.says_second)
+      expanded_follows setting name (signature_of k s) shown before lines
+      (trust, good, closer_opted_out first.such.rrsig.labels first.such.rrsig.signer is) told
 
   settled_follows : (name : Labels) (t : ℕ) (verdict : Verdict) (before lines : List Line)
       → IsSettledTold setting name t verdict before lines → EachFollows setting before lines
@@ -68,9 +63,7 @@ module _ (setting : Setting) where
   settled_follows name t (SecureNoData proof) before lines told =
       denial_follows setting name told.shown before lines (told.trust, told.good, no_data t told.is) told.told
   settled_follows name t (Insecure cut) before lines told = unsigned_from_follows name t before lines told
-  settled_follows name t (Pending unknown) before lines told = absurd told
-  settled_follows name t Bogus before lines told = absurd told
-  settled_follows name t Indeterminate before lines told = absurd told
+  settled_follows name t verdict before lines told = absurd told
 
   places_follow : (places : List RrsetPlace) → ((place : RrsetPlace) → Contains places place → IsPlaceOf setting.rrsets place)
       → (before : List Line) → EachFollows setting before (map (λ place. line.Rrset place) places)
@@ -103,26 +96,16 @@ module _ (explained : Explained) where
 
   verdict_follows : (name : Labels) (t : ℕ) (verdict : Verdict) (before lines : List Line)
       → IsVerdictTold explained name t verdict before lines → EachFollows (its_setting explained verdict) before lines
-  verdict_follows name t (SecureAnswer k s) before lines told = settled_follows (setting_in explained) name t (SecureAnswer k s) before lines told
-  verdict_follows name t (SecureAlias k s) before lines told = settled_follows (setting_in explained) name t (SecureAlias k s) before lines told
-  verdict_follows name t (SecureNoName proof) before lines told = settled_follows (setting_in explained) name t (SecureNoName proof) before lines told
-  verdict_follows name t (SecureNoData proof) before lines told = settled_follows (setting_in explained) name t (SecureNoData proof) before lines told
-  verdict_follows name t (Insecure cut) before lines told = settled_follows (setting_in explained) name t (Insecure cut) before lines told
   verdict_follows name t (Pending unknown) before lines told = hope_follows name t unknown before lines told
   verdict_follows name t Bogus before lines told = held_follows (setting_in explained) name before lines told
   verdict_follows name t Indeterminate before lines told = held_follows (setting_in explained) name before lines told
+  verdict_follows name t verdict before lines told = settled_follows (setting_in explained) name t verdict before lines told
 
   -- what follows, follows under hope too
   in_its_setting : (verdict : Verdict) (before lines : List Line) → EachFollows (setting_in explained) before lines
       → EachFollows (its_setting explained verdict) before lines
-  in_its_setting (SecureAnswer k s) before lines follows = follows
-  in_its_setting (SecureAlias k s) before lines follows = follows
-  in_its_setting (SecureNoName proof) before lines follows = follows
-  in_its_setting (SecureNoData proof) before lines follows = follows
-  in_its_setting (Insecure cut) before lines follows = follows
   in_its_setting (Pending unknown) before lines follows = still_follow explained unknown before lines follows
-  in_its_setting Bogus before lines follows = follows
-  in_its_setting Indeterminate before lines follows = follows
+  in_its_setting verdict before lines follows = follows
 
   pub way_follows : (t : ℕ) (links : List Link) (last : Labels) (verdict : Verdict) (before lines : List Line)
       → IsWayTold explained t links last verdict before lines → EachFollows (its_setting explained verdict) before lines
@@ -133,14 +116,10 @@ module _ (explained : Explained) where
 
   last_follows : (verdict : Verdict) (told lines : List Line) → IsEndTold explained verdict told lines
       → EachFollows (its_setting explained verdict) told lines
-  last_follows (SecureAnswer k s) told lines is = end_follows (setting_in explained) told lines is
-  last_follows (SecureAlias k s) told lines is = end_follows (setting_in explained) told lines is
-  last_follows (SecureNoName proof) told lines is = end_follows (setting_in explained) told lines is
-  last_follows (SecureNoData proof) told lines is = end_follows (setting_in explained) told lines is
-  last_follows (Insecure cut) told lines is = end_follows (setting_in explained) told lines is
   last_follows (Pending unknown) told lines is = told_places_follow (setting_in (hoped explained unknown)) told lines is
   last_follows Bogus told lines is = told_places_follow (setting_in explained) told lines is
   last_follows Indeterminate told lines is = told_places_follow (setting_in explained) told lines is
+  last_follows verdict told lines is = end_follows (setting_in explained) told lines is
 
   pub holding_follows : (t : ℕ) (links : List Link) (last : Labels) (verdict : Verdict) (before lines : List Line)
       → IsHoldingTold explained t links last verdict before lines → EachFollows (its_setting explained verdict) before lines
@@ -157,14 +136,9 @@ module _ (explained : Explained) where
 
   pub explanation_follows : (t : ℕ) (links : List Link) (last : Labels) (verdict : Verdict) (lines : List Line)
       → IsExplanation explained t links last verdict lines → EachFollows (its_setting explained verdict) [] lines
-  explanation_follows t links last (SecureAnswer k s) lines is = holding_follows t links last (SecureAnswer k s) [] lines is
-  explanation_follows t links last (SecureAlias k s) lines is = holding_follows t links last (SecureAlias k s) [] lines is
-  explanation_follows t links last (SecureNoName proof) lines is = holding_follows t links last (SecureNoName proof) [] lines is
-  explanation_follows t links last (SecureNoData proof) lines is = holding_follows t links last (SecureNoData proof) [] lines is
-  explanation_follows t links last (Insecure cut) lines is = holding_follows t links last (Insecure cut) [] lines is
-  explanation_follows t links last (Pending unknown) lines is = holding_follows t links last (Pending unknown) [] lines is
   explanation_follows t links last Bogus lines is = failed_follows t links last Bogus lines is
   explanation_follows t links last Indeterminate lines is = failed_follows t links last Indeterminate lines is
+  explanation_follows t links last verdict lines is = holding_follows t links last verdict [] lines is
 
 -- ---- the last lines
 

@@ -1,5 +1,5 @@
 -- What fails is told by reasons, and by signers that aren't trusted.
-use Rattle.std.proofs.Common.{◌≡◌, ℕ, inl, inr, List, [], ◌∷◌, sym, subst}
+use Rattle.std.proofs.Common.{◌≡◌, inl, inr, List, [], ◌∷◌, sym, subst}
 use Rattle.std.specs.List.{AllByRecursion}
 use Rattle.dnsv_gaps.specs.Asking.{Asking}
 use Rattle.dnsv_lines.specs.declared.line.Line.{Line}
@@ -22,24 +22,15 @@ module _ (a : Asking) where
   is_fault said one is fault = subst IsFault (sym is) fault
 
   trust_fault : (fault : Told) (said : Line) → IsTrustLine a fault said → IsFault said
-  trust_fault (told.Zone why n) said is = is_fault said _ is.2 tt
-  trust_fault (told.Entry why number) said is = is_fault said _ is.2 tt
   trust_fault (told.NotSelfSigned number) said is = is_fault said _ is.4 tt
-  trust_fault (told.NotVouched k) said is = is_fault said _ is.2 tt
-  trust_fault (told.Unsigned k) said is = is_fault said _ is.2 tt
-  trust_fault (told.Signature why number) said is = is_fault said _ is.2 tt
-  trust_fault (told.Follows number) said is = is_fault said _ is.2 tt
+  trust_fault other said is = is_fault said _ is.2 tt
 
   said_fault : (fault : Said) (said : Line) → IsSaidLine a fault said → IsFault said
   said_fault (told_of.Trust fault) said is = trust_fault fault said is
   said_fault (told_of.NoCloser number n) said is = is_fault said _ is.4 tt
-  said_fault (told_of.Dname above) said is = is_fault said _ is.2 tt
-  said_fault (told_of.DnameHeld n number) said is = is_fault said _ is.2 tt
-  said_fault (told_of.Nsec3 why number) said is = is_fault said _ is.2 tt
   said_fault (told_of.Source why number asked) said is = is_fault said _ is.4 tt
-  said_fault (told_of.AnswerMissing n) said is = is_fault said _ is.2 tt
-  said_fault (told_of.DenialUnproved n) said is = is_fault said _ is.2 tt
   said_fault (told_of.DsUnproved cut) said is = is_fault said _ is.4 tt
+  said_fault other said is = is_fault said _ is.2 tt
 
   all_faults : (faults : List Said) (lines : List Line) → AreSaidLines a faults lines → AllByRecursion IsFault lines
   all_faults [] lines are = subst (AllByRecursion IsFault) (sym are) tt

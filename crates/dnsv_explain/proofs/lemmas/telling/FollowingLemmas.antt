@@ -155,12 +155,7 @@ module _ (setting : Setting) where
       case_too (λ k s. IsSignatureSaid before (record { rrset = k; signature = s })) Secured (said_secured before all) (IsSaidSigned before)
       (HasSecured setting) (secured_said before all) setting.rrsets cut.case cut.name cut.zone follows
   true_line before all (line.Unusable ds) follows = (follows.0, secured_said before all ds.number.rrset follows.1)
-  true_line before all (line.Hope kind) follows = tt
-  true_line before all (line.Holds interval) follows = tt
-  true_line before all (line.Reason reason) follows = tt
-  true_line before all (line.Follows untrusted) follows = tt
-  true_line before all (line.Key key) follows = tt
-  true_line before all (line.Rrset place) follows = tt
+  true_line before all each follows = tt
 
   more_true : (before : List Line) (each : Line) → AreTrue before → IsTrue each → AreTrue (before ++ each ∷ [])
   more_true before each all one = λ other there.

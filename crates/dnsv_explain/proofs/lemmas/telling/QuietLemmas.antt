@@ -24,15 +24,7 @@ quiet_follows : (setting : Setting) (before : List Line) (each : Line) → IsQui
 quiet_follows setting before (line.Reason reason) quiet = tt
 quiet_follows setting before (line.Follows untrusted) quiet = tt
 quiet_follows setting before (line.Key key) quiet = tt
-quiet_follows setting before (line.Trusted keys) quiet = absurd quiet
-quiet_follows setting before (line.Signed signed) quiet = absurd quiet
-quiet_follows setting before (line.Proof proof) quiet = absurd quiet
-quiet_follows setting before (line.Part part) quiet = absurd quiet
-quiet_follows setting before (line.Case cut) quiet = absurd quiet
-quiet_follows setting before (line.Unusable ds) quiet = absurd quiet
-quiet_follows setting before (line.Hope kind) quiet = absurd quiet
-quiet_follows setting before (line.Holds interval) quiet = absurd quiet
-quiet_follows setting before (line.Rrset place) quiet = absurd quiet
+quiet_follows setting before each quiet = absurd quiet
 
 all_follow : (setting : Setting) (before lines : List Line) → AllByRecursion IsQuiet lines → EachFollows setting before lines
 all_follow setting before [] quiet = tt
@@ -48,16 +40,7 @@ both_quiet (each ∷ a) b x y = (x.0, both_quiet a b x.1 y)
 fault_quiet : (each : Line) → IsFault each → IsQuiet each
 fault_quiet (line.Reason reason) fault = tt
 fault_quiet (line.Follows untrusted) fault = tt
-fault_quiet (line.Key key) fault = absurd fault
-fault_quiet (line.Trusted keys) fault = absurd fault
-fault_quiet (line.Signed signed) fault = absurd fault
-fault_quiet (line.Proof proof) fault = absurd fault
-fault_quiet (line.Part part) fault = absurd fault
-fault_quiet (line.Case cut) fault = absurd fault
-fault_quiet (line.Unusable ds) fault = absurd fault
-fault_quiet (line.Hope kind) fault = absurd fault
-fault_quiet (line.Holds interval) fault = absurd fault
-fault_quiet (line.Rrset place) fault = absurd fault
+fault_quiet each fault = absurd fault
 
 faults_quiet : (lines : List Line) → AllByRecursion IsFault lines → AllByRecursion IsQuiet lines
 faults_quiet [] faults = tt

@@ -1,5 +1,5 @@
 -- What is secure has its lines: nothing is missing that a verdict says is there.
-use Rattle.std.proofs.Common.{◌≡◌, ◌<◌, ℕ, zero, suc, List, [], ◌∷◌, Option, Some, None, arith, get_or, length, refl, sym, subst, inl, inr, ⊎_elim, Bool, true, false}
+use Rattle.std.proofs.Common.{◌≡◌, ◌<◌, ℕ, zero, suc, List, [], ◌∷◌, Option, Some, None, arith, get_or, length, sym, subst, inl, inr, ⊎_elim, Bool, true, false}
 use Rattle.std.specs.List.{AllZip}
 use Rattle.std.specs.Prelude.{◌↔◌, is_some}
 use Rattle.dnsv_names.specs.Name.{Labels}
@@ -21,12 +21,11 @@ use Rattle.dnsv_verdict.specs.Way.{LeadTo}
 use Rattle.dnsv_verdict.specs.Case.{CaseContents}
 use Rattle.dnsv_verdict.specs.declared.link.Link.{Link}
 use Rattle.dnsv_verdict.specs.declared.verdict.Verdict.{Verdict}
-use Rattle.dnsv_verdict.specs.declared.verdict.Verdict.TheVariants.{SecureAnswer, SecureAlias, SecureNoName, SecureNoData, Insecure, Pending, Bogus, Indeterminate}
+use Rattle.dnsv_verdict.specs.declared.verdict.Verdict.TheVariants.{SecureAnswer, SecureAlias, SecureNoName, SecureNoData, Pending, Bogus, Indeterminate}
 use Rattle.dnsv_derivations.specs.Explained.{Explained, Setting, setting_in}
 use Rattle.dnsv_explain.specs.Explained.{basis_in, explained_by}
 use Rattle.dnsv_explain.specs.Explanation.{IsSettledTold, IsSignatureAt, IsVerdictTold, told_kind}
 use Rattle.dnsv_derivations.specs.Saying.{Adds}
-use Rattle.dnsv_derivations.specs.derivations.HeldTo.{IsHeldTo}
 use Rattle.dnsv_derivations.specs.derivations.OwnDerivations.{SecuredIn}
 use Rattle.dnsv_lines.specs.declared.line.Kind.{Kind}
 use Rattle.dnsv_lines.specs.declared.line.Kind.TheVariants as kind
@@ -105,50 +104,27 @@ module _ (explained : Explained) (name : Labels) (t : ℕ) where
 module _ (explained : Explained) (name : Labels) (t : ℕ) where
   -- a verdict that needs no more answers is settled
   pub settled_as : (basis : Basis) (verdict : Verdict) → IsSettledVerdict verdict → IsVerdictAt basis name t verdict → IsSettledAsBy basis name t verdict
-  settled_as basis (SecureAnswer k s) settled is = is
-  settled_as basis (SecureAlias k s) settled is = is
-  settled_as basis (SecureNoName proof) settled is = is
-  settled_as basis (SecureNoData proof) settled is = is
-  settled_as basis (Insecure cut) settled is = is
   settled_as basis (Pending unknown) settled is = absurd settled
   settled_as basis Bogus settled is = absurd settled
   settled_as basis Indeterminate settled is = absurd settled
+  settled_as basis verdict settled is = is
 
   pub settled_told : (verdict : Verdict) (old new : List Line) → IsSettledVerdict verdict
       → Adds (IsSettledTold (setting_in explained) name t verdict) old new → Adds (IsVerdictTold explained name t verdict) old new
-  settled_told (SecureAnswer k s) old new settled told = told
-  settled_told (SecureAlias k s) old new settled told = told
-  settled_told (SecureNoName proof) old new settled told = told
-  settled_told (SecureNoData proof) old new settled told = told
-  settled_told (Insecure cut) old new settled told = told
   settled_told (Pending unknown) old new settled told = absurd settled
   settled_told Bogus old new settled told = absurd settled
   settled_told Indeterminate old new settled told = absurd settled
-
-  pub held_told : (verdict : Verdict) (old new : List Line) → ¬ IsSettledVerdict verdict → ((unknown : List Entry) → verdict ≡ Pending unknown → ⊥)
-      → Adds (IsHeldTo (setting_in explained) name) old new → Adds (IsVerdictTold explained name t verdict) old new
-  held_told (SecureAnswer k s) old new open_still none told = absurd (open_still tt)
-  held_told (SecureAlias k s) old new open_still none told = absurd (open_still tt)
-  held_told (SecureNoName proof) old new open_still none told = absurd (open_still tt)
-  held_told (SecureNoData proof) old new open_still none told = absurd (open_still tt)
-  held_told (Insecure cut) old new open_still none told = absurd (open_still tt)
-  held_told (Pending unknown) old new open_still none told = absurd (none unknown refl)
-  held_told Bogus old new open_still none told = told
-  held_told Indeterminate old new open_still none told = told
+  settled_told verdict old new settled told = told
 
   never_some : (word : Kind) → Path (Option Kind) (Some word) None → ⊥
   never_some word is = cc
 
   -- it has a word
   pub has_kind : (basis : Basis) (verdict : Verdict) → IsSettledAsBy basis name t verdict → told_kind verdict ≡ None → ⊥
-  has_kind basis (SecureAnswer k s) is none = never_some kind.SecureAnswer none
-  has_kind basis (SecureAlias k s) is none = never_some kind.SecureAlias none
-  has_kind basis (SecureNoName proof) is none = never_some kind.SecureNoName none
-  has_kind basis (SecureNoData proof) is none = never_some kind.SecureNoData none
-  has_kind basis (Insecure cut) is none = never_some kind.Insecure none
   has_kind basis (Pending unknown) is none = is
   has_kind basis Bogus is none = is
   has_kind basis Indeterminate is none = is
+  has_kind basis verdict is none = never_some _ none
 
 -- ---- links
 
@@ -182,14 +158,10 @@ module _ (case : CaseContents) (explained : Explained) (todo : List Entry) (same
       subst By (sym same) (settled_as explained name t (basis_by case) verdict settled is)
 
 by_word : (verdict : Verdict) (some : Bool) → some ≡ is_some (told_kind verdict) → (some ≡ true) ↔ IsSettledVerdict verdict
-by_word (SecureAnswer k s) some is = (λ yes. tt, λ settled. is)
-by_word (SecureAlias k s) some is = (λ yes. tt, λ settled. is)
-by_word (SecureNoName proof) some is = (λ yes. tt, λ settled. is)
-by_word (SecureNoData proof) some is = (λ yes. tt, λ settled. is)
-by_word (Insecure cut) some is = (λ yes. tt, λ settled. is)
 by_word (Pending unknown) some is = (λ yes. let no : some ≡ false = is in cc, λ settled. absurd settled)
 by_word Bogus some is = (λ yes. let no : some ≡ false = is in cc, λ settled. absurd settled)
 by_word Indeterminate some is = (λ yes. let no : some ≡ false = is in cc, λ settled. absurd settled)
+by_word verdict some is = (λ yes. tt, λ settled. is)
 
 -- a verdict has a word just where it needs no more answers
 pub word_or_not : (verdict : Verdict) (found : Option Kind) (some : Bool) → found ≡ told_kind verdict → some ≡ is_some found

@@ -1,7 +1,7 @@
 -- What is told at one name of a way, by a view of what the evidence says there.
-use Rattle.std.proofs.Common.{◌≡◌, ◌<◌, ◌∙◌, ◌+◌, ◌-◌, ℕ, zero, suc, List, [], ◌∷◌, ◌++◌, arith, get_or, length, map, refl, sym, ap, subst, ⊎_elim}
+use Rattle.std.proofs.Common.{◌≡◌, ◌<◌, ◌∙◌, ◌-◌, ℕ, zero, suc, List, [], ◌∷◌, ◌++◌, arith, get_or, length, map, refl, sym, ap, subst, ⊎_elim}
 use Rattle.std.specs.List.{AllZip}
-use Rattle.dnsv_names.specs.Name.{Labels, rightmost}
+use Rattle.dnsv_names.specs.Name.{Labels}
 use Rattle.dnsv_records.specs.Rrsig.{IsRrsig}
 use Rattle.dnsv_records.specs.declared.rrsig.Rrsig.{Rrsig}
 use Rattle.dnsv_canonical.specs.Rrsets.{IsNumbered, ReceivedRrset}
@@ -26,7 +26,7 @@ use Rattle.dnsv_verdict.specs.Way.{names_on}
 use Rattle.dnsv_verdict.specs.Case.{CaseContents}
 use Rattle.dnsv_verdict.specs.declared.link.Link.{Link}
 use Rattle.dnsv_derivations.specs.Denials.{IsDenialTold, IsShownDenial}
-use Rattle.dnsv_derivations.specs.Denials.IsShownBy.{no_name, no_data, no_closer}
+use Rattle.dnsv_derivations.specs.Denials.IsShownBy.{no_name, no_data, no_closer, closer_opted_out}
 use Rattle.dnsv_derivations.specs.Explained.{Explained, Setting, setting_in}
 use Rattle.dnsv_explain.specs.Explained.{explained_by}
 use Rattle.dnsv_explain.specs.Explanation.{IsNoDataTold, IsNoNameTold, IsSetTold, IsSignatureAt, IsUnsignedFromTold, signature_of}
@@ -34,10 +34,8 @@ use Rattle.dnsv_explain.specs.Explanation.IsSetTold.{as_owned, by_wildcard}
 use Rattle.dnsv_explain.specs.Explanation.IsUnsignedFromTold.{by_cut, by_wildcard as by_open_wildcard}
 use Rattle.dnsv_derivations.specs.Saying.{Adds}
 use Rattle.dnsv_derivations.specs.derivations.OwnDerivations.{IsSignatureTold, IsTrustIn, SecuredIn as GoodIn}
-use Rattle.dnsv_derivations.specs.unsigned_cuts.ShownCuts.{IsCutShownBy, IsCutTold, IsShownUnsigned, IsUnsignedTold}
-use Rattle.dnsv_derivations.specs.unsigned_cuts.ShownCuts.IsShownUnsigned.{closer_opted_out}
+use Rattle.dnsv_derivations.specs.unsigned_cuts.ShownCuts.{IsCutShownBy, IsCutTold}
 use Rattle.dnsv_lines.specs.declared.line.Line.{Line}
-use Rattle.dnsv_lines.specs.declared.line.cut.InsecureCase.TheVariants as case
 use Rattle.dnsv_canonical.specs.declared.number.SignatureNumber.{SignatureNumber}
 use Rattle.dnsv_derivations.proofs.lemmas.SayingLemmas.{both_added}
 use Rattle.dnsv_derivations.proofs.lemmas.denials.TrustLemmas.{kept_good}
@@ -226,27 +224,17 @@ module _ (its_case : CaseContents) (explained : Explained) (same : explained ≡
     its_covered shown =
         subst (λ (each : Viewed). IsShownOptOutCloser (SecuredIn each.trust) each.rrsets each.name rrsig.labels rrsig.signer shown) viewed
 
-    proper : rrsig.labels < length name
-    proper = let Of : Rrsig → Type 0 = λ each. each.labels < length name in subst Of is first.such.such.1.1.above.proper
-
     pub open_shown : (shown : ShownDenial) → IsShownOptOutCloser (SecuredIn view.trust) view.rrsets view.name rrsig.labels rrsig.signer shown
-        → (rrsig.labels < length name) × IsShownUnsigned Its name shown case.OptOutWildcard (rightmost name (rrsig.labels + 1))
-    open_shown shown covers =
-        (proper, closer_opted_out its_case.trust good rrsig.labels rrsig.signer (its_covered shown covers))
+        → IsShownDenial Its name shown
+    open_shown shown covers = (its_case.trust, good, closer_opted_out rrsig.labels rrsig.signer (its_covered shown covers))
 
-    pub open_added : (shown : ShownDenial) (cut : Labels) (old mid new : List Line)
+    pub open_added : (shown : ShownDenial) (old mid new : List Line)
         → IsShownOptOutCloser (SecuredIn view.trust) view.rrsets view.name rrsig.labels rrsig.signer shown
-        → ¬ HasUnsignedCut (SecuredIn view.trust) view.rrsets view.name → cut ≡ rightmost name (rrsig.labels + 1)
-        → Adds (IsSignatureTold Its (signature_of k s)) old mid
-        → Adds (IsUnsignedTold Its name shown case.OptOutWildcard cut) mid new → Adds (IsUnsignedFromTold Its name t) old new
-    open_added shown cut old mid new covers none at derived told =
-        let Cut : Labels → Type 0 = λ each. Adds (IsUnsignedTold Its name shown case.OptOutWildcard each) mid new in
+        → ¬ HasUnsignedCut (SecuredIn view.trust) view.rrsets view.name → Adds (IsSignatureTold Its (signature_of k s)) old mid
+        → Adds (IsDenialTold Its name shown) mid new → Adds (IsUnsignedFromTold Its name t) old new
+    open_added shown old mid new covers none derived told =
         let Of : Rrsig → Type 0 = λ each. IsShownOptOutCloser (SecuredIn its_case.trust) explained.rrsets name each.labels each.signer shown in
-        let same_cut : cut ≡ rightmost name (its_first.0.such.rrsig.labels + 1) =
-        at ∙ ap (λ (each : Rrsig). rightmost name (each.labels + 1)) (sym its_first.1) in
-        let both = both_added (IsSignatureTold Its (signature_of k s))
-        (IsUnsignedTold Its name shown case.OptOutWildcard (rightmost name (its_first.0.such.rrsig.labels + 1))) old mid new
-        derived (subst Cut same_cut told) in record {
+        let both = both_added (IsSignatureTold Its (signature_of k s)) (IsDenialTold Its name shown) old mid new derived told in record {
           more = both.more;
           is = both.is;
           says = by_open_wildcard its_case.trust good (its_none none) k s its_first.0 shown

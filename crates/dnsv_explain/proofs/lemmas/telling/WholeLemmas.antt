@@ -1,11 +1,11 @@
 -- An explanation from its two halves.
-use Rattle.std.proofs.Common.{◌≡◌, ◌∙◌, ℕ, List, [], ◌++◌, ap, sym, subst}
+use Rattle.std.proofs.Common.{◌≡◌, ℕ, List, [], subst}
 use Rattle.dnsv_names.specs.Name.{Labels}
 use Rattle.dnsv_verdict.specs.Verdict.{IsSettledVerdict}
 use Rattle.dnsv_verdict.specs.Case.{CaseContents}
 use Rattle.dnsv_verdict.specs.declared.link.Link.{Link}
 use Rattle.dnsv_verdict.specs.declared.verdict.Verdict.{Verdict}
-use Rattle.dnsv_verdict.specs.declared.verdict.Verdict.TheVariants.{SecureAnswer, SecureAlias, SecureNoName, SecureNoData, Insecure, Pending, Bogus, Indeterminate}
+use Rattle.dnsv_verdict.specs.declared.verdict.Verdict.TheVariants.{Pending, Bogus, Indeterminate}
 use Rattle.dnsv_derivations.specs.Explained.{Explained, setting_in}
 use Rattle.dnsv_explain.specs.Explained.{explained_by}
 use Rattle.dnsv_explain.specs.Explanation.{IsEnd, IsEndTold, IsExplanation, IsFailureTold, IsHoldingTold, IsLinkTold, IsUnproved, IsVerdictTold, IsWayTold, its_setting}
@@ -13,76 +13,48 @@ use Rattle.dnsv_derivations.specs.Following.{EachFollows}
 use Rattle.dnsv_derivations.specs.Places.{ArePlacesTold}
 use Rattle.dnsv_derivations.specs.Saying.{Adds, AreBoth, AreEach}
 use Rattle.dnsv_lines.specs.declared.line.Line.{Line}
+use Rattle.dnsv_explain.proofs.lemmas.telling.DerivedLemmas.{said_first}
 use Rattle.dnsv_explain.proofs.lemmas.telling.ExplanationLemmas.{way_follows}
 use Rattle.dnsv_derivations.proofs.lemmas.SayingLemmas.{both_added}
 
 -- what needs no more answers is proved
 pub settled_apart : (verdict : Verdict) → IsSettledVerdict verdict → ¬ IsUnproved verdict
-settled_apart (SecureAnswer k s) settled unproved = unproved
-settled_apart (SecureAlias k s) settled unproved = unproved
-settled_apart (SecureNoName proof) settled unproved = unproved
-settled_apart (SecureNoData proof) settled unproved = unproved
-settled_apart (Insecure cut) settled unproved = unproved
-settled_apart (Pending unknown) settled unproved = unproved
 settled_apart Bogus settled unproved = settled
 settled_apart Indeterminate settled unproved = settled
+settled_apart verdict settled unproved = unproved
 
 module _ (explained : Explained) where
-  in_setting : (verdict : Verdict) (lines : List Line) → IsSettledVerdict verdict → EachFollows (its_setting explained verdict) [] lines
+  pub in_setting : (verdict : Verdict) (lines : List Line) → IsSettledVerdict verdict → EachFollows (its_setting explained verdict) [] lines
       → EachFollows (setting_in explained) [] lines
-  in_setting (SecureAnswer k s) lines settled follows = follows
-  in_setting (SecureAlias k s) lines settled follows = follows
-  in_setting (SecureNoName proof) lines settled follows = follows
-  in_setting (SecureNoData proof) lines settled follows = follows
-  in_setting (Insecure cut) lines settled follows = follows
   in_setting (Pending unknown) lines settled follows = absurd settled
-  in_setting Bogus lines settled follows = follows
-  in_setting Indeterminate lines settled follows = follows
+  in_setting verdict lines settled follows = follows
 
   end_as : (verdict : Verdict) (old new : List Line) → IsSettledVerdict verdict
       → Adds (IsEnd explained.rrsets explained.table.moment) old new → Adds (IsEndTold explained verdict) old new
-  end_as (SecureAnswer k s) old new settled added = added
-  end_as (SecureAlias k s) old new settled added = added
-  end_as (SecureNoName proof) old new settled added = added
-  end_as (SecureNoData proof) old new settled added = added
-  end_as (Insecure cut) old new settled added = added
   end_as (Pending unknown) old new settled added = absurd settled
   end_as Bogus old new settled added = absurd settled
   end_as Indeterminate old new settled added = absurd settled
+  end_as verdict old new settled added = added
 
   places_as : (verdict : Verdict) (old new : List Line) → ¬ IsSettledVerdict verdict
       → Adds (ArePlacesTold explained.rrsets) old new → Adds (IsEndTold explained verdict) old new
-  places_as (SecureAnswer k s) old new open_still added = absurd (open_still tt)
-  places_as (SecureAlias k s) old new open_still added = absurd (open_still tt)
-  places_as (SecureNoName proof) old new open_still added = absurd (open_still tt)
-  places_as (SecureNoData proof) old new open_still added = absurd (open_still tt)
-  places_as (Insecure cut) old new open_still added = absurd (open_still tt)
   places_as (Pending unknown) old new open_still added = added
   places_as Bogus old new open_still added = added
   places_as Indeterminate old new open_still added = added
+  places_as verdict old new open_still added = absurd (open_still tt)
 
   holding_is : (t : ℕ) (links : List Link) (last : Labels) (verdict : Verdict) → ¬ IsUnproved verdict → (lines : List Line)
       → IsHoldingTold explained t links last verdict [] lines → IsExplanation explained t links last verdict lines
-  holding_is t links last (SecureAnswer k s) apart lines is = is
-  holding_is t links last (SecureAlias k s) apart lines is = is
-  holding_is t links last (SecureNoName proof) apart lines is = is
-  holding_is t links last (SecureNoData proof) apart lines is = is
-  holding_is t links last (Insecure cut) apart lines is = is
-  holding_is t links last (Pending unknown) apart lines is = is
   holding_is t links last Bogus apart lines is = absurd (apart tt)
   holding_is t links last Indeterminate apart lines is = absurd (apart tt)
+  holding_is t links last verdict apart lines is = is
 
   failure_is : (t : ℕ) (links : List Link) (last : Labels) (verdict : Verdict) → IsUnproved verdict → (lines : List Line)
       → AreBoth (IsFailureTold (setting_in explained) last t) (IsHoldingTold explained t links last verdict) [] lines
       → IsExplanation explained t links last verdict lines
-  failure_is t links last (SecureAnswer k s) unproved lines is = absurd unproved
-  failure_is t links last (SecureAlias k s) unproved lines is = absurd unproved
-  failure_is t links last (SecureNoName proof) unproved lines is = absurd unproved
-  failure_is t links last (SecureNoData proof) unproved lines is = absurd unproved
-  failure_is t links last (Insecure cut) unproved lines is = absurd unproved
-  failure_is t links last (Pending unknown) unproved lines is = absurd unproved
   failure_is t links last Bogus unproved lines is = is
   failure_is t links last Indeterminate unproved lines is = is
+  failure_is t links last verdict unproved lines is = absurd unproved
 
   module _ (t : ℕ) (links : List Link) (last : Labels) (verdict : Verdict) where
     pub way_added : (old mid new : List Line) → Adds (AreEach (IsLinkTold (setting_in explained)) links) old mid
@@ -93,17 +65,8 @@ module _ (explained : Explained) where
     pub settled_way_follows : (old new : List Line) → old ≡ [] → IsSettledVerdict verdict
         → Adds (IsWayTold explained t links last verdict) old new → EachFollows (setting_in explained) [] new
     settled_way_follows old new empty settled added =
-        let Lines : List Line → Type 0 = λ each. EachFollows (its_setting explained verdict) [] each in
-        let Before : List Line → Type 0 = λ each. IsWayTold explained t links last verdict each added.more in
         in_setting verdict new settled
-        (subst Lines (sym (added.is ∙ ap (λ front. front ++ added.more) empty))
-        (way_follows explained t links last verdict [] added.more (subst Before empty added.says)))
-
-    -- behind no lines
-    first_said : (Says : List Line → List Line → Type 0) (old new : List Line) → old ≡ [] → Adds Says old new → Says [] new
-    first_said Says old new empty added =
-        let all : new ≡ added.more = added.is ∙ ap (λ front. front ++ added.more) empty in
-        subst (λ each. Says [] each) (sym all) (subst (λ each. Says each added.more) empty added.says)
+        (way_follows explained t links last verdict [] new (said_first (IsWayTold explained t links last verdict) old new empty added))
 
     whole : (old mid new : List Line) → old ≡ [] → ¬ IsUnproved verdict → Adds (IsWayTold explained t links last verdict) old mid
         → Adds (IsEndTold explained verdict) mid new → IsExplanation explained t links last verdict new
@@ -111,7 +74,7 @@ module _ (explained : Explained) where
         let Way : List Line → List Line → Type 0 = IsWayTold explained t links last verdict in
         let End : List Line → List Line → Type 0 = IsEndTold explained verdict in
         holding_is t links last verdict apart new
-        (first_said (IsHoldingTold explained t links last verdict) old new empty (both_added Way End old mid new way end))
+        (said_first (IsHoldingTold explained t links last verdict) old new empty (both_added Way End old mid new way end))
 
     failed_whole : (old faults mid new : List Line) → old ≡ [] → IsUnproved verdict
         → Adds (IsFailureTold (setting_in explained) last t) old faults → Adds (IsWayTold explained t links last verdict) faults mid
@@ -122,7 +85,7 @@ module _ (explained : Explained) where
         let Failure : List Line → List Line → Type 0 = IsFailureTold (setting_in explained) last t in
         let Rest : List Line → List Line → Type 0 = IsHoldingTold explained t links last verdict in
         failure_is t links last verdict unproved new
-        (first_said (AreBoth Failure Rest) old new empty (both_added Failure Rest old faults new failure (both_added Way End faults mid new way end)))
+        (said_first (AreBoth Failure Rest) old new empty (both_added Failure Rest old faults new failure (both_added Way End faults mid new way end)))
 
 module _ (explained : Explained) (case : CaseContents) (same : explained ≡ explained_by case []) (t : ℕ) (links : List Link)
     (last : Labels) (verdict : Verdict) (old mid new : List Line) (empty : old ≡ []) where

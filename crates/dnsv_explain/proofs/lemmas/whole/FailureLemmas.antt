@@ -1,5 +1,5 @@
 -- What fails is said without a line twice.
-use Rattle.std.proofs.Common.{◌≡◌, ◌≢◌, ℕ, true, false, List, map, inl, inr, refl, sym, ap, ◌∙◌, subst, ⊎_elim, arith}
+use Rattle.std.proofs.Common.{◌≡◌, ◌≢◌, ℕ, List, inl, inr, refl, sym, ap, subst, ⊎_elim, arith}
 use Rattle.std.proofs.lemmas.List.Elements.{Contains-append_cases}
 use Rattle.std.specs.List.{Contains}
 use Rattle.dnsv_names.specs.Name.{Labels}
@@ -14,29 +14,19 @@ use Rattle.dnsv_explain.specs.KeyLines.{AreLinesOfKeysAsked, AreLinesOfSet, IsKe
 use Rattle.dnsv_explain.specs.Listing.{AreOfNumbered}
 use Rattle.dnsv_lines.specs.declared.line.Line.{Line}
 use Rattle.dnsv_lines.specs.declared.line.Line.TheVariants as line
-use Rattle.dnsv_lines.specs.declared.line.fault.signature.UntrustedSigner.{UntrustedSigner}
 use Rattle.dnsv_reason_laws.proofs.OnceLemmas.{failures_differ}
 use Rattle.dnsv_reasons.specs.Failures.{AreFailures}
 use Rattle.dnsv_explain.proofs.lemmas.keys.EachLemmas.{Each, none_each, numbered_each, one_each}
 use Rattle.dnsv_explain.proofs.lemmas.telling.FaultLemmas.{IsFault, failures_fault}
 use Rattle.dnsv_explain.proofs.lemmas.whole.FreshLemmas.{HaveKinds, kind}
-use Rattle.dnsv_explain.proofs.lemmas.whole.ListLemmas.{once_append, once_apart, once_map, once_numbered, once_one}
+use Rattle.dnsv_explain.proofs.lemmas.whole.ListLemmas.{once_append, once_numbered, once_one}
 
 -- ---- what fails
 
 fault_kind : (each : Line) → IsFault each → kind each ≡ 5
 fault_kind (line.Reason told) is = refl
 fault_kind (line.Follows told) is = refl
-fault_kind (line.Trusted told) is = absurd is
-fault_kind (line.Signed told) is = absurd is
-fault_kind (line.Proof told) is = absurd is
-fault_kind (line.Part told) is = absurd is
-fault_kind (line.Case told) is = absurd is
-fault_kind (line.Unusable told) is = absurd is
-fault_kind (line.Hope told) is = absurd is
-fault_kind (line.Holds told) is = absurd is
-fault_kind (line.Key told) is = absurd is
-fault_kind (line.Rrset told) is = absurd is
+fault_kind each is = absurd is
 
 faults_kind : (setting : Setting) (name : Labels) (t : ℕ) (lines : List Line) → AreFailures (asking_in setting name t) lines
     → HaveKinds (λ n. n ≡ 5) lines
@@ -120,14 +110,3 @@ module _ (setting : Setting) (name : Labels) (t : ℕ) (before lines : List Line
       (λ (right : Contains told.keys each).
       let six = asked_kind setting told.faults told.keys told.of_keys each right in omega (arith, six, is))
       (Contains-append_cases told.faults told.keys each (subst In told.are there))
-
-  -- that a signer isn't trusted is one of the faults
-  pub follows_fails : (untrusted : UntrustedSigner) → Contains lines (line.Follows untrusted) → Contains told.faults (line.Follows untrusted)
-  follows_fails untrusted there =
-      let this : Line = line.Follows untrusted in
-      let In : List Line → Type 0 = λ all. Contains all this in
-      ⊎_elim
-      (λ (left : Contains told.faults this). left)
-      (λ (right : Contains told.keys this).
-      let six : 5 ≡ 6 = asked_kind setting told.faults told.keys told.of_keys this right in absurd (omega (arith, six)))
-      (Contains-append_cases told.faults told.keys this (subst In told.are there))

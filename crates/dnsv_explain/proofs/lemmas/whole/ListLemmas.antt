@@ -1,6 +1,5 @@
 -- Lists in which nothing stands twice.
-use Rattle.std.proofs.Common.{◌≡◌, ◌<◌, ◌≤◌, ◌+◌, ◌++◌, ℕ, suc, Bool, true, false, List, [], ◌∷◌, map, get_or, refl, sym, ap, ◌∙◌, subst, ⊎_elim, arith}
-use Rattle.std.proofs.lemmas.Bool.{false≢true}
+use Rattle.std.proofs.Common.{◌≡◌, ◌<◌, ◌≤◌, ◌+◌, ◌++◌, ℕ, suc, List, [], ◌∷◌, map, get_or, refl, sym, subst, ⊎_elim, arith}
 use Rattle.std.proofs.lemmas.List.Elements.{Contains-append_cases, Contains-append_right}
 use Rattle.std.proofs.lemmas.List.Kept.{AllPairs-from_increasing}
 use Rattle.std.specs.List.{AllPairs, Contains}
@@ -23,30 +22,6 @@ once_append {X = X} (x ∷ xs) ys one two apart =
 
 pub once_one : {X : Type 0} (x : X) → AreOnce (x ∷ [])
 once_one x = (none_in [] x refl, tt)
-
--- ---- lists by a test
-
--- of those no two of which are the same by a test that holds of each with itself
-pub once_apart : {X : Type 0} (same : X → X → Bool) → ((x : X) → same x x ≡ true) → (xs : List X) → AllPairs (λ a b. same a b ≡ false) xs
-    → AreOnce xs
-once_apart same itself [] pairs = tt
-once_apart {X = X} same itself (x ∷ xs) pairs =
-    let never : ¬ Contains xs x = λ there.
-    let place = there.1 in
-    let unlike : same x (get_or xs there.0 x) ≡ false = pairs 0 (suc there.0) x (omega arith) (omega (arith, place)) in
-    false≢true (sym unlike ∙ ap (same x) there.2 ∙ itself x) in
-    (never, once_apart same itself xs (λ i j d before within. pairs (suc i) (suc j) d (omega (arith, before)) (omega (arith, within))))
-
--- what no two of the list have in common isn't twice in the list of it
-pub once_map : {X Y : Type 0} (f : X → Y) (xs : List X) → AllPairs (λ a b. ¬ (f a ≡ f b)) xs → AreOnce (map f xs)
-once_map f [] pairs = tt
-once_map {X = X} {Y = Y} f (x ∷ xs) pairs =
-    let never : ¬ Contains (map f xs) (f x) = λ there.
-    let from = contains_from_map f xs (f x) there in
-    let place = from.1.1 in
-    let unlike : ¬ (f x ≡ f (get_or xs from.1.0 from.0)) = pairs 0 (suc from.1.0) from.0 (omega arith) (omega (arith, place)) in
-    unlike (sym from.2 ∙ sym (ap f from.1.2)) in
-    (never, once_map f xs (λ i j d before within. pairs (suc i) (suc j) d (omega (arith, before)) (omega (arith, within))))
 
 -- ---- numbers
 

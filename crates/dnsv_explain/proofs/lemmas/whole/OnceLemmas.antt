@@ -4,7 +4,7 @@ use Rattle.dnsv_names.specs.Name.{Labels}
 use Rattle.dnsv_canonical.specs.Rrsets.{ReceivedRrset}
 use Rattle.dnsv_verdict.specs.declared.link.Link.{Link}
 use Rattle.dnsv_verdict.specs.declared.verdict.Verdict.{Verdict}
-use Rattle.dnsv_verdict.specs.declared.verdict.Verdict.TheVariants.{SecureAnswer, SecureAlias, SecureNoName, SecureNoData, Insecure, Pending, Bogus, Indeterminate}
+use Rattle.dnsv_verdict.specs.declared.verdict.Verdict.TheVariants.{Pending, Bogus, Indeterminate}
 use Rattle.dnsv_verifier.proofs.NumberLemmas.{contains_from_map}
 use Rattle.dnsv_verifier.specs.declared.entry.Entry.{Entry}
 use Rattle.dnsv_derivations.specs.Explained.{Explained, Setting, setting_in}
@@ -159,11 +159,7 @@ module _ (explained : Explained) (t : ℕ) (links : List Link) (last : Labels) w
   -- ---- the whole
 
   pub explanation_once : (verdict : Verdict) (lines : List Line) → IsExplanation explained t links last verdict lines → AreOnce lines
-  explanation_once (SecureAnswer k s) lines is = settled_once (SecureAnswer k s) lines is
-  explanation_once (SecureAlias k s) lines is = settled_once (SecureAlias k s) lines is
-  explanation_once (SecureNoName proof) lines is = settled_once (SecureNoName proof) lines is
-  explanation_once (SecureNoData proof) lines is = settled_once (SecureNoData proof) lines is
-  explanation_once (Insecure cut) lines is = settled_once (Insecure cut) lines is
   explanation_once (Pending unknown) lines is = pending_once unknown lines is
   explanation_once Bogus lines is = failed_once lines is
   explanation_once Indeterminate lines is = failed_once lines is
+  explanation_once verdict lines is = settled_once verdict lines is

@@ -5,7 +5,7 @@ use Rattle.dnsv_names.specs.Name.{Labels}
 use Rattle.dnsv_canonical.proofs.OrderLemmas.{each_of}
 use Rattle.dnsv_verdict.specs.declared.link.Link.{Link}
 use Rattle.dnsv_verdict.specs.declared.verdict.Verdict.{Verdict}
-use Rattle.dnsv_verdict.specs.declared.verdict.Verdict.TheVariants.{SecureAnswer, SecureAlias, SecureNoName, SecureNoData, Insecure, Pending, Bogus, Indeterminate}
+use Rattle.dnsv_verdict.specs.declared.verdict.Verdict.TheVariants.{Pending, Bogus, Indeterminate}
 use Rattle.dnsv_verifier.specs.declared.entry.Entry.{Entry}
 use Rattle.dnsv_derivations.specs.Explained.{Explained, Setting, setting_in}
 use Rattle.dnsv_explain.specs.Explained.{hoped}
@@ -55,16 +55,12 @@ module _ (explained : Explained) (t : ℕ) (links : List Link) (last : Labels) w
       (settled_told Every (setting_in (hoped explained unknown)) tt last t hope.verdict)
 
   all_hold : (verdict : Verdict) → ¬ IsUnproved verdict → (lines : List Line) → IsExplanation explained t links last verdict lines → Hold lines
-  all_hold (SecureAnswer k s) proved lines is = settled (SecureAnswer k s) lines is
-  all_hold (SecureAlias k s) proved lines is = settled (SecureAlias k s) lines is
-  all_hold (SecureNoName proof) proved lines is = settled (SecureNoName proof) lines is
-  all_hold (SecureNoData proof) proved lines is = settled (SecureNoData proof) lines is
-  all_hold (Insecure cut) proved lines is = settled (Insecure cut) lines is
   all_hold (Pending unknown) proved lines is =
       holding (IsHopeTold explained last t unknown) (ArePlacesTold explained.rrsets) (hope_holds unknown)
       (λ old new told. subst Hold (sym told.are) (places_hold told.places)) lines is
   all_hold Bogus proved lines is = absurd (proved tt)
   all_hold Indeterminate proved lines is = absurd (proved tt)
+  all_hold verdict proved lines is = settled verdict lines is
 
   -- no line says that something fails
   pub line_holds : (verdict : Verdict) → ¬ IsUnproved verdict → (lines : List Line) → IsExplanation explained t links last verdict lines

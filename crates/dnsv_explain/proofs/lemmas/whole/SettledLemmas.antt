@@ -4,7 +4,10 @@ use Rattle.std.specs.List.{Contains}
 use Rattle.dnsv_names.specs.Name.{Labels, rightmost}
 use Rattle.dnsv_canonical.specs.Index.{numbers_at}
 use Rattle.dnsv_verifier.proofs.NumberLemmas.{contains_from_map}
-use Rattle.dnsv_denial.specs.proving.ProofParts.{form_parts}
+use Rattle.dnsv_chain.specs.Trust.{SecuredIn as KeptIn}
+use Rattle.dnsv_denial.specs.proving.ProofParts.{form_parts, part_name}
+use Rattle.dnsv_denial.specs.words.EvidenceWords.{evidence_said}
+use Rattle.dnsv_denial.specs.declared.proving.proof_part.PartName.{PartName}
 use Rattle.dnsv_denial.specs.declared.proving.shown_denial.ShownDenial.{ShownDenial}
 use Rattle.dnsv_denial.specs.declared.proving.proof_part.ProofPart.{ProofPart}
 use Rattle.dnsv_canonical.specs.declared.number.RecordNumber.{RecordNumber}
@@ -12,8 +15,8 @@ use Rattle.dnsv_denial.specs.declared.unsigned_cuts.shown_cut.ShownCut.{ShownCut
 use Rattle.dnsv_denial.specs.declared.unsigned_cuts.shown_cut.ShownCut.TheVariants as cut
 use Rattle.dnsv_verdict.specs.declared.link.Link.{Link}
 use Rattle.dnsv_verdict.specs.declared.verdict.Verdict.{Verdict}
-use Rattle.dnsv_verdict.specs.declared.verdict.Verdict.TheVariants.{SecureAnswer, SecureAlias, SecureNoName, SecureNoData, Insecure, Pending, Bogus, Indeterminate}
-use Rattle.dnsv_derivations.specs.Denials.{IsDenialTold, IsPartSaid, IsPartTold, IsProofOf, IsProofSaid, IsProofTold, IsProofWithParts, SameEncloser, told_form}
+use Rattle.dnsv_verdict.specs.declared.verdict.Verdict.TheVariants.{SecureAnswer, SecureAlias, SecureNoName, SecureNoData, Insecure}
+use Rattle.dnsv_derivations.specs.Denials.{IsCaseFor, IsDenialTold, IsPartSaid, IsPartTold, IsProofOf, IsProofSaid, IsProofTold, IsProofWithParts, SameEncloser, told_case, told_form}
 use Rattle.dnsv_derivations.specs.Explained.{Setting}
 use Rattle.dnsv_explain.specs.Explanation.{IsLinkTold, IsSetTold, IsSettledTold, IsUnsignedFromTold, signature_of}
 use Rattle.dnsv_explain.specs.Explanation.IsSetTold.{as_owned, by_wildcard}
@@ -24,7 +27,7 @@ use Rattle.dnsv_derivations.specs.derivations.Derivations.Subject.{keys, signatu
 use Rattle.dnsv_derivations.specs.derivations.HeldTo.{IsFirstDerived, IsHeldAt, IsHeldBelow, IsHeldTo, IsLowestDerived}
 use Rattle.dnsv_derivations.specs.derivations.HeldTo.IsLowestDerived.{unsigned as none_signed, signed as lowest_signed}
 use Rattle.dnsv_derivations.specs.derivations.OwnDerivations.{AreRecordsDerived, IsOwnDerivation, IsSignatureTold}
-use Rattle.dnsv_derivations.specs.unsigned_cuts.ShownCuts.{IsCutTold, IsUnsignedTold}
+use Rattle.dnsv_derivations.specs.unsigned_cuts.ShownCuts.{IsCutTold}
 use Rattle.dnsv_derivations.specs.unsigned_cuts.UnsignedCuts.{AreAllTold, AreToldFrom, IsCaseTold, IsUnusableTold}
 use Rattle.dnsv_lines.specs.declared.line.Line.{Line}
 use Rattle.dnsv_lines.specs.declared.line.Line.TheVariants as line
@@ -33,6 +36,7 @@ use Rattle.dnsv_lines.specs.declared.line.cut.InsecureCase.TheVariants as case
 use Rattle.dnsv_lines.specs.declared.line.cut.UnusableDs.{UnusableDs}
 use Rattle.dnsv_lines.specs.declared.line.denial.Form.{Form}
 use Rattle.dnsv_canonical.specs.declared.number.SignatureNumber.{SignatureNumber}
+use Rattle.dnsv_derivations.proofs.lemmas.unsigned_cuts.CutLemmas.{no_closer_case, no_data_case, no_name_case}
 use Rattle.dnsv_explain.proofs.lemmas.MemberLemmas.{first_or_rest, none_in}
 use Rattle.dnsv_explain.proofs.lemmas.whole.DerivationLemmas.{IsBasic, derivation_fresh}
 use Rattle.dnsv_explain.proofs.lemmas.whole.FreshLemmas.{HaveKinds, IsFresh, Lack, both_fresh, each_fresh, kind, kinds_append, kinds_one, lacks, none_fresh, once_fresh, one_fresh, weaker}
@@ -93,19 +97,31 @@ module _ (setting : Setting) where
         once_fresh IsBasic (IsPartSaid told.part) (line.Part told.part) before lines told.once
         (λ there. record { said = told.part; among = there; same = record { role = refl; relation = refl; name = refl; by = refl } }) refl
 
-    with_parts_fresh : (shown : ShownDenial) (before lines : List Line) → IsProofWithParts setting.rrsets name shown before lines
-        → IsFresh IsBasic before lines
-    with_parts_fresh shown before lines told =
-        both_fresh IsBasic (IsProofTold name shown) (AreEach (IsPartTold setting.rrsets name) (form_parts shown.chain shown.form)) before lines told
-        (proof_of_fresh (told_form shown.form) shown before told.first told.says_first)
-        (each_fresh IsBasic (IsPartTold setting.rrsets name) part_fresh (form_parts shown.chain shown.form) (before ++ told.first) told.second
-        told.says_second)
+    -- the case aside
+    told_fresh : (Is : ℕ → Type 0) → ((n : ℕ) → IsBasic n → Is n) → (shown : ShownDenial) (before lines : List Line)
+        → (told : IsDenialTold setting name shown before lines) → IsFresh Is (before ++ told.first) told.says_second.first → IsFresh Is before lines
+    told_fresh Is too shown before lines told cased =
+        let rest = told.says_second in
+        let last = rest.says_second in
+        let derived : List Line = before ++ told.first in
+        let after : List Line = derived ++ rest.first in
+        let Parts : List Line → List Line → Type 0 = AreEach (IsPartTold setting.rrsets name) (form_parts shown.chain shown.form) in
+        both_fresh Is (AreRecordsDerived setting shown.proof.zone shown.proof.records) (IsProofWithParts setting.rrsets name shown) before lines told
+        (weaker IsBasic Is too before told.first (records_fresh shown.proof.zone shown.proof.records before told.first told.says_first))
+        (both_fresh Is (IsCaseFor (told_case shown.form) name shown.proof.zone) (AreBoth (IsProofTold name shown) Parts) derived told.second rest cased
+        (weaker IsBasic Is too after rest.second
+        (both_fresh IsBasic (IsProofTold name shown) Parts after rest.second last
+        (proof_of_fresh (told_form shown.form) shown after last.first last.says_first)
+        (each_fresh IsBasic (IsPartTold setting.rrsets name) part_fresh (form_parts shown.chain shown.form) (after ++ last.first) last.second
+        last.says_second))))
 
-    denial_fresh : (shown : ShownDenial) (before lines : List Line) → IsDenialTold setting name shown before lines → IsFresh IsBasic before lines
-    denial_fresh shown before lines told =
-        both_fresh IsBasic (AreRecordsDerived setting shown.proof.zone shown.proof.records) (IsProofWithParts setting.rrsets name shown) before lines
-        told (records_fresh shown.proof.zone shown.proof.records before told.first told.says_first)
-        (with_parts_fresh shown (before ++ told.first) told.second told.says_second)
+    -- without a case
+    denial_fresh : (shown : ShownDenial) → told_case shown.form ≡ None → (before lines : List Line) → IsDenialTold setting name shown before lines
+        → IsFresh IsBasic before lines
+    denial_fresh shown none before lines told =
+        let rest = told.says_second in
+        let Case : Option (InsecureCase × PartName) → Type 0 = λ which. IsCaseFor which name shown.proof.zone (before ++ told.first) rest.first in
+        told_fresh IsBasic (λ n is. is) shown before lines told (none_fresh IsBasic (before ++ told.first) rest.first (subst Case none rest.says_first))
 
     -- ---- from which name on a name may be unsigned
 
@@ -113,6 +129,11 @@ module _ (setting : Setting) where
         → IsCaseTold which at its before lines → IsFresh IsSettling before lines
     case_fresh which at its before lines uncut told =
         one_fresh IsSettling before lines (line.Case told.cut) told.are (lacks 1 before uncut.case (line.Case told.cut) refl) (omega arith)
+
+    case_for_fresh : (which : Option (InsecureCase × PartName)) (zone : Labels) (before lines : List Line) → IsUncut before
+        → IsCaseFor which name zone before lines → IsFresh IsSettling before lines
+    case_for_fresh None zone before lines uncut told = none_fresh IsSettling before lines told
+    case_for_fresh (Some which) zone before lines uncut told = case_fresh which.0 (part_name name which.1) (Some zone) before lines uncut told
 
     behind_case : (which : InsecureCase) (at : Labels) (its : Option Labels) (before lines : List Line) → IsUncut before
         → IsCaseTold which at its before lines → Lack 2 (before ++ lines)
@@ -177,27 +198,19 @@ module _ (setting : Setting) where
         (all_fresh told.k (before ++ whole.first ++ rest.first) rest.second
         (behind_case case.UnusableDs at None (before ++ whole.first) rest.first still rest.says_first) rest.says_second))
 
-    unsigned_fresh : (shown : ShownDenial) (which : InsecureCase) (at : Labels) (before lines : List Line) → IsUncut before
-        → IsUnsignedTold setting name shown which at before lines → IsFresh IsSettling before lines
-    unsigned_fresh shown which at before lines uncut told =
-        let rest = told.says_second in
+    unsigned_fresh : (shown : ShownDenial) (before lines : List Line) → IsUncut before → IsDenialTold setting name shown before lines
+        → IsFresh IsSettling before lines
+    unsigned_fresh shown before lines uncut told =
         let front = records_fresh shown.proof.zone shown.proof.records before told.first told.says_first in
-        let still = uncut_append before told.first uncut front.kinds in
-        both_fresh IsSettling (AreRecordsDerived setting shown.proof.zone shown.proof.records)
-        (AreBoth (IsCaseTold which at (Some shown.proof.zone)) (IsProofWithParts setting.rrsets name shown)) before lines told
-        (settling before told.first front)
-        (both_fresh IsSettling (IsCaseTold which at (Some shown.proof.zone)) (IsProofWithParts setting.rrsets name shown) (before ++ told.first)
-        told.second rest (case_fresh which at (Some shown.proof.zone) (before ++ told.first) rest.first still rest.says_first)
-        (settling (before ++ told.first ++ rest.first) rest.second
-        (with_parts_fresh shown (before ++ told.first ++ rest.first) rest.second rest.says_second)))
+        told_fresh IsSettling (λ n is. omega (arith, is)) shown before lines told
+        (case_for_fresh (told_case shown.form) shown.proof.zone (before ++ told.first) told.says_second.first
+        (uncut_append before told.first uncut front.kinds) told.says_second.says_first)
 
     cut_fresh : (shown : ShownCut) (before lines : List Line) → IsUncut before → IsCutTold setting name shown before lines
         → IsFresh IsSettling before lines
-    cut_fresh (cut.NoDs labels shown) before lines uncut told =
-        unsigned_fresh shown case.UnsignedDelegation (rightmost name labels) before lines uncut told
+    cut_fresh (cut.NoDs labels shown) before lines uncut told = unsigned_fresh shown before lines uncut told
     cut_fresh (cut.NoUsableDs labels) before lines uncut told = unusable_fresh (rightmost name labels) before lines uncut told
-    cut_fresh (cut.OptOut labels shown) before lines uncut told =
-        unsigned_fresh shown case.OptOut (rightmost name (labels + 1)) before lines uncut told
+    cut_fresh (cut.OptOut labels shown) before lines uncut told = unsigned_fresh shown before lines uncut told
 
     -- ---- verdicts
 
@@ -207,29 +220,33 @@ module _ (setting : Setting) where
     set_fresh number before lines (by_wildcard r g trust shown at expanded good is told) =
         both_fresh IsBasic (IsSignatureTold setting number) (IsDenialTold setting name shown) before lines told
         (signature_fresh number before told.first told.says_first)
-        (denial_fresh shown (before ++ told.first) told.second told.says_second)
+        (denial_fresh shown
+        (no_closer_case (evidence_said (KeptIn trust) setting.rrsets g.signer is.chain) g.signer name g.labels shown.form is.shows)
+        (before ++ told.first) told.second told.says_second)
 
     unsigned_from_fresh : (t : ℕ) (before lines : List Line) → IsUncut before → IsUnsignedFromTold setting name t before lines
         → IsFresh IsSettling before lines
     unsigned_from_fresh t before lines uncut (by_cut shown is told) = cut_fresh shown before lines uncut told
     unsigned_from_fresh t before lines uncut (loosely trust good none k s first shown is told) =
-        let at : Labels = rightmost name (first.such.rrsig.labels + 1) in
         let front = signature_fresh (signature_of k s) before told.first told.says_first in
-        both_fresh IsSettling (IsSignatureTold setting (signature_of k s)) (IsUnsignedTold setting name shown case.OptOutWildcard at) before lines told
+        both_fresh IsSettling (IsSignatureTold setting (signature_of k s)) (IsDenialTold setting name shown) before lines told
         (settling before told.first front)
-        (unsigned_fresh shown case.OptOutWildcard at (before ++ told.first) told.second (uncut_append before told.first uncut front.kinds)
-        told.says_second)
+        (unsigned_fresh shown (before ++ told.first) told.second (uncut_append before told.first uncut front.kinds) told.says_second)
 
     pub settled_fresh : (t : ℕ) (verdict : Verdict) (before lines : List Line) → IsUncut before
         → IsSettledTold setting name t verdict before lines → IsFresh IsSettling before lines
     settled_fresh t (SecureAnswer k s) before lines uncut told = settling before lines (set_fresh (signature_of k s) before lines told)
     settled_fresh t (SecureAlias k s) before lines uncut told = settling before lines (set_fresh (signature_of k s) before lines told)
-    settled_fresh t (SecureNoName proof) before lines uncut told = settling before lines (denial_fresh told.shown before lines told.told)
-    settled_fresh t (SecureNoData proof) before lines uncut told = settling before lines (denial_fresh told.shown before lines told.told)
+    settled_fresh t (SecureNoName proof) before lines uncut told =
+        let zone = told.shown.proof.zone in
+        settling before lines (denial_fresh told.shown
+        (no_name_case (evidence_said (KeptIn told.trust) setting.rrsets zone told.is.chain) zone name told.shown.form told.is.shows) before lines told.told)
+    settled_fresh t (SecureNoData proof) before lines uncut told =
+        let zone = told.shown.proof.zone in
+        settling before lines (denial_fresh told.shown
+        (no_data_case (evidence_said (KeptIn told.trust) setting.rrsets zone told.is.chain) zone name t told.shown.form told.is.shows) before lines told.told)
     settled_fresh t (Insecure cut) before lines uncut told = unsigned_from_fresh t before lines uncut told
-    settled_fresh t (Pending entries) before lines uncut told = absurd told
-    settled_fresh t Bogus before lines uncut told = absurd told
-    settled_fresh t Indeterminate before lines uncut told = absurd told
+    settled_fresh t verdict before lines uncut told = absurd told
 
   pub links_fresh : (links : List Link) (before lines : List Line) → AreEach (IsLinkTold setting) links before lines
       → IsFresh IsBasic before lines

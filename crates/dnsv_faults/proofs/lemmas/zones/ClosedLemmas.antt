@@ -27,13 +27,13 @@ use Rattle.dnsv_mending.specs.declared.facts.signature.SignatureFacts.{Signature
 use Rattle.dnsv_mending.specs.declared.facts.zone.ZoneFacts.{ZoneFacts}
 use Rattle.dnsv_mending.specs.declared.facts.zone.ZoneKey.{ZoneKey}
 use Rattle.dnsv_mending.specs.declared.told.Told.{Told}
-use Rattle.dnsv_faults.specs.Answers.{IsKeyAnswer}
+use Rattle.dnsv_zone_keys.specs.Answers.{IsKeyAnswer}
 use Rattle.dnsv_faults.specs.Dnskeys.{AreDnskeyFacts}
-use Rattle.dnsv_faults.specs.Keys.{IsKeyPlaced, NamesKey, NamesZoneKey}
+use Rattle.dnsv_zone_keys.specs.Keys.{IsKeyPlaced, NamesKey, NamesZoneKey}
 use Rattle.dnsv_faults.specs.Signatures.{AreSignatureFacts, IsNamedKey}
 use Rattle.dnsv_faults.specs.Zones.{AreFactsOfZone, AreZoneFacts, IsZoneKeyFacts}
 use Rattle.dnsv_faults.proofs.lemmas.zones.TrustLemmas.{zip_left}
-use Rattle.dnsv_faults.proofs.lemmas.ZoneKeyLemmas.{one_zone_keys, placed_same, same_numbers}
+use Rattle.dnsv_zone_keys.proofs.lemmas.ZoneKeyLemmas.{one_zone_keys, placed_same, same_numbers}
 
 -- ---- lists
 

@@ -15,7 +15,7 @@ use Rattle.dnsv_mending.specs.declared.facts.keys.DnskeyFacts.{DnskeyFacts}
 use Rattle.dnsv_mending.specs.declared.facts.keys.HeldKey.{HeldKey}
 use Rattle.dnsv_faults.specs.Dnskeys.{AreDnskeyFacts, AreHeldKeys, IsHeldKey}
 use Rattle.dnsv_faults.specs.Dnskeys.DnskeySearch.{AddsDnskey, IsSetNumber, rdata_of}
-use Rattle.dnsv_faults.specs.Keys.Index.{Placed}
+use Rattle.dnsv_zone_keys.specs.Keys.Index.{Placed}
 
 pub set_number_at : (rrsets : List ReceivedRrset) (zone : Labels) (numbers : List ℕ) (i d : ℕ) → numbers ≡ numbers_at rrsets zone 48 → i < length numbers
     → IsSetNumber rrsets zone (get_or numbers i d)

@@ -29,13 +29,13 @@ use Rattle.dnsv_mending.specs.declared.facts.zone.ZoneFacts.{ZoneFacts}
 use Rattle.dnsv_mending.specs.declared.facts.zone.ZoneKey.{ZoneKey}
 use Rattle.dnsv_faults.specs.Dnskeys.{AreDnskeyFacts, AreHeldKeys}
 use Rattle.dnsv_faults.specs.Groups.{AreDsFacts}
-use Rattle.dnsv_faults.specs.Keys.{AreStanding, IsKeyPlaced}
+use Rattle.dnsv_zone_keys.specs.Keys.{AreStanding, IsKeyPlaced}
 use Rattle.dnsv_faults.specs.Signatures.{AreSignatureFacts, IsNamedKey}
 use Rattle.dnsv_faults.specs.Zones.{AreZoneFacts, IsHolder, IsZoneKeyFacts}
 use Rattle.dnsv_faults.proofs.lemmas.zones.ClosedLemmas.{among_of, contains_of, not_true}
 use Rattle.dnsv_faults.proofs.lemmas.zones.PlaceLemmas.{at_some}
 use Rattle.dnsv_faults.proofs.lemmas.zones.TrustLemmas.{numbered_among, zip_left}
-use Rattle.dnsv_faults.proofs.lemmas.ZoneKeyLemmas.{one_zone_keys, placed_same, same_number}
+use Rattle.dnsv_zone_keys.proofs.lemmas.ZoneKeyLemmas.{one_zone_keys, placed_same, same_number}
 
 -- the RRset that a record stands in
 record StandsIn (rrsets : List ReceivedRrset) (numbers : List ℕ) (rdata : List ℕ) : Type 0 where

@@ -12,14 +12,14 @@ use Rattle.dnsv_canonical.specs.declared.canonical_order.ReadRecord.{ReadRecord}
 use Rattle.dnsv_records.specs.declared.dnskey.Dnskey.{Dnskey}
 use Rattle.dnsv_verifier.specs.Admissible.{DnskeyRecord}
 use Rattle.dnsv_faults.specs.Dnskeys.DnskeySearch.{AreKeyed, AreVouched, IsKeyIn, IsSetOf, basis_in, rdata_of}
-use Rattle.dnsv_faults.specs.Keys.{AreZoneKeys, IsKeyPlaced}
-use Rattle.dnsv_faults.specs.Keys.Index.{Placed}
-use Rattle.dnsv_faults.specs.Keys.ZoneSearch.{AreKeysOf}
-use Rattle.dnsv_faults.specs.Vouchers.VoucherSearch.{AreKeysOfZone}
+use Rattle.dnsv_zone_keys.specs.Keys.{AreZoneKeys, IsKeyPlaced}
+use Rattle.dnsv_zone_keys.specs.Keys.Index.{Placed}
+use Rattle.dnsv_zone_keys.specs.Keys.ZoneSearch.{AreKeysOf}
+use Rattle.dnsv_zone_keys.specs.Vouchers.VoucherSearch.{AreKeysOfZone}
 use Rattle.dnsv_faults.specs.declared.zone.keyed.KeyedZone.{KeyedZone}
-use Rattle.dnsv_faults.proofs.lemmas.OnceLemmas.{pair}
+use Rattle.dnsv_zone_keys.proofs.lemmas.OnceLemmas.{pair}
 use Rattle.dnsv_faults.proofs.lemmas.zones.PlaceLemmas.{record_placed}
-use Rattle.dnsv_faults.proofs.lemmas.VoucherLemmas.{zone_keys_moved}
+use Rattle.dnsv_zone_keys.proofs.lemmas.VoucherLemmas.{zone_keys_moved}
 
 abbrev pub octets : ReadRecord Dnskey → List ℕ
 octets each = each.rdata.now

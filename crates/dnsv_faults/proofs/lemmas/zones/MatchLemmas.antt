@@ -25,12 +25,12 @@ use Rattle.dnsv_lines.specs.declared.line.fault.zone.EntryNumber.TheVariants as 
 use Rattle.dnsv_lines.specs.declared.line.fault.zone.WhyEntry.{WhyEntry}
 use Rattle.dnsv_mending.specs.declared.facts.keys.VoucherFacts.{VoucherFacts}
 use Rattle.dnsv_verifier.specs.Admissible.{DnskeyRecord}
-use Rattle.dnsv_faults.specs.Keys.{IsKeyPlaced}
-use Rattle.dnsv_faults.specs.Vouchers.{AreVoucherFacts, HasUnknownDigest, IsFirstOf, IsIgnoredBeside, IsMatchOf, IsVoucherFault, Wanted, voucher_faults, wanted_key}
-use Rattle.dnsv_faults.specs.Vouchers.Wanted.{by_digest, whole_key}
+use Rattle.dnsv_zone_keys.specs.Keys.{IsKeyPlaced}
+use Rattle.dnsv_zone_keys.specs.Vouchers.{AreVoucherFacts, HasUnknownDigest, IsFirstOf, IsIgnoredBeside, IsMatchOf, IsVoucherFault, Wanted, voucher_faults, wanted_key}
+use Rattle.dnsv_zone_keys.specs.Vouchers.Wanted.{by_digest, whole_key}
 use Rattle.dnsv_faults.specs.Groups.{AreAnchorFactsFrom, AreRecordFacts, anchor_wanted}
 use Rattle.dnsv_faults.proofs.lemmas.zones.PlaceLemmas.{placed_rdata, read_same}
-use Rattle.dnsv_faults.proofs.lemmas.VoucherLemmas.{IsSameKey, match_moves, match_wanted, wanted_tag}
+use Rattle.dnsv_zone_keys.proofs.lemmas.VoucherLemmas.{IsSameKey, match_moves, match_wanted, wanted_tag}
 
 -- ---- one voucher
 

@@ -20,20 +20,20 @@ use Rattle.dnsv_verifier.proofs.NumberLemmas.{contains_from_map}
 use Rattle.dnsv_verifier.specs.Admissible.{DnskeyRecord, IsGood}
 use Rattle.dnsv_verifier.specs.Asking.{GivesEach}
 use Rattle.dnsv_mending.specs.declared.facts.keys.SelfSignature.{SelfSignature}
-use Rattle.dnsv_faults.specs.Answers.AnswerSearch.{ArePutInOrder}
+use Rattle.dnsv_zone_keys.specs.Answers.AnswerSearch.{ArePutInOrder}
 use Rattle.dnsv_faults.specs.Dnskeys.{AreOwnSignatures, IsAnothers, IsNamedIn, IsOwnSignature, MayBeBy, signature_number}
 use Rattle.dnsv_faults.specs.Dnskeys.DnskeySearch.{AreKeysIn, AreOwn, AreVouched, HasFound, HasTrusting, IsDelegatedTo, IsFoundPlace, IsOwn, IsSelfOf, IsTrusting, IsVouchedFor, rdata_of}
 use Rattle.dnsv_faults.specs.Dnskeys.OwnSearch.{AreTagged, HasNaming, tag_of_own}
 use Rattle.dnsv_faults.specs.Dnskeys.PlaceSearch.{HasOther}
-use Rattle.dnsv_faults.specs.Keys.{IsKeyPlaced, IsNamed}
-use Rattle.dnsv_faults.specs.Keys.Index.{AreIndexed, IsNamedBySigner, Placed}
+use Rattle.dnsv_zone_keys.specs.Keys.{IsKeyPlaced, IsNamed}
+use Rattle.dnsv_zone_keys.specs.Keys.Index.{AreIndexed, IsNamedBySigner, Placed}
 use Rattle.dnsv_faults.specs.Signatures.{IsSignatureAt}
-use Rattle.dnsv_faults.specs.Vouchers.VoucherSearch.{ArePlacesOf, IsPlaceOf}
+use Rattle.dnsv_zone_keys.specs.Vouchers.VoucherSearch.{ArePlacesOf, IsPlaceOf}
 use Rattle.dnsv_faults.specs.declared.zone.dnskeys.tagged.OwnSignature.{OwnSignature}
-use Rattle.dnsv_faults.proofs.lemmas.IndexLemmas.{IsFoundAs, found_as}
+use Rattle.dnsv_zone_keys.proofs.lemmas.IndexLemmas.{IsFoundAs, found_as}
 use Rattle.dnsv_faults.proofs.lemmas.zones.PlaceLemmas.{key_in, key_records, placed_rdata, same_record}
 use Rattle.dnsv_faults.proofs.lemmas.zones.TrustLemmas.{in_enumerated, number_of, numbered_among}
-use Rattle.dnsv_faults.proofs.lemmas.ZoneKeyLemmas.{placed_same}
+use Rattle.dnsv_zone_keys.proofs.lemmas.ZoneKeyLemmas.{placed_same}
 
 abbrev pub seen_own : OwnSignature → ℕ × Rrsig
 seen_own own = (own.number, own.rrsig.now)

@@ -16,11 +16,11 @@ use Rattle.dnsv_canonical.proofs.OrderLemmas.{each_of}
 use Rattle.dnsv_chain.specs.Trusted.{IsKeyOf}
 use Rattle.dnsv_verdict.proofs.SearchLemmas.{numbers_are}
 use Rattle.dnsv_verifier.specs.Admissible.{DnskeyRecord}
-use Rattle.dnsv_faults.specs.Keys.{AreStanding, AreZoneKeys, IsKeyPlaced}
-use Rattle.dnsv_faults.specs.Keys.Index.{Placed}
+use Rattle.dnsv_zone_keys.specs.Keys.{AreStanding, AreZoneKeys, IsKeyPlaced}
+use Rattle.dnsv_zone_keys.specs.Keys.Index.{Placed}
 use Rattle.dnsv_faults.specs.Dnskeys.DnskeySearch.{AreKeyRecords, AreKeysIn, IsKeyIn, IsSetOf}
 use Rattle.dnsv_faults.specs.Dnskeys.PlaceSearch.{HasOther}
-use Rattle.dnsv_faults.proofs.lemmas.ZoneKeyLemmas.{one_zone_keys, same_number}
+use Rattle.dnsv_zone_keys.proofs.lemmas.ZoneKeyLemmas.{one_zone_keys, same_number}
 
 -- what stands at a place is one of the list
 pub contains_at : {X : Type 0} (xs : List X) (i : ℕ) (x : X) → slice_get xs i ≡ Some x → Contains xs x

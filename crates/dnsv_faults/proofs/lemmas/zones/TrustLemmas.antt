@@ -32,17 +32,17 @@ use Rattle.dnsv_mending.specs.declared.facts.signature.SignatureFacts.{Signature
 use Rattle.dnsv_mending.specs.declared.facts.zone.DsFacts.{DsFacts}
 use Rattle.dnsv_faults.specs.Groups.{AreAllDsFacts, AreAnchorFacts, AreDsFacts, anchor_wanted}
 use Rattle.dnsv_faults.specs.Groups.GroupSearch.{AreMatched, HasSigned, IsMatched, IsMatchedByDs}
-use Rattle.dnsv_faults.specs.Keys.{IsKeyPlaced}
-use Rattle.dnsv_faults.specs.Keys.Index.{Placed}
+use Rattle.dnsv_zone_keys.specs.Keys.{IsKeyPlaced}
+use Rattle.dnsv_zone_keys.specs.Keys.Index.{Placed}
 use Rattle.dnsv_faults.specs.Rrsets.{AreRrsetFacts}
 use Rattle.dnsv_faults.specs.Signatures.{AreSignatureFacts, IsSignatureAt}
-use Rattle.dnsv_faults.specs.Vouchers.{IsMatchOf}
-use Rattle.dnsv_faults.specs.Vouchers.Wanted.{by_digest, whole_key}
+use Rattle.dnsv_zone_keys.specs.Vouchers.{IsMatchOf}
+use Rattle.dnsv_zone_keys.specs.Vouchers.Wanted.{by_digest, whole_key}
 use Rattle.dnsv_faults.specs.Dnskeys.DnskeySearch.{AreVouched, IsDelegatedTo, IsVouchedFor}
-use Rattle.dnsv_faults.proofs.lemmas.IndexLemmas.{numbered_at}
+use Rattle.dnsv_zone_keys.proofs.lemmas.IndexLemmas.{numbered_at}
 use Rattle.dnsv_faults.proofs.lemmas.zones.MatchLemmas.{anchor_known, anchor_match, anchor_match_owner, anchor_of_use, digest_supported, match_anchor, match_there, matches_it, nothing_said, of_anchor, of_record, record_known}
 use Rattle.dnsv_faults.proofs.lemmas.zones.PlaceLemmas.{at_some, contains_at}
-use Rattle.dnsv_faults.proofs.lemmas.ZoneKeyLemmas.{same_number}
+use Rattle.dnsv_zone_keys.proofs.lemmas.ZoneKeyLemmas.{same_number}
 
 -- ---- members and numbers
 

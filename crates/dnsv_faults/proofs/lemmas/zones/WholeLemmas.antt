@@ -28,18 +28,18 @@ use Rattle.dnsv_mending.specs.declared.facts.zone.DsFacts.{DsFacts}
 use Rattle.dnsv_mending.specs.declared.facts.zone.ZoneFacts.{ZoneFacts}
 use Rattle.dnsv_mending.specs.declared.facts.zone.ZoneKey.{ZoneKey}
 use Rattle.dnsv_mending.specs.declared.told.Told.{Told}
-use Rattle.dnsv_faults.specs.Answers.AnswerSearch.{is_good_answer}
+use Rattle.dnsv_zone_keys.specs.Answers.AnswerSearch.{is_good_answer}
 use Rattle.dnsv_faults.specs.Dnskeys.{AreDnskeyFacts, IsHeldKey, IsOwnSignature}
 use Rattle.dnsv_faults.specs.Groups.{AreDsFacts, anchor_wanted}
 use Rattle.dnsv_faults.specs.Signatures.{AreSignatureFacts}
 use Rattle.dnsv_faults.specs.Zones.{AreZoneFacts, IsZoneKeyFacts}
-use Rattle.dnsv_faults.proofs.lemmas.AnswerLemmas.{good_is}
+use Rattle.dnsv_zone_keys.proofs.lemmas.AnswerLemmas.{good_is}
 use Rattle.dnsv_faults.proofs.lemmas.zones.ClosedLemmas.{closed_signature, contains_of, good_by}
 use Rattle.dnsv_faults.proofs.lemmas.zones.InPlaceLemmas.{at_or_above}
 use Rattle.dnsv_faults.proofs.lemmas.zones.MatchLemmas.{match_anchor, matches_it, of_anchor}
 use Rattle.dnsv_faults.proofs.lemmas.zones.PlaceLemmas.{contains_at}
 use Rattle.dnsv_faults.proofs.lemmas.zones.TrustLemmas.{has_signed_by, numbered_among, or_cases, record_matches, zip_left}
-use Rattle.dnsv_faults.proofs.lemmas.ZoneKeyLemmas.{same_number}
+use Rattle.dnsv_zone_keys.proofs.lemmas.ZoneKeyLemmas.{same_number}
 use Rattle.dnsv_faults.proofs.lemmas.zones.ZoneLemmas.{IsHeldAt, held_at}
 
 else_none : (lines others : List Told) → or_else lines others ≡ [] → others ≡ []

@@ -17,13 +17,13 @@ use Rattle.dnsv_mending.specs.declared.facts.zone.ZoneFacts.{ZoneFacts}
 use Rattle.dnsv_mending.specs.declared.facts.zone.ZoneKey.{ZoneKey}
 use Rattle.dnsv_faults.specs.Dnskeys.{AreAllDnskeyFacts, AreDnskeyFacts, AreHeldKeys, IsHeldKey}
 use Rattle.dnsv_faults.specs.Dnskeys.DnskeySearch.{IsSetOf}
-use Rattle.dnsv_faults.specs.Keys.{AreZoneKeys, IsKeyPlaced}
+use Rattle.dnsv_zone_keys.specs.Keys.{AreZoneKeys, IsKeyPlaced}
 use Rattle.dnsv_faults.specs.Zones.{AreFactsOfZone, AreZoneFacts, AreZoneKeyFacts, IsHolder, IsZoneKeyFacts}
 use Rattle.dnsv_faults.specs.Zones.HolderSearch.{AreHolders, AreHoldersOfEach, Holds, IsHeldByTrusted}
 use Rattle.dnsv_faults.proofs.lemmas.zones.HolderLemmas.{at_end}
 use Rattle.dnsv_faults.proofs.lemmas.zones.PlaceLemmas.{at_some, contains_at, one_place, set_number}
 use Rattle.dnsv_faults.proofs.lemmas.zones.TrustLemmas.{number_of}
-use Rattle.dnsv_faults.proofs.lemmas.ZoneKeyLemmas.{one_zone_keys, same_number}
+use Rattle.dnsv_zone_keys.proofs.lemmas.ZoneKeyLemmas.{one_zone_keys, same_number}
 
 -- ---- the keys in a DNSKEY RRset
 

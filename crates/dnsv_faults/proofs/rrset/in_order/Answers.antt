@@ -6,7 +6,7 @@ use Rattle.std.specs.Ordering.{is_lt}
 use Rattle.dnsv_faults.specs.Rrsets.{rank_cmp}
 use Rattle.dnsv_faults.specs.Rrsets.RrsetSearch.{IsSignatureOf, rank, seen_signature}
 use Rattle.dnsv_faults.specs.declared.rrset.NumberedSignature.{NumberedSignature}
-use Rattle.dnsv_faults.proofs.lemmas.OnceLemmas.{each_push}
+use Rattle.dnsv_zone_keys.proofs.lemmas.OnceLemmas.{each_push}
 use Rattle.dnsv_faults.proofs.lemmas.OrderLemmas.{all_moved, its_signature, order_more, put_in_order, rank_cmp_total, whole}
 use Rattle.dnsv_faults.proofs.rrset.in_order.Goals as goal
 

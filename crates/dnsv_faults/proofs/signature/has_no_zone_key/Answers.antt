@@ -1,6 +1,6 @@
 use Rattle.std.proofs.Common.{not, sym, ap, ◌∙◌}
 use Rattle.std.proofs.lemmas.Bool.{false≢true}
-use Rattle.dnsv_faults.proofs.lemmas.IndexLemmas.{names_some, names_zone, not_so}
+use Rattle.dnsv_zone_keys.proofs.lemmas.IndexLemmas.{names_some, names_zone, not_so}
 use Rattle.dnsv_faults.proofs.signature.has_no_zone_key.Goals as goal
 
 pub returns-then-not-is_empty : goal.returns-then-not-is_empty

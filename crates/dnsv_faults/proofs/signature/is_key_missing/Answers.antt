@@ -2,7 +2,7 @@ use Rattle.std.proofs.Common.{sym, ◌∙◌, subst}
 use Rattle.std.proofs.lemmas.Bool.{false≢true}
 use Rattle.dnsv_names.specs.Name.{Labels}
 use Rattle.dnsv_faults.specs.KnownZones.{HasRrset}
-use Rattle.dnsv_faults.proofs.lemmas.IndexLemmas.{names_none}
+use Rattle.dnsv_zone_keys.proofs.lemmas.IndexLemmas.{names_none}
 use Rattle.dnsv_faults.proofs.lemmas.KnownLemmas.{has_keys}
 use Rattle.dnsv_faults.proofs.signature.is_key_missing.Goals as goal
 

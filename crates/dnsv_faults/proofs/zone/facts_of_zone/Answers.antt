@@ -3,7 +3,7 @@ use Rattle.dnsv_names.specs.Name.{Labels}
 use Rattle.dnsv_verdict.specs.Case.{CaseContents, basis_by}
 use Rattle.dnsv_faults.specs.Dnskeys.{AreAllDnskeyFacts}
 use Rattle.dnsv_mending.specs.declared.facts.keys.DnskeyFacts.{DnskeyFacts}
-use Rattle.dnsv_faults.specs.Keys.{AreZoneKeys}
+use Rattle.dnsv_zone_keys.specs.Keys.{AreZoneKeys}
 use Rattle.dnsv_faults.specs.Zones.HolderSearch.{AreHoldersOfEach}
 use Rattle.dnsv_faults.proofs.lemmas.zones.ZoneLemmas.{zone_keys_are}
 use Rattle.dnsv_faults.proofs.zone.facts_of_zone.Goals as goal

@@ -1,14 +1,11 @@
 //! What is so of the keys in a DNSKEY RRset.
 ghost use Rattle.std.specs.Prelude.{◌≡◌, ◌↔◌, Contains, IfOk, IsTrue, OnOk, map};
 ghost use Rattle.dnsv_verifier.specs.Asking.{GivesMore};
-ghost use Rattle.dnsv_faults.specs.Answers.AnswerSearch.{ArePutInOrder};
+ghost use Rattle.dnsv_zone_keys.specs.Answers.AnswerSearch.{ArePutInOrder};
 ghost use Rattle.dnsv_faults.specs.Dnskeys.{AreHeldKeys, AreOwnSignatures, IsAnothers, IsHeldKey, IsNamedIn, MayBeBy, signature_number};
 ghost use Rattle.dnsv_faults.specs.Dnskeys.DnskeySearch.{IsKeyedSet, IsSelfOf, basis_of_set, rdata_of};
 ghost use Rattle.dnsv_faults.specs.Dnskeys.OwnSearch.{HasNaming};
 
-use crate::answers::answer_under;
-use crate::keys::placed::PlacedKey;
-use crate::keys::{is_named, is_zone_key};
 use crate::signature::words::signature_faults;
 use crate::zone::dnskeys::set::KeyedSet;
 use crate::zone::dnskeys::tagged::OwnSignature;
@@ -16,6 +13,7 @@ use dnsv_canonical::{RecordNumber, SignatureNumber};
 use dnsv_lines::KeyName;
 use dnsv_mending::{HeldKey, SelfSignature};
 use dnsv_verifier::KeyRecord;
+use dnsv_zone_keys::{PlacedKey, answer_under, is_named, is_zone_key};
 use std::alloc::{AllocError, Global};
 
 /// What is so of the keys in the DNSKEY RRset.

@@ -5,13 +5,11 @@ ghost use Rattle.dnsv_canonical.specs.Canonical.{rdata_cmp};
 ghost use Rattle.dnsv_verifier.specs.Admissible.{IsGood};
 ghost use Rattle.dnsv_verifier.specs.Asking.{GivesMore};
 ghost use Rattle.dnsv_verifier.specs.Table.{table_answer};
-ghost use Rattle.dnsv_faults.specs.Answers.AnswerSearch.{IsAskedOf};
+ghost use Rattle.dnsv_zone_keys.specs.Answers.AnswerSearch.{IsAskedOf};
 ghost use Rattle.dnsv_faults.specs.Dnskeys.DnskeySearch.{AreKeyRecords, AreKeysIn, AreOwn, HasFound, IsFoundPlace, IsOwnOf, IsSomeSet, basis_in, rdata_of};
 ghost use Rattle.dnsv_faults.specs.Signatures.{IsSignatureAt};
-ghost use Rattle.dnsv_faults.specs.Vouchers.VoucherSearch.{ArePlacesOf};
+ghost use Rattle.dnsv_zone_keys.specs.Vouchers.VoucherSearch.{ArePlacesOf};
 
-use crate::answers::{answer_under, asked_octets};
-use crate::keys::placed::PlacedKey;
 use crate::zone::dnskeys::tagged::{OwnSignature, OwnSignatures};
 use crate::zone::keyed::{KeyedZone, find};
 use crate::zone::places::Places;
@@ -19,6 +17,7 @@ use dnsv_canonical::Rrset;
 use dnsv_mending::KeyAnswer;
 use dnsv_records::Rrsig;
 use dnsv_verifier::Table;
+use dnsv_zone_keys::{PlacedKey, answer_under, asked_octets};
 use std::alloc::{AllocError, Global};
 
 /// The signatures of the DNSKEY RRset, which has these keys.

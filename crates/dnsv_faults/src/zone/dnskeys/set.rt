@@ -3,13 +3,13 @@ ghost use Rattle.std.specs.Prelude.{◌≡◌, Contains, IfOk};
 ghost use Rattle.dnsv_records.specs.Dnskey.{IsDnskey};
 ghost use Rattle.dnsv_faults.specs.Dnskeys.DnskeySearch.{AreKeyed, AreKeysIn, IsKeyIn, IsKeyedSetFor, IsSetOf, IsSomeSet};
 
-use crate::keys::placed::PlacedKey;
 use crate::zone::dnskeys::own::own_signatures;
 use crate::zone::dnskeys::tagged::OwnSignatures;
 use crate::zone::keyed::{KeyedZone, find};
 use dnsv_canonical::{Rrset, in_canonical_order};
 use dnsv_records::Dnskey;
 use dnsv_verifier::KeyRecord;
+use dnsv_zone_keys::PlacedKey;
 use std::alloc::{AllocError, Global};
 
 /// A DNSKEY RRset of a zone with its keys and its signatures.

@@ -5,17 +5,15 @@ ghost use Rattle.dnsv_chain.specs.Anchor.{anchor_owner};
 ghost use Rattle.dnsv_verdict.specs.Case.{basis_by};
 ghost use Rattle.dnsv_faults.specs.Groups.{AreAnchorFacts, anchor_wanted};
 ghost use Rattle.dnsv_faults.specs.Groups.GroupSearch.{AddsAnchor};
-ghost use Rattle.dnsv_faults.specs.Vouchers.{wanted_key};
-ghost use Rattle.dnsv_faults.specs.Vouchers.VoucherSearch.{AreKeysOfZone, wanted_of};
+ghost use Rattle.dnsv_zone_keys.specs.Vouchers.{wanted_key};
+ghost use Rattle.dnsv_zone_keys.specs.Vouchers.VoucherSearch.{AreKeysOfZone, wanted_of};
 
 use crate::case_facts::CaseFacts;
-use crate::vouchers::asked::Asked;
-use crate::vouchers::voucher_facts;
-use crate::vouchers::zone_keys::ZoneKeys;
 use dnsv_chain::Anchor;
 use dnsv_lines::{EntryNumber, KeyName};
 use dnsv_mending::VoucherFacts;
 use dnsv_names::Name;
+use dnsv_zone_keys::{Asked, ZoneKeys, voucher_facts};
 use std::alloc::{AllocError, Global};
 
 /// What is so of the trust anchors at just the zone, which has these keys.

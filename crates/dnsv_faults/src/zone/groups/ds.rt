@@ -5,13 +5,10 @@ ghost use Rattle.dnsv_records.specs.declared.ds.Ds.{Ds};
 ghost use Rattle.dnsv_verdict.specs.Case.{basis_by};
 ghost use Rattle.dnsv_faults.specs.Groups.{AreAllDsFacts};
 ghost use Rattle.dnsv_faults.specs.Groups.GroupSearch.{AddsDs, AreIgnoredTypes, AreRecordsKnown, HasStronger, IsDsNumber};
-ghost use Rattle.dnsv_faults.specs.Vouchers.VoucherSearch.{AreKeysOfZone};
+ghost use Rattle.dnsv_zone_keys.specs.Vouchers.VoucherSearch.{AreKeysOfZone};
 
 use crate::case_facts::CaseFacts;
 use crate::rrset::facts_of;
-use crate::vouchers::asked::Asked;
-use crate::vouchers::voucher_facts;
-use crate::vouchers::zone_keys::ZoneKeys;
 use dnsv_canonical::{RecordNumber, Rrset, in_canonical_order};
 use dnsv_chain::goes_before;
 use dnsv_digest::DigestAlgorithm;
@@ -19,6 +16,7 @@ use dnsv_lines::EntryNumber;
 use dnsv_mending::{DsFacts, VoucherFacts};
 use dnsv_names::{Name, RecordType};
 use dnsv_records::{DigestType, Ds};
+use dnsv_zone_keys::{Asked, ZoneKeys, voucher_facts};
 use std::alloc::{AllocError, Global};
 
 /// Which digest types are ignored in a DS RRset, since a record of it has a stronger one (RFC 4509 3).

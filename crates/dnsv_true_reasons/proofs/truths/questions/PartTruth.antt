@@ -19,7 +19,7 @@ use Rattle.dnsv_faults.specs.Zones.{AreZoneFacts}
 use Rattle.dnsv_faults.proofs.lemmas.zones.ClosedLemmas.{among_of, contains_of, off_by}
 use Rattle.dnsv_faults.proofs.lemmas.zones.InPlaceLemmas.{at_or_above}
 use Rattle.dnsv_faults.proofs.lemmas.zones.TrustLemmas.{number_of, numbered_among, signature_known, zip_left}
-use Rattle.dnsv_faults.proofs.lemmas.ZoneKeyLemmas.{same_number}
+use Rattle.dnsv_zone_keys.proofs.lemmas.ZoneKeyLemmas.{same_number}
 use Rattle.dnsv_gaps.specs.Asking.{Asking}
 use Rattle.dnsv_gaps.specs.Cases.{AreShowing, AreWildcardFacts, IsBestCover, IsSourceCase}
 use Rattle.dnsv_gaps.specs.Cases.AreShowing.{by_records, needless}

@@ -18,12 +18,12 @@ use Rattle.dnsv_canonical.specs.Rrsets.{IsNumbered, ReceivedRrset}
 use Rattle.dnsv_canonical.specs.SignedData.{signed_label_count}
 use Rattle.dnsv_canonical.proofs.LawLemmas.{first_appearances_members, signed_somehow}
 use Rattle.dnsv_canonical.proofs.OrderLemmas.{each_of}
-use Rattle.dnsv_faults.specs.Answers.{IsAnswered, IsKeyAnswer}
-use Rattle.dnsv_faults.specs.Keys.{AreStanding, IsKeyPlaced}
+use Rattle.dnsv_zone_keys.specs.Answers.{IsAnswered, IsKeyAnswer}
+use Rattle.dnsv_zone_keys.specs.Keys.{AreStanding, IsKeyPlaced}
 use Rattle.dnsv_faults.specs.Signatures.{AreSignatureFaults, IsMeant, IsSignatureAt, expired, not_yet}
 use Rattle.dnsv_faults.proofs.lemmas.zones.PlaceLemmas.{contains_at}
 use Rattle.dnsv_faults.proofs.lemmas.zones.TrustLemmas.{numbered_among}
-use Rattle.dnsv_faults.proofs.lemmas.ZoneKeyLemmas.{same_number}
+use Rattle.dnsv_zone_keys.proofs.lemmas.ZoneKeyLemmas.{same_number}
 use Rattle.dnsv_mending.specs.declared.facts.signature.KeyAnswer.TheVariants as said
 use Rattle.dnsv_mending.specs.declared.facts.signature.SignatureFaults.{SignatureFaults}
 use Rattle.dnsv_lines.specs.declared.line.fault.signature.SignatureTimes.{SignatureTimes}

@@ -6,7 +6,7 @@ use Rattle.dnsv_names.specs.Name.{Labels, SameName}
 use Rattle.dnsv_canonical.specs.Rdata.{IsWellFormed}
 use Rattle.dnsv_canonical.specs.Rrsets.{IsNumbered, ReceivedRrset}
 use Rattle.dnsv_canonical.proofs.OrderLemmas.{each_of}
-use Rattle.dnsv_faults.specs.Answers.{IsAnswered, IsKeyAnswer}
+use Rattle.dnsv_zone_keys.specs.Answers.{IsAnswered, IsKeyAnswer}
 use Rattle.dnsv_faults.specs.Dnskeys.{AreDnskeyFacts, AreHeldKeys, IsHeldKey, IsOwnSignature, signature_number}
 use Rattle.dnsv_faults.proofs.lemmas.zones.ClosedLemmas.{contains_of}
 use Rattle.dnsv_faults.proofs.lemmas.zones.TrustLemmas.{number_of, numbered_among}

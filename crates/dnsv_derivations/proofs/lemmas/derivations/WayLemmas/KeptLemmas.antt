@@ -1,15 +1,12 @@
 -- The first ways that are kept.
-use Rattle.std.proofs.Common.{◌≡◌, ◌≢◌, ◌<◌, ◌≤◌, ◌+◌, ◌-◌, ◌++◌, ◌∷◌, [], ℕ, List, Some, length, get_or, sym, ap, ◌∙◌, subst, ⊎_elim, arith}
+use Rattle.std.proofs.Common.{◌≡◌, ◌<◌, ◌≤◌, ◌+◌, ◌-◌, ◌++◌, ◌∷◌, [], ℕ, List, Some, length, get_or, sym, ap, ◌∙◌, subst, ⊎_elim, arith}
 use Rattle.std.proofs.lemmas.Bool.{cases_lt}
 use Rattle.std.proofs.lemmas.List.{get_or_append_left, length-append}
 use Rattle.std.proofs.Math.Seq.{get_or-append_seam}
 use Rattle.std.proofs.lemmas.Option.{get_or_from_slice_get, slice_get-get_or, slice_get_within}
-use Rattle.std.specs.List.{slice_get}
-use Rattle.dnsv_canonical.specs.Rrsets.{IsNumbered, ReceivedRrset}
 use Rattle.dnsv_derivations.specs.Explained.{Setting}
-use Rattle.dnsv_derivations.specs.derivations.WaySearch.{AreFirstWays, IsKeptWay, IsNoWay}
+use Rattle.dnsv_derivations.specs.derivations.WaySearch.{AreFirstWays, IsKeptWay}
 use Rattle.dnsv_derivations.specs.declared.derivations.ways.kept.KeptWay.{KeptWay}
-use Rattle.dnsv_derivations.proofs.lemmas.NumberedLemmas.{same_number}
 
 pub none_kept : (setting : Setting) → AreFirstWays setting []
 none_kept setting = λ k way numbered.
@@ -35,9 +32,3 @@ one_more_kept setting ways kept are is = λ k each numbered.
     let Is : KeptWay → Type 0 = λ x. IsKeptWay setting k x in
     subst Is same (subst Of number is))
     (cases_lt (k - 1) (length ways))
-
--- a way leads into a DNSKEY RRset
-pub no_way : (setting : Setting) (k : ℕ) (set : ReceivedRrset) → IsNumbered setting.rrsets k set → set.rtype ≢ 48 → IsNoWay setting k
-no_way setting k set numbered never = λ way is.
-    let same : is.set ≡ set = same_number setting.rrsets k is.set set is.good.is_rrset numbered in
-    never (sym (ap (λ (each : ReceivedRrset). each.rtype) same) ∙ is.stands.rtype)

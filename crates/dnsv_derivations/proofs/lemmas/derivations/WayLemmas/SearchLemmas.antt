@@ -1,5 +1,5 @@
 -- How the first way into a DNSKEY RRset is found: signatures and keys.
-use Rattle.std.proofs.Common.{◌≡◌, ◌≢◌, ◌<◌, ◌≤◌, ◌+◌, ◌-◌, ℕ, List, [], length, map, get_or, refl, sym, ap, ◌∙◌, subst, ⊎_elim, arith}
+use Rattle.std.proofs.Common.{◌≡◌, ◌≢◌, ◌<◌, ◌≤◌, ◌+◌, ◌-◌, ℕ, List, [], length, map, get_or, sym, ap, ◌∙◌, subst, ⊎_elim, arith}
 use Rattle.std.proofs.lemmas.Bool.{cases_lt}
 use Rattle.std.proofs.lemmas.Cmp.{nat_list_cmp_total, tied_itself}
 use Rattle.std.proofs.lemmas.List.{get_or-map, get_or_default, length-map}
@@ -20,12 +20,9 @@ use Rattle.dnsv_chain.proofs.SigningLemmas.{signature_at}
 use Rattle.dnsv_chain.proofs.ZipLemmas.{zip_length}
 use Rattle.dnsv_chain.specs.Trusted.{IsKeyOf}
 use Rattle.dnsv_derivations.specs.Explained.{IsTodo, Setting}
-use Rattle.dnsv_derivations.specs.Following.{IsGoodUnder, IsNamed}
-use Rattle.dnsv_lines.specs.declared.line.derivation.KeyName.{KeyName}
+use Rattle.dnsv_derivations.specs.Following.{IsGoodUnder}
 use Rattle.dnsv_lines.specs.declared.line.derivation.Todo.{Todo}
-use Rattle.dnsv_lines.specs.declared.line.derivation.Voucher.{Voucher}
-use Rattle.dnsv_derivations.specs.declared.derivations.ways.keys.GoodSignature.{GoodSignature}
-use Rattle.dnsv_derivations.specs.derivations.WaySearch.{AreKeysInOrder, IsFirstUnder, IsLowestGood, IsNoneTo, IsNoneYet, SignsAs, signature_of}
+use Rattle.dnsv_derivations.specs.derivations.WaySearch.{AreKeysInOrder, IsLowestGood, IsNoneTo, IsNoneYet, signature_of}
 
 -- ---- the signatures of an RRset, at their places
 
@@ -99,12 +96,6 @@ one_key set a b first second rdata =
     let dnskey : a.dnskey ≡ b.dnskey = one_dnskey b.rdata a.dnskey b.dnskey (subst Read rdata first.is) second.is in
     λ i. record { owner = owner i; rdata = rdata i; dnskey = dnskey i }
 
--- the same keys under another name
-pub same_keys : (set : ReceivedRrset) (keys items : List DnskeyRecord) → items ≡ keys → AreKeysInOrder set keys
-    → AreKeysInOrder set items
-same_keys set keys items same in_order =
-    let InOrder : List DnskeyRecord → Type 0 = λ each. AreKeysInOrder set each in subst InOrder (sym same) in_order
-
 -- what stands behind doesn't go before
 not_before : (xs : List (List ℕ)) (i j : ℕ) (d : List ℕ) → IsStrictlySortedBy rdata_cmp xs → i ≤ j → j < length xs
     → rdata_cmp (get_or xs j d) (get_or xs i d) ≢ Less
@@ -121,7 +112,14 @@ not_before xs i j d rising after within before =
     let itself : rdata_cmp (get_or xs j d) (get_or xs j d) ≡ Less = subst At (sym place) before in cc)
     (cases_lt i j)
 
-module _ (set : ReceivedRrset) (keys : List DnskeyRecord) (in_order : AreKeysInOrder set keys) (Such : DnskeyRecord → Type 0) where
+module _ {X : Type 0} (key_from : X → DnskeyRecord) (set : ReceivedRrset) (items : List X)
+    (in_order : AreKeysInOrder set (map key_from items)) (Such : DnskeyRecord → Type 0) where
+  abbrev keys : List DnskeyRecord
+  keys = map key_from items
+
+  many : length keys ≡ length items
+  many = length-map items key_from
+
   record PlaceOf (key : DnskeyRecord) : Type 0 where
     place : ℕ
     within : place < length keys
@@ -140,67 +138,46 @@ module _ (set : ReceivedRrset) (keys : List DnskeyRecord) (in_order : AreKeysInO
         is = one_key set (get_or keys there.0 key) key (in_order.each (get_or keys there.0 key) (Contains-get_or keys there.0 key within)) stands rdata;
       }
 
-  pub none_yet : IsNoneYet keys Such 0
-  none_yet = λ j d below within such. absurd (omega (arith, below))
-
-  pub none_more : (i : ℕ) (key : DnskeyRecord) → key ≡ get_or keys i key → ¬ Such key → IsNoneYet keys Such i
-      → IsNoneYet keys Such (i + 1)
-  none_more i key at never none = λ j d below within such. ⊎_elim
-      (λ (earlier : j < i). none j d earlier within such)
-      (λ (later : i ≤ j).
-      let place : j ≡ i = omega (arith, later, below) in
-      let same : get_or keys j d ≡ key = get_or_default keys j d key within ∙ ap (λ (p : ℕ). get_or keys p key) place ∙ sym at in
-      never (subst Such same such))
-      (cases_lt j i)
-
-  pub none_of_all : (n : ℕ) → length keys ≤ n → IsNoneYet keys Such n → (other : DnskeyRecord) → IsKeyOf set other → ¬ Such other
+  pub none_of_all : (n : ℕ) → length items ≤ n → IsNoneYet keys Such n → (other : DnskeyRecord) → IsKeyOf set other → ¬ Such other
   none_of_all n past none = λ other stands such.
       let at = place_of other stands in
       let within = at.within in
-      none at.place other (omega (arith, within, past)) at.within (subst Such (sym at.is) such)
+      none at.place other (omega (arith, within, many, past)) at.within (subst Such (sym at.is) such)
 
-  -- none that is such goes before the first that is
-  pub lowest_of_all : (i : ℕ) (key : DnskeyRecord) → i < length keys → key ≡ get_or keys i key → IsNoneYet keys Such i
-      → (other : DnskeyRecord) → IsKeyOf set other → Such other → rdata_cmp other.rdata key.rdata ≢ Less
-  lowest_of_all i key here is none other stands such before =
-      let at = place_of other stands in
-      ⊎_elim
-      (λ (earlier : at.place < i). none at.place other earlier at.within (subst Such (sym at.is) such))
-      (λ (later : i ≤ at.place).
-      let octets : DnskeyRecord → List ℕ = λ each. each.rdata in
-      let size : length (map octets keys) ≡ length keys = length-map keys octets in
-      let within = at.within in
-      let first : get_or (map octets keys) i [] ≡ key.rdata = get_or-map octets keys i key [] here ∙ ap octets (sym is) in
-      let second : get_or (map octets keys) at.place [] ≡ other.rdata = get_or-map octets keys at.place other [] at.within ∙ ap octets at.is in
-      let turned : rdata_cmp (get_or (map octets keys) at.place []) (get_or (map octets keys) i []) ≡ Less = cc in
-      not_before (map octets keys) i at.place [] in_order.canonical.rising later (omega (arith, within, size)) turned)
-      (cases_lt at.place i)
+  module _ (i : ℕ) (x : X) (key : DnskeyRecord) (within : i < length items) (at : x ≡ get_or items i x) (is : key ≡ key_from x) where
+    here : i < length keys
+    here = omega (arith, many, within)
 
-  pub stands_at : (i : ℕ) (key : DnskeyRecord) → i < length keys → key ≡ get_or keys i key → IsKeyOf set key
-  stands_at i key within at =
-      let Stands : DnskeyRecord → Type 0 = λ each. IsKeyOf set each in
-      subst Stands (sym at) (in_order.each (get_or keys i key) (Contains-get_or keys i key within))
+    at_place : get_or keys i key ≡ key
+    at_place = get_or-map key_from items i x key within ∙ ap key_from (sym at) ∙ sym is
 
--- the way by the first key that is such
-module _ (setting : Setting) (k : ℕ) (set : ReceivedRrset) (keys : List DnskeyRecord) (in_order : AreKeysInOrder set keys)
-    (Matches : DnskeyRecord → Type 0) where
-  abbrev Such : DnskeyRecord → Type 0
-  Such = SignsAs setting k set Matches
+    pub stands_at : IsKeyOf set key
+    stands_at =
+        subst (λ (each : DnskeyRecord). IsKeyOf set each) at_place (in_order.each (get_or keys i key) (Contains-get_or keys i key here))
 
-  pub way_not_by : (i : ℕ) (key : DnskeyRecord) → key ≡ get_or keys i key
-      → ((s : ℕ) → Matches key → ¬ IsGoodUnder setting (signature_of k s) set key)
-      → IsNoneYet keys Such i → IsNoneYet keys Such (i + 1)
-  way_not_by i key at never none = none_more set keys in_order Such i key at (λ such. never such.0 such.1 such.2) none
+    pub none_more : ¬ Such key → IsNoneYet keys Such i → IsNoneYet keys Such (i + 1)
+    none_more never none = λ j d below inside such. ⊎_elim
+        (λ (earlier : j < i). none j d earlier inside such)
+        (λ (later : i ≤ j).
+        let place : j ≡ i = omega (arith, later, below) in
+        let same : get_or keys j d ≡ key = get_or_default keys j d key inside ∙ ap (λ (p : ℕ). get_or keys p key) place ∙ at_place in
+        never (subst Such same such))
+        (cases_lt j i)
 
-  pub way_under : (i : ℕ) (key : DnskeyRecord) (voucher : Voucher) (name : KeyName) (s : GoodSignature) → i < length keys → key ≡ get_or keys i key
-      → IsNoneYet keys Such i → Matches key → IsNamed key name → IsLowestGood setting k set key s
-      → IsFirstUnder setting k set Matches voucher (record { voucher = voucher; key = name; signature = s })
-  way_under i key voucher name s within at none matched named good = record {
-    voucher_is = refl;
-    key = key;
-    named = named;
-    stands = stands_at set keys in_order Such i key within at;
-    matched = matched;
-    good = good;
-    lowest = lowest_of_all set keys in_order Such i key within at none;
-  }
+    -- none that is such goes before the first that is
+    pub lowest_of_all : IsNoneYet keys Such i → (other : DnskeyRecord) → IsKeyOf set other → Such other
+        → rdata_cmp other.rdata key.rdata ≢ Less
+    lowest_of_all none other stands such before =
+        let there = place_of other stands in
+        ⊎_elim
+        (λ (earlier : there.place < i). none there.place other earlier there.within (subst Such (sym there.is) such))
+        (λ (later : i ≤ there.place).
+        let octets : DnskeyRecord → List ℕ = λ each. each.rdata in
+        let size : length (map octets keys) ≡ length keys = length-map keys octets in
+        let inside = there.within in
+        let first : get_or (map octets keys) i [] ≡ key.rdata = get_or-map octets keys i key [] here ∙ ap octets at_place in
+        let second : get_or (map octets keys) there.place [] ≡ other.rdata =
+        get_or-map octets keys there.place other [] there.within ∙ ap octets there.is in
+        let turned : rdata_cmp (get_or (map octets keys) there.place []) (get_or (map octets keys) i []) ≡ Less = cc in
+        not_before (map octets keys) i there.place [] in_order.canonical.rising later (omega (arith, inside, size)) turned)
+        (cases_lt there.place i)

@@ -1,12 +1,9 @@
 -- The keys of a DNSKEY RRset, with how they sign it.
-use Rattle.std.proofs.Common.{◌≡◌, ◌<◌, ◌≤◌, ◌+◌, ◌∷◌, ◌++◌, [], ℕ, List, length, map, get_or, take, refl, sym, ap, ◌∙◌, subst, arith}
-use Rattle.std.proofs.lemmas.List.{get_or-map, length-map, map-append, take_more}
+use Rattle.std.proofs.Common.{◌≡◌, ◌<◌, ◌≤◌, ◌+◌, ◌∷◌, ◌++◌, [], ℕ, List, length, map, get_or, take, refl, sym, ap, ◌∙◌, subst}
+use Rattle.std.proofs.lemmas.List.{map-append, take_more}
 use Rattle.std.specs.List.{AllByRecursion}
 use Rattle.dnsv_canonical.specs.Rrsets.{ReceivedRrset}
-use Rattle.dnsv_chain.specs.Ds.{IsMatch}
-use Rattle.dnsv_names.specs.Name.{Labels, SameName}
 use Rattle.dnsv_names.specs.PartLaws.{recursion-append}
-use Rattle.dnsv_records.specs.declared.ds.Ds.{Ds}
 use Rattle.dnsv_verifier.specs.Admissible.{DnskeyRecord}
 use Rattle.dnsv_derivations.specs.Explained.{Setting}
 use Rattle.dnsv_derivations.specs.Following.{IsGoodUnder, IsNamed}
@@ -17,27 +14,10 @@ use Rattle.dnsv_derivations.specs.declared.derivations.ways.keys.SetKey.{SetKey}
 use Rattle.dnsv_lines.specs.declared.line.derivation.KeyName.{KeyName}
 use Rattle.dnsv_lines.specs.declared.line.derivation.Voucher.{Voucher}
 use Rattle.dnsv_derivations.proofs.lemmas.derivations.WayLemmas.KeysLemmas.{each_at}
-use Rattle.dnsv_derivations.proofs.lemmas.derivations.WayLemmas.SearchLemmas.{none_of_all, none_yet, way_not_by, way_under}
+use Rattle.dnsv_derivations.proofs.lemmas.derivations.WayLemmas.SearchLemmas.{lowest_of_all, none_more, none_of_all, stands_at}
 
 abbrev pub key_in : SetKey → DnskeyRecord
 key_in each = each.key.now
-
--- a DS record of the key's owner matches, and the owner is this one
-pub ds_match : (owner : Labels) (ds : Ds) (key : DnskeyRecord) → IsMatch key.owner ds key → SameName owner key.owner → IsMatch owner ds key
-ds_match owner ds key is same = record {
-  same_owner = same;
-  algorithm = is.algorithm;
-  key_tag = is.key_tag;
-  digest = is.digest;
-}
-
-pub ds_match_itself : (owner : Labels) (ds : Ds) (key : DnskeyRecord) → IsMatch owner ds key → IsMatch key.owner ds key
-ds_match_itself owner ds key is = ds_match key.owner ds key (record {
-  same_owner = refl;
-  algorithm = is.algorithm;
-  key_tag = is.key_tag;
-  digest = is.digest;
-}) refl
 
 module _ (setting : Setting) (set : KeySet) (is : IsKeySet setting set) (items : List SetKey) (same : items ≡ set.keys.items)
     (Matches : DnskeyRecord → Type 0) where
@@ -49,36 +29,33 @@ module _ (setting : Setting) (set : KeySet) (is : IsKeySet setting set) (items :
       let InOrder : List SetKey → Type 0 = λ all. AreKeysInOrder set.rrset.now (map key_in all) in
       subst InOrder (sym same) is.in_order
 
-  key_there : (i : ℕ) (x : SetKey) → i < length items → x ≡ get_or items i x → key_in x ≡ get_or (map key_in items) i (key_in x)
-  key_there i x within at = ap key_in at ∙ sym (get_or-map key_in items i x (key_in x) within)
-
   pub set_key_at : (i : ℕ) (x : SetKey) → i < length items → x ≡ get_or items i x → IsSetKey setting set.number set.rrset.now x
   set_key_at i x within at =
       let All : List SetKey → Type 0 = λ all. AllByRecursion (IsSetKey setting set.number set.rrset.now) all in
       each_at (IsSetKey setting set.number set.rrset.now) items i x (subst All (sym same) is.each) within at
 
-  pub set_begin : IsNoneYet (map key_in items) Such 0
-  set_begin = none_yet set.rrset.now (map key_in items) in_order Such
-
   pub set_more : (i : ℕ) (x : SetKey) → i < length items → x ≡ get_or items i x
       → ((s : ℕ) → Matches (key_in x) → ¬ IsGoodUnder setting (signature_of set.number s) set.rrset.now (key_in x))
       → IsNoneYet (map key_in items) Such i → IsNoneYet (map key_in items) Such (i + 1)
-  set_more i x within at never none =
-      way_not_by setting set.number set.rrset.now (map key_in items) in_order Matches i (key_in x) (key_there i x within at) never none
+  set_more i x within at never =
+      none_more key_in set.rrset.now items in_order Such i x (key_in x) within at refl (λ such. never such.0 such.1 such.2)
 
   pub set_found : (i : ℕ) (x : SetKey) (voucher : Voucher) (name : KeyName) (s : GoodSignature) → i < length items
       → x ≡ get_or items i x → IsNoneYet (map key_in items) Such i → IsNamed (key_in x) name
       → Matches (key_in x) × IsLowestGood setting set.number set.rrset.now (key_in x) s
       → IsFirstUnder setting set.number set.rrset.now Matches voucher (record { voucher = voucher; key = name; signature = s })
-  set_found i x voucher name s within at none named found =
-      let size = length-map items key_in in
-      way_under setting set.number set.rrset.now (map key_in items) in_order Matches i (key_in x) voucher name s
-      (omega (arith, size, within)) (key_there i x within at) none found.0 named found.1
+  set_found i x voucher name s within at none named found = record {
+    voucher_is = refl;
+    key = key_in x;
+    named = named;
+    stands = stands_at key_in set.rrset.now items in_order Such i x (key_in x) within at refl;
+    matched = found.0;
+    good = found.1;
+    lowest = lowest_of_all key_in set.rrset.now items in_order Such i x (key_in x) within at refl none;
+  }
 
   pub set_none : (n : ℕ) → length items ≤ n → IsNoneYet (map key_in items) Such n → IsNoneUnder setting set.number set.rrset.now Matches
-  set_none n past none =
-      let size = length-map items key_in in
-      none_of_all set.rrset.now (map key_in items) in_order Such n (omega (arith, size, past)) none
+  set_none = none_of_all key_in set.rrset.now items in_order Such
 
 -- ---- how they are made
 

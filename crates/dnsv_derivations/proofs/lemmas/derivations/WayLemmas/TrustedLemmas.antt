@@ -26,7 +26,7 @@ use Rattle.dnsv_derivations.proofs.lemmas.NumberedLemmas.{same_number}
 use Rattle.dnsv_derivations.proofs.lemmas.derivations.WayLemmas.{way_leads}
 use Rattle.dnsv_lines.specs.declared.line.derivation.Voucher.{Voucher}
 use Rattle.dnsv_lines.specs.declared.line.derivation.Voucher.TheVariants as voucher
-use Rattle.dnsv_derivations.proofs.lemmas.derivations.WayLemmas.RankLemmas.{ds_forms}
+use Rattle.dnsv_derivations.proofs.lemmas.derivations.WayLemmas.RankLemmas.{own_forms}
 
 -- what is a member has a number
 pub record HasNumber {X : Type 0} (xs : List X) (x : X) : Type 0 where
@@ -125,11 +125,9 @@ module _ (setting : Setting) where
       let r = number_of setting.rrsets ds among in
       let good = good_number r.number ds above r.is signed in
       let read = read_of ds.rdata delegates.records delegates.usable.ds delegates.read delegates.usable.among in
-      let forms : map (canonical_form ds.rtype) ds.rdata ≡ ds.rdata =
-      ap (λ (t : ℕ). map (canonical_form t) ds.rdata) delegates.rtype ∙ ds_forms ds.rdata in
       let canonical = canonical_some (map (canonical_form ds.rtype) ds.rdata) in
       let Received : List (List ℕ) → Type 0 = λ all. Contains all read.octets in
-      let p = number_of canonical.0 read.octets ((canonical.1.members read.octets).1 (subst Received (sym forms) read.among)) in
+      let p = number_of canonical.0 read.octets ((canonical.1.members read.octets).1 (subst Received (sym (own_forms ds delegates.rtype)) read.among)) in
       way_of k set key numbered signs (voucher.Ds (record { rrset = r.number; place = p.number }) delegates.usable.ds.digest_type) (
         record {
           rrset = ds;

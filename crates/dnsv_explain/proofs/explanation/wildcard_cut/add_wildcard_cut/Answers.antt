@@ -1,8 +1,3 @@
-use Rattle.std.proofs.Common.{subst, sym}
-use Rattle.dnsv_names.specs.Name.{Labels}
-use Rattle.dnsv_derivations.specs.Explained.{setting_in}
-use Rattle.dnsv_derivations.specs.unsigned_cuts.ShownCuts.{IsShownUnsigned}
-use Rattle.dnsv_lines.specs.declared.line.cut.InsecureCase.TheVariants as case
 use Rattle.dnsv_explain.proofs.lemmas.telling.TellLemmas.{covered_there, its_secured, open_added, open_shown, open_there}
 use Rattle.dnsv_explain.proofs.explanation.wildcard_cut.add_wildcard_cut.Goals as goal
 
@@ -27,27 +22,19 @@ add_derivation-requires c =
     c.args.at.now.name.now c.requires.view c.args.rtype.0
     found.rrset found.signature c.in-Some.ensures.0 found.rrsig.now c.in-Some.ensures.1
 
-pub add_unsigned-requires : goal.add_unsigned-requires
-add_unsigned-requires c =
+pub add_denial-requires : goal.add_denial-requires
+add_denial-requires c =
     let found = c.in-Some.found in
-    let shown = c.in-Some-shown_loose_closer.shown in
-    let At : Labels → Type 0 = λ at. IsShownUnsigned (setting_in c.args.evidence.now) c.args.at.now.name.now shown case.OptOutWildcard at in
-    let is =
     open_shown c.args.at.now.case.now c.args.evidence.now c.requires.at.evidence c.requires.at.trust c.args.view.now
     c.args.at.now.name.now c.requires.view c.args.rtype.0
-    found.rrset found.signature c.in-Some.ensures.0 found.rrsig.now c.in-Some.ensures.1 shown (rw c.to_name.ensures at c.in-Some-shown_loose_closer.ensures) in
-    subst At (sym (c.of-cut.ensures.value is.0)) is.1
+    found.rrset found.signature c.in-Some.ensures.0 found.rrsig.now c.in-Some.ensures.1 c.in-Some-shown_loose_closer.shown
+    (rw c.to_name.ensures at c.in-Some-shown_loose_closer.ensures)
 
 pub returns : goal.returns
 returns c =
     let found = c.in-Some.found in
-    let shown = c.in-Some-shown_loose_closer.shown in
-    let is =
-    open_shown c.args.at.now.case.now c.args.evidence.now c.requires.at.evidence c.requires.at.trust c.args.view.now
-    c.args.at.now.name.now c.requires.view c.args.rtype.0
-    found.rrset found.signature c.in-Some.ensures.0 found.rrsig.now c.in-Some.ensures.1 shown (rw c.to_name.ensures at c.in-Some-shown_loose_closer.ensures) in
     open_added c.args.at.now.case.now c.args.evidence.now c.requires.at.evidence c.requires.at.trust c.args.view.now
     c.args.at.now.name.now c.requires.view c.args.rtype.0
-    found.rrset found.signature c.in-Some.ensures.0 found.rrsig.now c.in-Some.ensures.1 shown c.of-cut.result c.args.lines.now.items _ _
-    (rw c.to_name.ensures at c.in-Some-shown_loose_closer.ensures) c.requires.none (c.of-cut.ensures.value is.0) c.in_ok-add_derivation.ensures
-    c.in_ok-add_unsigned.ensures
+    found.rrset found.signature c.in-Some.ensures.0 found.rrsig.now c.in-Some.ensures.1 c.in-Some-shown_loose_closer.shown
+    c.args.lines.now.items _ _ (rw c.to_name.ensures at c.in-Some-shown_loose_closer.ensures) c.requires.none
+    c.in_ok-add_derivation.ensures c.in_ok-add_denial.ensures

@@ -1,6 +1,6 @@
 use Rattle.std.proofs.Common.{subst}
 use Rattle.dnsv_verdict.specs.Case.{CaseContents}
-use Rattle.dnsv_faults.specs.Keys.KeySearch.{AreNamedOf}
+use Rattle.dnsv_zone_keys.specs.Keys.KeySearch.{AreNamedOf}
 use Rattle.dnsv_faults.proofs.case_facts.CaseFacts.named_by.Goals as goal
 
 pub returns : goal.returns

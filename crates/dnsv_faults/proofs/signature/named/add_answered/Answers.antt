@@ -4,10 +4,10 @@ use Rattle.dnsv_verifier.specs.Admissible.{DnskeyRecord}
 use Rattle.dnsv_verifier.specs.Asking.{GivesMore}
 use Rattle.dnsv_verifier.specs.Table.{table_answer}
 use Rattle.dnsv_verifier.proofs.NumberedLemmas.{gives_pushed}
-use Rattle.dnsv_faults.specs.Answers.AnswerSearch.{IsSaidOf}
-use Rattle.dnsv_faults.specs.Answers.{IsKeyAnswer}
-use Rattle.dnsv_faults.specs.Keys.Index.{Placed}
-use Rattle.dnsv_faults.specs.Keys.{IsZoneKey}
+use Rattle.dnsv_zone_keys.specs.Answers.AnswerSearch.{IsSaidOf}
+use Rattle.dnsv_zone_keys.specs.Answers.{IsKeyAnswer}
+use Rattle.dnsv_zone_keys.specs.Keys.Index.{Placed}
+use Rattle.dnsv_zone_keys.specs.Keys.{IsZoneKey}
 use Rattle.dnsv_faults.proofs.signature.named.add_answered.Goals as goal
 
 pub returns : goal.returns

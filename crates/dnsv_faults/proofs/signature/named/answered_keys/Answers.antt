@@ -3,9 +3,9 @@ use Rattle.dnsv_mending.specs.declared.facts.signature.NamedKey.{NamedKey}
 use Rattle.dnsv_verifier.specs.Asking.{GivesEach}
 use Rattle.dnsv_verifier.specs.Table.{table_answer}
 use Rattle.dnsv_verifier.proofs.NumberedLemmas.{each_all, each_more, each_none}
-use Rattle.dnsv_faults.specs.Answers.AnswerSearch.{IsSaidOf}
-use Rattle.dnsv_faults.specs.Keys.Index.{Placed}
-use Rattle.dnsv_faults.specs.Keys.{IsZoneKey}
+use Rattle.dnsv_zone_keys.specs.Answers.AnswerSearch.{IsSaidOf}
+use Rattle.dnsv_zone_keys.specs.Keys.Index.{Placed}
+use Rattle.dnsv_zone_keys.specs.Keys.{IsZoneKey}
 use Rattle.dnsv_faults.proofs.signature.named.answered_keys.Goals as goal
 
 pub loop-placed-init : goal.loop-placed-init

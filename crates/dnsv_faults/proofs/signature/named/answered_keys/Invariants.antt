@@ -1,8 +1,8 @@
 use Rattle.std.proofs.Common.{take}
 use Rattle.dnsv_verifier.specs.Asking.{GivesEach}
 use Rattle.dnsv_verifier.specs.Table.{table_answer}
-use Rattle.dnsv_faults.specs.Answers.AnswerSearch.{IsSaidOf}
-use Rattle.dnsv_faults.specs.Keys.{IsZoneKey}
+use Rattle.dnsv_zone_keys.specs.Answers.AnswerSearch.{IsSaidOf}
+use Rattle.dnsv_zone_keys.specs.Keys.{IsZoneKey}
 use Rattle.dnsv_faults.proofs.signature.named.answered_keys.Given as goal
 
 -- those of the keys so far

@@ -2,9 +2,9 @@ use Rattle.std.proofs.Common.{subst}
 use Rattle.dnsv_verdict.specs.Case.{basis_by}
 use Rattle.dnsv_verifier.specs.Asking.{GivesEach}
 use Rattle.dnsv_verifier.specs.Table.{TableContents, table_answer}
-use Rattle.dnsv_faults.specs.Answers.AnswerSearch.{IsSaidOf}
-use Rattle.dnsv_faults.specs.Keys.Index.{Placed}
-use Rattle.dnsv_faults.specs.Keys.{IsZoneKey}
+use Rattle.dnsv_zone_keys.specs.Answers.AnswerSearch.{IsSaidOf}
+use Rattle.dnsv_zone_keys.specs.Keys.Index.{Placed}
+use Rattle.dnsv_zone_keys.specs.Keys.{IsZoneKey}
 use Rattle.dnsv_faults.proofs.lemmas.NamedLemmas.{named_are}
 use Rattle.dnsv_faults.proofs.signature.named.named_keys.Goals as goal
 

@@ -1,6 +1,6 @@
 use Rattle.std.proofs.Common.{List, sym, subst}
 use Rattle.dnsv_faults.specs.Dnskeys.DnskeySearch.{HasTrusting, basis_of_set}
-use Rattle.dnsv_faults.specs.Keys.Index.{Placed}
+use Rattle.dnsv_zone_keys.specs.Keys.Index.{Placed}
 use Rattle.dnsv_faults.proofs.lemmas.zones.OwnLemmas.{trusted_is}
 use Rattle.dnsv_faults.proofs.lemmas.zones.TrustLemmas.{numbered_among}
 use Rattle.dnsv_faults.proofs.zone.dnskeys.is_trusted.Goals as goal

@@ -5,7 +5,7 @@ use Rattle.std.specs.List.Sorted.{IsPartitionedBy, IsPartitionPoint}
 use Rattle.std.specs.Prelude.{nat_le, nat_lt}
 use Rattle.dnsv_faults.specs.Zones.HolderSearch.{AreOfKey, key_of}
 use Rattle.dnsv_faults.specs.declared.zone.holders.Holding.{Holding}
-use Rattle.dnsv_faults.proofs.lemmas.TagLemmas.{le_parts, lt_parts, tagged_all, tagged_among, tagged_its}
+use Rattle.dnsv_zone_keys.proofs.lemmas.TagLemmas.{le_parts, lt_parts, tagged_all, tagged_among, tagged_its}
 use Rattle.dnsv_faults.proofs.zone.holders.of_key.Goals as goal
 
 pub returns : goal.returns

@@ -3,7 +3,7 @@ use Rattle.std.proofs.lemmas.Fn.{always_returns_same}
 use Rattle.std.proofs.lemmas.List.Elements.{Contains-get_or}
 use Rattle.std.specs.Prelude.{Contains}
 use Rattle.dnsv_canonical.specs.Canonical.{rdata_cmp}
-use Rattle.dnsv_faults.specs.Keys.Index.{Placed}
+use Rattle.dnsv_zone_keys.specs.Keys.Index.{Placed}
 use Rattle.dnsv_faults.proofs.lemmas.zones.FindLemmas.{missed, tied}
 use Rattle.dnsv_faults.proofs.zone.keyed.find.Goals as goal
 

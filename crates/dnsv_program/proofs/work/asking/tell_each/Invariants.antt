@@ -7,7 +7,9 @@ use Rattle.dnsv_program.proofs.AskingLemmas.Steps.{ToldSoFar}
 use Rattle.dnsv_program.proofs.work.asking.tell_each.Given as goal
 
 abbrev pub invariant-loop-question : goal.invariant-loop-question
-invariant-loop-question g l = ((basis : Basis) → IsCaseOf basis (case_of l.fn.judge) → l.fn.rrsets ≡ basis.rrsets → basis.moment ≡ l.fn.moment
-    → ToldSoFar l.fn.telling.format l.fn.telling.why l.fn.numbers basis l.fn.questions l.question-index l.end (g.W.Write.contents (inner_of l.fn.output))
+invariant-loop-question g l = ((basis : Basis) → IsCaseOf basis (case_of l.fn.judge) → l.fn.reporting.rrsets.now ≡ basis.rrsets
+    → basis.moment ≡ l.fn.reporting.moment
+    → ToldSoFar l.fn.reporting.telling.format l.fn.reporting.telling.why l.fn.reporting.numbers.now basis l.fn.questions l.question-index l.end
+    (g.W.Write.contents (inner_of l.fn.output))
     (g.W.Write.contents (inner_of l.output)))
     × (failures_of l.output ≡ failures_of l.fn.output) × (l.judge ≡ l.fn.judge)

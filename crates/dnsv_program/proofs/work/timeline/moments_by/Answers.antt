@@ -1,4 +1,4 @@
-use Rattle.std.proofs.Common.{refl}
+use Rattle.std.proofs.Common.{◌∙◌}
 use Rattle.std.proofs.lemmas.Result.{err_from_is_err_and}
 use Rattle.dnsv_answers.specs.AnswerFile.{answers_in}
 use Rattle.dnsv_answers.specs.declared.heading.Moments.TheVariants.{Between}
@@ -22,12 +22,13 @@ returns-in_ok-table-in-Answers-clause-known c =
     let is = c.of.ensures.of in
     known_answered (λ meaning. AreMomentsBy given.held.rrsets given.anchors c.args.range.from c.args.range.to meaning c.of.result)
     (Between c.args.range.from c.args.range.to) given.held.rrsets given.said c.in-Answers.answers table c.in-Answers.is c.in_ok-table-in-Answers.ensures.table
-    (record { evidence = is.evidence; given = is.given; first = is.first; last = is.last; said = c.of.ensures.by (table_answer table) within })
+    (record { evidence = is.evidence ∙ within.of_rrsets; given = is.given; first = is.first; last = is.last; said = c.of.ensures.by (table_answer table) given.held.rrsets within })
 
 pub of-requires : goal.of-requires
 of-requires c =
     let table = c.in_ok-table-in-Answers.table in
-    (table_answer table, answered_within c.args.range.from c.args.range.to c.args.given.now.held.rrsets (answers_in c.in-Answers.answers) table c.in_ok-table-in-Answers.ensures.table)
+    let rrsets = c.args.given.now.held.rrsets in
+    (table_answer table, rrsets, answered_within c.args.range.from c.args.range.to rrsets (answers_in c.in-Answers.answers) table c.in_ok-table-in-Answers.ensures.table)
 
 pub returns-in_err-table-in-Answers-clause-fault : goal.returns-in_err-table-in-Answers-clause-fault
 returns-in_err-table-in-Answers-clause-fault c =

@@ -2,7 +2,8 @@ use Rattle.std.proofs.lemmas.Option.{MatchOption-at_none, MatchOption-at_some}
 use Rattle.std.proofs.Common.{◌+◌}
 use Rattle.dnsv_derivations.specs.Explained.{setting_in}
 use Rattle.dnsv_derivations.proofs.lemmas.NumberedLemmas.{all_passed, numbered_at}
-use Rattle.dnsv_derivations.proofs.lemmas.derivations.WayLemmas.RankLemmas.{anchor_found, anchors_begin, anchors_end, anchors_more}
+use Rattle.dnsv_derivations.proofs.lemmas.derivations.WayLemmas.FirstLemmas.{found_first}
+use Rattle.dnsv_derivations.proofs.lemmas.derivations.WayLemmas.RankLemmas.{anchor_told, anchors_begin, anchors_end, none_there}
 use Rattle.dnsv_derivations.proofs.derivations.ways.by_anchor.way_by_anchor.Goals as goal
 
 pub loop-place-init : goal.loop-place-init
@@ -10,16 +11,21 @@ loop-place-init c = anchors_begin (setting_in c.args.evidence.now) c.args.set.no
 
 pub loop-place-preserved : goal.loop-place-preserved
 loop-place-preserved c =
-    anchors_more (setting_in c.args.evidence.now) c.args.set.now.number c.args.set.now.rrset.now c.requires.numbered (c.loop-place.place + 1) c.anchor-item.result
+    none_there (setting_in c.args.evidence.now) c.args.set.now.number c.args.set.now.rrset.now c.requires.numbered 0 (c.loop-place.place + 1)
+    c.voucher_of-voucher.result _
+    (anchor_told (setting_in c.args.evidence.now) (c.loop-place.place + 1) c.anchor-item.result c.voucher_of-voucher.result
     (numbered_at c.args.evidence.now.anchors c.anchors-anchor-items.result.now c.loop-place.place c.anchor-item.result
-    c.anchors-anchor-items.ensures c.loop-place-test.true c.anchor-item.is) c.loop-place.invariant (MatchOption-at_none _ _ c.in_default.is (c.way_with.ensures (setting_in c.args.evidence.now) c.requires))
+    c.anchors-anchor-items.ensures c.loop-place-test.true c.anchor-item.is) c.voucher_of-voucher.ensures)
+    (MatchOption-at_none _ _ c.in_default.is (c.way_with.ensures (setting_in c.args.evidence.now) c.requires)) c.loop-place.invariant
 
 pub returns-in-Some : goal.returns-in-Some
 returns-in-Some c =
-    anchor_found (setting_in c.args.evidence.now) c.args.set.now.number c.args.set.now.rrset.now c.requires.numbered (c.loop-place.place + 1) c.anchor-item.result
-    c.voucher_of-voucher.result c.in-Some.way
+    found_first (setting_in c.args.evidence.now) c.args.set.now.number c.args.set.now.rrset.now c.requires.numbered 0 (c.loop-place.place + 1)
+    c.voucher_of-voucher.result _ c.in-Some.way
+    (anchor_told (setting_in c.args.evidence.now) (c.loop-place.place + 1) c.anchor-item.result c.voucher_of-voucher.result
     (numbered_at c.args.evidence.now.anchors c.anchors-anchor-items.result.now c.loop-place.place c.anchor-item.result
-    c.anchors-anchor-items.ensures c.loop-place-test.true c.anchor-item.is) c.voucher_of-voucher.ensures c.loop-place.invariant (MatchOption-at_some _ _ c.in-Some.way c.in-Some.is (c.way_with.ensures (setting_in c.args.evidence.now) c.requires))
+    c.anchors-anchor-items.ensures c.loop-place-test.true c.anchor-item.is) c.voucher_of-voucher.ensures)
+    c.loop-place.invariant (MatchOption-at_some _ _ c.in-Some.way c.in-Some.is (c.way_with.ensures (setting_in c.args.evidence.now) c.requires))
 
 pub returns : goal.returns
 returns c =

@@ -4,4 +4,4 @@ use Rattle.dnsv_derivations.specs.derivations.WaySearch.{IsNoWayBefore}
 use Rattle.dnsv_derivations.proofs.derivations.ways.by_anchor.way_by_anchor.Given as goal
 
 abbrev pub invariant-loop-place : goal.invariant-loop-place
-invariant-loop-place l = IsNoWayBefore (setting_in l.evidence) l.set.number (0, l.place + 1, 0)
+invariant-loop-place l = IsNoWayBefore (setting_in l.evidence) l.set.number 0 (l.place + 1)

@@ -5,4 +5,4 @@ use Rattle.dnsv_derivations.proofs.derivations.ways.by_ds.way_by_ds.Given as goa
 -- no way goes before the RRset that is next
 abbrev pub invariant-loop-number : goal.invariant-loop-number
 invariant-loop-number l =
-    IsNoWayBefore (setting_in l.evidence) l.set.number (1, number_or_end l.evidence.rrsets l.number-items l.number-index, 0)
+    IsNoWayBefore (setting_in l.evidence) l.set.number (number_or_end l.evidence.rrsets l.number-items l.number-index) 0

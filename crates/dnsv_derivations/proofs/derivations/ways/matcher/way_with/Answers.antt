@@ -1,11 +1,11 @@
+use Rattle.std.proofs.Common.{arith}
 use Rattle.std.proofs.lemmas.Option.{MatchOption-at_none, MatchOption-at_some}
 use Rattle.dnsv_derivations.specs.derivations.WaySearch.{MatchesBy}
-use Rattle.dnsv_derivations.proofs.lemmas.derivations.WayLemmas.SetLemmas.{set_begin, set_found, set_key_at, set_more, set_none}
+use Rattle.dnsv_derivations.proofs.lemmas.derivations.WayLemmas.SetLemmas.{set_found, set_key_at, set_more, set_none}
 use Rattle.dnsv_derivations.proofs.derivations.ways.matcher.way_with.Goals as goal
 
 pub loop-each-init : goal.loop-each-init
-loop-each-init c = λ setting is.
-    set_begin setting c.args.set.now is c.deref-each-items.result.now c.deref-each-items.ensures.value (MatchesBy c.args.matcher)
+loop-each-init c = λ setting is j d below within such. absurd (omega (arith, below))
 
 pub loop-each-preserved : goal.loop-each-preserved
 loop-each-preserved c = λ setting is.

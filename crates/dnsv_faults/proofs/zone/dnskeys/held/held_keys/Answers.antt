@@ -5,7 +5,7 @@ use Rattle.std.specs.Prelude.{Contains}
 use Rattle.dnsv_mending.specs.declared.facts.keys.HeldKey.{HeldKey}
 use Rattle.dnsv_faults.specs.Dnskeys.{AreHeldKeys}
 use Rattle.dnsv_faults.specs.Dnskeys.DnskeySearch.{basis_of_set, rdata_of}
-use Rattle.dnsv_faults.specs.Keys.Index.{Placed}
+use Rattle.dnsv_zone_keys.specs.Keys.Index.{Placed}
 use Rattle.dnsv_faults.proofs.lemmas.zones.DnskeyLemmas.{held_next}
 use Rattle.dnsv_faults.proofs.zone.dnskeys.held.held_keys.Goals as goal
 

@@ -1,7 +1,7 @@
 use Rattle.std.proofs.Common.{ℕ, refl, ap, ◌∙◌, subst}
 use Rattle.dnsv_verifier.specs.Admissible.{DnskeyRecord}
 use Rattle.dnsv_verifier.specs.Table.{TableContents, table_answer}
-use Rattle.dnsv_faults.specs.Answers.{IsKeyAnswer}
+use Rattle.dnsv_zone_keys.specs.Answers.{IsKeyAnswer}
 use Rattle.dnsv_faults.specs.Signatures.{AreSignatureFaults}
 use Rattle.dnsv_faults.proofs.zone.dnskeys.held.self_signature.Goals as goal
 

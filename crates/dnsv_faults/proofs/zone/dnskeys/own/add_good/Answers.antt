@@ -5,7 +5,7 @@ use Rattle.dnsv_verifier.specs.Admissible.{DnskeyRecord, IsGood}
 use Rattle.dnsv_verifier.specs.Asking.{GivesMore}
 use Rattle.dnsv_verifier.specs.Table.{table_answer}
 use Rattle.dnsv_faults.specs.Dnskeys.DnskeySearch.{HasFound, IsFoundPlace}
-use Rattle.dnsv_faults.specs.Keys.Index.{Placed}
+use Rattle.dnsv_zone_keys.specs.Keys.Index.{Placed}
 use Rattle.dnsv_faults.proofs.zone.dnskeys.own.add_good.Goals as goal
 
 pub returns-in_default : goal.returns-in_default

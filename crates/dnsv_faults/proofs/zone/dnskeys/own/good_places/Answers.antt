@@ -4,7 +4,7 @@ use Rattle.dnsv_verifier.proofs.NumberedLemmas.{each_all, each_more, each_none}
 use Rattle.dnsv_verifier.specs.Admissible.{DnskeyRecord, IsGood}
 use Rattle.dnsv_verifier.specs.Asking.{GivesEach}
 use Rattle.dnsv_verifier.specs.Table.{TableContents, table_answer}
-use Rattle.dnsv_faults.specs.Answers.AnswerSearch.{IsAskedOf}
+use Rattle.dnsv_zone_keys.specs.Answers.AnswerSearch.{IsAskedOf}
 use Rattle.dnsv_faults.specs.Dnskeys.DnskeySearch.{HasFound, IsFoundPlace, basis_in}
 use Rattle.dnsv_faults.proofs.lemmas.zones.OwnLemmas.{good_are}
 use Rattle.dnsv_faults.proofs.lemmas.zones.PlaceLemmas.{key_records}

@@ -3,9 +3,9 @@ use Rattle.dnsv_mending.specs.declared.facts.signature.KeyAnswer.{KeyAnswer}
 use Rattle.dnsv_mending.specs.declared.facts.signature.KeyAnswer.TheVariants as said
 use Rattle.dnsv_verifier.specs.Admissible.{DnskeyRecord, IsGood}
 use Rattle.dnsv_verifier.specs.Table.{table_answer}
-use Rattle.dnsv_faults.specs.Answers.AnswerSearch.{is_good_answer}
-use Rattle.dnsv_faults.specs.Answers.{IsKeyAnswer}
-use Rattle.dnsv_faults.proofs.lemmas.AnswerLemmas.{good_is}
+use Rattle.dnsv_zone_keys.specs.Answers.AnswerSearch.{is_good_answer}
+use Rattle.dnsv_zone_keys.specs.Answers.{IsKeyAnswer}
+use Rattle.dnsv_zone_keys.proofs.lemmas.AnswerLemmas.{good_is}
 use Rattle.dnsv_faults.proofs.zone.dnskeys.own.is_good_under.Goals as goal
 
 pub returns-in-Good : goal.returns-in-Good

@@ -1,7 +1,7 @@
 use Rattle.std.proofs.Common.{ℕ, refl, ap, ◌∙◌, subst}
 use Rattle.std.specs.Option.{option_map}
 use Rattle.dnsv_verifier.specs.Table.{TableContents}
-use Rattle.dnsv_faults.specs.Answers.AnswerSearch.{IsAskedOf}
+use Rattle.dnsv_zone_keys.specs.Answers.AnswerSearch.{IsAskedOf}
 use Rattle.dnsv_faults.proofs.zone.dnskeys.own.own_signature.Goals as goal
 
 pub good_places-requires-clause-asked : goal.good_places-requires-clause-asked

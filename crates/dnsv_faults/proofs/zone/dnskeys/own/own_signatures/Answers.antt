@@ -2,7 +2,7 @@ use Rattle.std.proofs.Common.{List, ap, map, subst, sym, ◌∙◌}
 use Rattle.std.specs.List.{AllByRecursion, enumerate_from}
 use Rattle.dnsv_faults.specs.Dnskeys.DnskeySearch.{IsOwn, basis_in}
 use Rattle.dnsv_faults.specs.declared.zone.dnskeys.tagged.OwnSignature.{OwnSignature}
-use Rattle.dnsv_faults.proofs.lemmas.OnceLemmas.{each_push}
+use Rattle.dnsv_zone_keys.proofs.lemmas.OnceLemmas.{each_push}
 use Rattle.dnsv_faults.proofs.lemmas.OrderLemmas.{its_signature, order_more, whole}
 use Rattle.dnsv_faults.proofs.lemmas.zones.OwnLemmas.{own_are, seen_own}
 use Rattle.dnsv_faults.proofs.zone.dnskeys.own.own_signatures.Goals as goal

@@ -3,7 +3,7 @@ use Rattle.std.specs.Prelude.{Contains}
 use Rattle.dnsv_records.specs.Dnskey.{IsDnskey}
 use Rattle.dnsv_verifier.specs.Admissible.{DnskeyRecord}
 use Rattle.dnsv_faults.specs.Dnskeys.DnskeySearch.{IsKeyIn}
-use Rattle.dnsv_faults.specs.Keys.Index.{Placed}
+use Rattle.dnsv_zone_keys.specs.Keys.Index.{Placed}
 use Rattle.dnsv_faults.proofs.lemmas.zones.KeyedLemmas.{found_in, found_some}
 use Rattle.dnsv_faults.proofs.zone.dnskeys.set.key_in.Goals as goal
 

@@ -1,6 +1,6 @@
 use Rattle.std.proofs.Common.{List, refl, subst}
 use Rattle.dnsv_faults.specs.Dnskeys.DnskeySearch.{AreOwn, basis_in}
-use Rattle.dnsv_faults.specs.Keys.Index.{Placed}
+use Rattle.dnsv_zone_keys.specs.Keys.Index.{Placed}
 use Rattle.dnsv_faults.proofs.zone.dnskeys.set.keyed_set.Goals as goal
 
 pub returns : goal.returns

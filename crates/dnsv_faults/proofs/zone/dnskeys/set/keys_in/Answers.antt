@@ -8,9 +8,9 @@ use Rattle.dnsv_canonical.specs.declared.canonical_order.ReadRecord.{ReadRecord}
 use Rattle.dnsv_records.specs.declared.dnskey.Dnskey.{Dnskey}
 use Rattle.dnsv_verifier.proofs.NumberLemmas.{contains_map}
 use Rattle.dnsv_faults.specs.Dnskeys.DnskeySearch.{IsKeyIn, rdata_of}
-use Rattle.dnsv_faults.specs.Keys.Index.{Placed}
+use Rattle.dnsv_zone_keys.specs.Keys.Index.{Placed}
 use Rattle.dnsv_faults.proofs.lemmas.zones.FindLemmas.{stand_by_rdata}
-use Rattle.dnsv_faults.proofs.lemmas.OnceLemmas.{each_push}
+use Rattle.dnsv_zone_keys.proofs.lemmas.OnceLemmas.{each_push}
 use Rattle.dnsv_faults.proofs.lemmas.zones.KeyedLemmas.{more_rdata, octets}
 use Rattle.dnsv_faults.proofs.zone.dnskeys.set.keys_in.Goals as goal
 

@@ -1,6 +1,6 @@
 use Rattle.std.proofs.Common.{inl, subst}
 use Rattle.dnsv_lines.specs.declared.line.fault.zone.EntryNumber.TheVariants as number
-use Rattle.dnsv_faults.specs.Vouchers.{AreVoucherFacts, Wanted}
+use Rattle.dnsv_zone_keys.specs.Vouchers.{AreVoucherFacts, Wanted}
 use Rattle.dnsv_faults.proofs.zone.groups.anchors.add_anchor.Goals as goal
 
 pub returns : goal.returns

@@ -7,7 +7,7 @@ use Rattle.std.specs.Ordering.{nat_cmp}
 use Rattle.std.specs.Prelude.{nat_le, nat_lt}
 use Rattle.dnsv_faults.specs.Dnskeys.OwnSearch.{AreTagged, tag_of_own}
 use Rattle.dnsv_faults.specs.declared.zone.dnskeys.tagged.OwnSignature.{OwnSignature}
-use Rattle.dnsv_faults.proofs.lemmas.TagLemmas.{le_parts, lt_parts, tagged_all, tagged_among, tagged_its}
+use Rattle.dnsv_zone_keys.proofs.lemmas.TagLemmas.{le_parts, lt_parts, tagged_all, tagged_among, tagged_its}
 use Rattle.dnsv_faults.proofs.zone.dnskeys.tagged.OwnSignatures.tagged.Goals as goal
 
 pub returns : goal.returns

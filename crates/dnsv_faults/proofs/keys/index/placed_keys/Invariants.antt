@@ -1,6 +1,0 @@
-use Rattle.dnsv_faults.proofs.lemmas.IndexLemmas.{AreIndexedTo}
-use Rattle.dnsv_faults.proofs.keys.index.placed_keys.Given as goal
-
--- the keys of the zones so far
-abbrev pub invariant-loop-place : goal.invariant-loop-place
-invariant-loop-place l = AreIndexedTo l.capture.rrsets l.place l.keys.items

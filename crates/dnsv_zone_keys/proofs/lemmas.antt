@@ -1,0 +1,7 @@
+pub mod AnswerLemmas
+pub mod IndexLemmas
+pub mod NumberLemmas
+pub mod OnceLemmas
+pub mod TagLemmas
+pub mod VoucherLemmas
+pub mod ZoneKeyLemmas

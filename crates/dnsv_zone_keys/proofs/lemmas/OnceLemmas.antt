@@ -1,0 +1,104 @@
+-- Keys that stand several times, each once and with its place.
+use Rattle.std.proofs.Common.{◌≡◌, ℕ, ◌+◌, ◌<◌, ◌||◌, Bool, true, false, cond, not, List, [], ◌∷◌, ◌++◌, length, take, get_or, map, Bor, refl, sym, ap, ◌∙◌, append-nil, arith}
+use Rattle.std.proofs.lemmas.List.{length-map, map-append, take_more}
+use Rattle.std.proofs.lemmas.List.Folds.{list_any-append}
+use Rattle.std.proofs.lemmas.List.FromFn.{length-enumerate_from}
+use Rattle.std.proofs.lemmas.Map.Text.{is_eq-slice_cmp}
+use Rattle.std.specs.BTreeSet as sorted
+use Rattle.std.specs.BTreeSet.{BTreeSet, contains}
+use Rattle.std.specs.Cmp.Lexicographic.{slice_cmp}
+use Rattle.std.specs.List.{AllByRecursion, enumerate_from, list_any}
+use Rattle.std.specs.Ordering.{nat_cmp}
+use Rattle.std.specs.Str.{bytes_eq}
+use Rattle.std.specs.declared.cmp.Ordering.{Ordering}
+use Rattle.dnsv_canonical.specs.Rrsets.{first_appearances}
+use Rattle.dnsv_canonical.proofs.GroupLemmas.{first_appearances-push}
+use Rattle.dnsv_zone_keys.specs.Keys.Index.{Placed}
+
+-- an element at the end is behind so many places
+pub placed-push : {X : Type 0} (k : ℕ) (xs : List X) (x : X) → enumerate_from k (xs ++ x ∷ []) ≡ enumerate_from k xs ++ (k + length xs, x) ∷ []
+placed-push {X} k [] x = ap {B = List (ℕ × X)} (λ n. (n, x) ∷ []) (omega arith)
+placed-push {X} k (y ∷ ys) x =
+    ap (λ placed. (k, y) ∷ placed) (placed-push (k + 1) ys x ∙ ap {B = List (ℕ × X)} (λ n. enumerate_from (k + 1) ys ++ (n, x) ∷ []) (omega arith))
+
+abbrev pub octets_cmp : Bor (List ℕ) → Bor (List ℕ) → Ordering
+octets_cmp a b = slice_cmp nat_cmp a.now b.now
+
+-- the octets are those of one in the set
+abbrev pub is_seen : BTreeSet (Bor (List ℕ)) → List ℕ → Bool
+is_seen seen octets = list_any (λ r. bytes_eq octets r.now) seen.keys
+
+seen_contains : (seen : BTreeSet (Bor (List ℕ))) (x : Bor (List ℕ)) → contains octets_cmp seen x ≡ is_seen seen x.now
+seen_contains seen x = λ i. list_any (λ r. is_eq-slice_cmp x.now r.now i) seen.keys
+
+abbrev pub pair : Placed → ℕ × List ℕ
+pair placed = (placed.place, placed.key.rdata)
+
+module _ {X : Type 0} (f : X → Bor (List ℕ)) (xs : List X) (i : ℕ) (item : X) (within : i < length xs) (at : item ≡ get_or xs i item) where
+  abbrev x : Bor (List ℕ)
+  x = f item
+
+  abbrev so_far : ℕ → List (List ℕ)
+  so_far n = map (λ y. (f y).now) (take n xs)
+
+  one_more : so_far (i + 1) ≡ so_far i ++ x.now ∷ []
+  one_more =
+      ap (map (λ y. (f y).now)) (take_more xs i item within) ∙ map-append (λ y. (f y).now) (take i xs) (get_or xs i item ∷ [])
+      ∙ (λ j. so_far i ++ (f (sym at j)).now ∷ [])
+
+  -- once RDATA is put into the set, it is seen, and so is what was
+  pub seen_more : (old new : BTreeSet (Bor (List ℕ))) → sorted.Updates octets_cmp old new x true
+      → ((octets : List ℕ) → is_seen old octets ≡ list_any (λ y. bytes_eq y octets) (so_far i))
+      → (octets : List ℕ) → is_seen new octets ≡ list_any (λ y. bytes_eq y octets) (so_far (i + 1))
+  seen_more old new updates seen octets =
+      let q : Bor (List ℕ) = record { ref_ptr = (0, 0); now = octets } in
+      let earlier : Bool = list_any (λ y. bytes_eq y octets) (so_far i) in
+      sym (seen_contains new q) ∙ updates.0 q
+      ∙ (λ j. cond (is_eq-slice_cmp x.now octets j) true ((seen_contains old q ∙ seen octets) j))
+      ∙ either earlier (bytes_eq x.now octets)
+      ∙ sym (list_any-append (λ y. bytes_eq y octets) (so_far i) (x.now ∷ []))
+      ∙ ap (list_any (λ y. bytes_eq y octets)) (sym one_more)
+    where
+      either : (s b : Bool) → cond b true s ≡ (s || (b || false))
+      either true true = refl
+      either true false = refl
+      either false true = refl
+      either false false = refl
+
+  module _ (old : BTreeSet (Bor (List ℕ)))
+      (seen : (octets : List ℕ) → is_seen old octets ≡ list_any (λ y. bytes_eq y octets) (so_far i))
+      (found : List Placed) (once : map pair found ≡ enumerate_from 0 (first_appearances bytes_eq (so_far i))) where
+    was_seen : (b : Bool) → not (contains octets_cmp old x) ≡ not b → list_any (λ y. bytes_eq y x.now) (so_far i) ≡ b
+    was_seen b is = sym (seen x.now) ∙ sym (seen_contains old x) ∙ sym (twice (contains octets_cmp old x)) ∙ ap not is ∙ twice b
+      where
+        twice : (a : Bool) → not (not a) ≡ a
+        twice true = refl
+        twice false = refl
+
+    next : (b : Bool) → list_any (λ y. bytes_eq y x.now) (so_far i) ≡ b
+        → first_appearances bytes_eq (so_far (i + 1)) ≡ first_appearances bytes_eq (so_far i) ++ cond b [] (x.now ∷ [])
+    next b is =
+        ap (first_appearances bytes_eq) one_more ∙ first_appearances-push bytes_eq (so_far i) x.now
+        ∙ (λ j. first_appearances bytes_eq (so_far i) ++ cond (is j) [] (x.now ∷ []))
+
+    size : length found ≡ length (first_appearances bytes_eq (so_far i))
+    size =
+        sym (length-map found pair) ∙ ap length once ∙ length-enumerate_from 0 (first_appearances bytes_eq (so_far i))
+
+    -- RDATA is listed where it comes for the first time
+    pub once_more : (made : Placed) → not (contains octets_cmp old x) ≡ true → made.place ≡ length found → made.key.rdata ≡ x.now
+        → map pair (found ++ made ∷ []) ≡ enumerate_from 0 (first_appearances bytes_eq (so_far (i + 1)))
+    once_more made is place rdata =
+        let all = first_appearances bytes_eq (so_far i) in
+        let number : made.place ≡ 0 + length all = omega (arith, place, size) in
+        map-append pair found (made ∷ []) ∙ (λ j. once j ++ (number j, rdata j) ∷ [])
+        ∙ sym (placed-push 0 all x.now) ∙ ap (enumerate_from 0) (sym (next false (was_seen false is)))
+
+    pub no_more : not (contains octets_cmp old x) ≡ false
+        → map pair found ≡ enumerate_from 0 (first_appearances bytes_eq (so_far (i + 1)))
+    no_more is =
+        once ∙ ap (enumerate_from 0) (sym (next true (was_seen true is) ∙ append-nil (first_appearances bytes_eq (so_far i))))
+
+pub each_push : {X : Type 0} (P : X → Type 0) (xs : List X) (x : X) → AllByRecursion P xs → P x → AllByRecursion P (xs ++ x ∷ [])
+each_push P [] x each one = (one, tt)
+each_push P (y ∷ xs) x each one = (each.0, each_push P xs x each.1 one)
