@@ -12,7 +12,6 @@ use dnsv_timeline::Range;
 use dnsv_verifier::{
     Answer, Entry, KeyRecord, Panel, SignedData, Table, Verifier, ask_all, ask_within,
     is_admissible, is_verifiable, may_have_made,
-    is_verifiable, may_have_made,
 };
 use std::alloc::Global;
 
