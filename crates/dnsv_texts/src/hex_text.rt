@@ -41,7 +41,8 @@ pub fn push_signed_hex(text: &mut String, signed: &SignedData<'_>) -> Result<(),
 {
     let (front, records) = signed.pieces();
     push_hex(text, front)?;
-    push_hex(text, records)
+    push_hex(text, records)?;
+    Ok(())
 }
 
 /// Adds the octets in lower case hex. They are written where they are to stand, so that no other memory is taken.
