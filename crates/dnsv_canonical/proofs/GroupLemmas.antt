@@ -161,6 +161,3 @@ module _ (message : ℕ) (section : Section) (records : List Record) (i : ℕ) (
 
     pub rrset_appeared : is_grouped x ≡ true → list_any (λ r. is_grouped r && same_rrset r x) (take i records) ≡ true → before ≡ old ++ appeared_at (i + 1)
     rrset_appeared grouped appeared = so_far ∙ ap (λ gs. old ++ gs) (sym (next_rrset true true grouped appeared ∙ append-nil (appeared_at i)))
-
-    pub no_rrset : is_grouped x ≡ false → before ≡ old ++ appeared_at (i + 1)
-    no_rrset grouped = so_far ∙ ap (λ gs. old ++ gs) (sym (next_rrset false _ grouped refl ∙ append-nil (appeared_at i)))
