@@ -169,16 +169,6 @@ rising_filtered test (a ∷ answers) rising =
       | false ↦ rising_filtered test answers rising.1
     ]
 
--- hoping changes no entry
-entries-hoped : (answers : List (Entry × Answer))
-    → map (λ (each : Entry × Answer). each.0) (map (λ (each : Entry × Answer). (each.0, hoped_answer each.1)) answers) ≡ map (λ each. each.0) answers
-entries-hoped [] = refl
-entries-hoped (a ∷ answers) = ap (λ rest. a.0 ∷ rest) (entries-hoped answers)
-
-pub rising_hoped : (answers : List (Entry × Answer)) → IsStrictlySortedBy entry_cmp (map (λ each. each.0) answers)
-    → IsStrictlySortedBy entry_cmp (map (λ (each : Entry × Answer). each.0) (map (λ (each : Entry × Answer). (each.0, hoped_answer each.1)) answers))
-rising_hoped answers rising = subst (IsStrictlySortedBy entry_cmp) (sym (entries-hoped answers)) rising
-
 -- an Unknown answer has its entry among those that are listed
 unknown_first : (unknown : Bool) (a : Entry × Answer) (rest : List (Entry × Answer)) → unknown ≡ true
     → map (λ (each : Entry × Answer). each.0) (cond unknown (a ∷ rest) rest) ≡ [] → ⊥
