@@ -1,8 +1,8 @@
 -- What statements say, kept in a list that rises and in a tree.
-use Rattle.std.proofs.Common.{◌≡◌, ℕ, ◌+◌, ◌-◌, ◌<◌, inl, inr, List, [], ◌∷◌, ◌++◌, length, get_or, map, refl, sym, ap, ◌∙◌, subst, arith, Bool, true, false, cond, Option, Some, None}
+use Rattle.std.proofs.Common.{◌≡◌, ℕ, ◌+◌, ◌-◌, inl, inr, List, [], ◌∷◌, ◌++◌, length, get_or, map, refl, sym, ap, ◌∙◌, subst, arith, Bool, true, false, cond, Option, Some, None}
 use Rattle.std.proofs.lemmas.Bool.{cases_lt}
 use Rattle.std.proofs.lemmas.Cmp.{tied_itself}
-use Rattle.std.proofs.lemmas.List.{append-nil, append_assoc, get_or_append_left, get_or_push, length-append, length_push, map-append}
+use Rattle.std.proofs.lemmas.List.{append-nil, append_assoc, get_or_append_left, get_or_push, length_push, map-append}
 use Rattle.std.proofs.lemmas.Map.Keys.{Less-from_sorted, sorted_from_all_adjacent}
 use Rattle.std.proofs.lemmas.Map.Views.{All-before_last}
 use Rattle.std.specs.List.{Contains}
@@ -235,11 +235,6 @@ without_tree said (first ∷ tree) none each = absurd (omega (arith, none))
 pub none_in_tree : (tree listed : List (Entry × Word)) → listed ≡ [] → length tree ≡ 0 → listed ≡ tree
 none_in_tree [] listed none empty = none
 none_in_tree (first ∷ tree) listed none empty = absurd (omega (arith, empty))
-
--- where the tree says something, something is said
-pub some_said : (said tree : List (Entry × Word)) → (length tree ≡ 0 → ⊥) → 0 < length (said ++ tree)
-some_said said [] some = absurd (some refl)
-some_said said (first ∷ tree) some = let size = length-append said (first ∷ tree) in omega (arith, size)
 
 pub empty_list : (said : List (Entry × Word)) → length said ≡ 0 → said ≡ []
 empty_list [] empty = refl
