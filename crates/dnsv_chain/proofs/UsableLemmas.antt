@@ -32,9 +32,6 @@ transitive a b c (first, second, a_is, b_is, p) (second', third, b_is', c_is, q)
     let later : IsStronger second third = subst P (some_only b_is' b_is) q in
     (first, third, a_is, c_is, omega (arith, p, later))
 
-pub none_leads : IsLeading [] None
-none_leads ds contains = absurd (omega (arith, contains.1))
-
 -- a record more, whose digest type takes over
 pub takes_lead : (xs : List Ds) (ds : Ds) (leading : Option DigestType) → IsLeading xs leading → TakesOver ds.digest_type.0 leading
     → IsLeading (xs ++ ds ∷ []) (Some ds.digest_type)

@@ -19,11 +19,6 @@ use Rattle.dnsv_canonical.specs.Canonical.{rdata_cmp}
 use Rattle.dnsv_verifier.specs.Admissible.{DnskeyRecord}
 use Rattle.dnsv_chain.specs.Chain.{AreKnown, HasRdata, known_cmp}
 
-pub none_known : (known : BTreeSet (OwnerKey × (List ℕ × Dnskey))) (keys : Labels → List DnskeyRecord) → known.keys ≡ [] → AreKnown known keys
-none_known known keys none = record {
-  each = λ key there. absurd (false≢true (sym (λ i. contains known_cmp (record { keys = none i }) key) ∙ there));
-}
-
 both_equal : (a b : Ordering) → is_eq (ordering_then a b) ≡ true → (is_eq a ≡ true) × (is_eq b ≡ true)
 both_equal Less b same = absurd (false≢true same)
 both_equal Equal b same = (refl, same)
