@@ -1,5 +1,5 @@
 -- Records by their numbers, and lists that have all of some.
-use Rattle.std.proofs.Common.{◌≡◌, ℕ, ◌+◌, ◌-◌, ◌<◌, ◌≤◌, ◌⊎◌, List, [], ◌∷◌, ◌++◌, length, map, refl, sym, ap, ◌∙◌, subst, inl, inr, ⊎_elim, arith}
+use Rattle.std.proofs.Common.{◌≡◌, ℕ, ◌+◌, ◌-◌, ◌<◌, ◌⊎◌, List, [], ◌∷◌, ◌++◌, length, map, refl, sym, ap, ◌∙◌, subst, inl, inr, ⊎_elim, arith}
 use Rattle.std.proofs.lemmas.List.{map-append}
 use Rattle.std.proofs.lemmas.Option.{slice_get_read}
 use Rattle.std.specs.Prelude.{Some, slice_get, slice_index_or}
@@ -137,6 +137,3 @@ pub numbered_here : {X : Type 0} (xs : List X) (place : ℕ) (x : X) → place <
 numbered_here xs place x within is =
     let same : place ≡ place + 1 - 1 = omega arith in
     (omega arith, subst (λ p. slice_get xs p ≡ Some x) same (slice_get_read xs (length xs) place x refl within is))
-
-pub numbered_index : {X : Type 0} (xs : List X) (number : ℕ) (x : X) → ¬ (number ≡ 0) → number ≤ length xs → x ≡ slice_index_or xs (number - 1) x → IsNumbered xs number x
-numbered_index xs number x not_zero within is = (omega arith, slice_get_read xs (length xs) (number - 1) x refl (omega arith) is)

@@ -63,12 +63,6 @@ module _ (Secured : ℕ → ℕ → Type 0) (rrsets : List ReceivedRrset) (name 
     pub cut : IsUnusableDsCut Secured rrsets name labels
     pub up_to : cut.k ≤ place
 
-  from_one : (n : ℕ) → IsCutUpTo 0 n → ⊥
-  from_one n upto = omega (arith, upto.up_to, upto.cut.is_rrset.0)
-
-  pub none_yet : IsFewestFound (IsCutUpTo 0) None
-  none_yet = λ n upto. from_one n upto
-
   cut_at : (place : ℕ) (rrset : ReceivedRrset) → IsNumbered rrsets (place + 1) rrset → IsUnusableDs (Secured (place + 1)) rrset name
       → IsCutUpTo (place + 1) (length rrset.owner)
   cut_at place rrset is_rrset is = record {
