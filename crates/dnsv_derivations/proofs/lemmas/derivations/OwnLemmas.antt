@@ -1,5 +1,5 @@
 -- The lowest signature of an RRset that is the zone's own.
-use Rattle.std.proofs.Common.{◌≡◌, ◌<◌, ◌≤◌, ◌+◌, ◌-◌, ℕ, List, length, get_or, sym, ◌∙◌, subst, ⊎_elim, arith}
+use Rattle.std.proofs.Common.{◌≡◌, ◌<◌, ◌≤◌, ◌-◌, ℕ, List, length, get_or, sym, ◌∙◌, subst, ⊎_elim, arith}
 use Rattle.std.proofs.lemmas.Bool.{cases_lt}
 use Rattle.std.proofs.lemmas.List.{get_or_default}
 use Rattle.std.proofs.lemmas.List.Elements.{Contains-get_or}
@@ -25,9 +25,6 @@ use Rattle.dnsv_derivations.proofs.lemmas.denials.PartLemmas.{signature_too}
 use Rattle.dnsv_derivations.proofs.lemmas.intervals.ShownLemmas.{rdata_at, read_at}
 
 module _ (setting : Setting) (zone : Labels) (k : ℕ) where
-  pub not_there : ((rrset : ReceivedRrset) → ¬ IsNumbered setting.rrsets k rrset) → (s : ℕ) → ¬ IsOwnSignature setting zone k s
-  not_there none s own = none own.rrset own.is_rrset
-
   -- some signature of the zone is one with a number
   pub its_number : (by : IsSecuredBy (SecuredIn setting) setting.rrsets zone k) → IsOwnSignature setting zone k by.signed.signature
   its_number by = record {
@@ -92,16 +89,6 @@ module _ (setting : Setting) (zone : Labels) (k : ℕ) where
               (signature_too (λ t. (t ≡ s) × SecuredIn setting k t) (λ t. t ≡ get_or numbers there.0 0) own.rrset zone own.signed
               (own.signed.secured.0 ∙ sym is));
         }
-
-    pub none_more : (i : ℕ) → ¬ HasZoneSignature (λ s. s ≡ get_or numbers i 0) rrset zone → IsNoneOwn rrset zone numbers i
-        → IsNoneOwn rrset zone numbers (i + 1)
-    none_more i never none = λ j below has. ⊎_elim
-        (λ (earlier : j < i). none j earlier has)
-        (λ (later : i ≤ j).
-        let Has : ℕ → Type 0 = λ p. HasZoneSignature (λ s. s ≡ get_or numbers p 0) rrset zone in
-        let here : j ≡ i = omega (arith, below, later) in
-        never (subst Has here has))
-        (cases_lt j i)
 
     pub lowest_found : (i : ℕ) → i < length numbers → HasZoneSignature (λ s. s ≡ get_or numbers i 0) rrset zone
         → IsNoneOwn rrset zone numbers i → IsLowestOwn setting zone k (get_or numbers i 0)

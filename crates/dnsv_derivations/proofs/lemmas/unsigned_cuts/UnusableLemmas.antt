@@ -1,7 +1,7 @@
 -- DS RRsets of which no record can be used.
 use Rattle.std.proofs.Common.{◌≡◌, ◌<◌, ◌≤◌, ◌+◌, ◌-◌, ◌⊎◌, inl, inr, ℕ, zero, suc, List, [], ◌∷◌, ◌++◌, Option, Some, None, length, map, get_or, refl, sym, ap, ◌∙◌, subst, ⊎_elim, append_assoc, arith}
 use Rattle.std.proofs.lemmas.Bool.{cases_lt}
-use Rattle.std.proofs.lemmas.List.{append-nil, length-append, map-append}
+use Rattle.std.proofs.lemmas.List.{length-append, map-append}
 use Rattle.std.proofs.lemmas.Option.{get_or_from_slice_get, slice_get_within}
 use Rattle.std.specs.List.{AllByRecursion, AllZip, Contains, slice_get}
 use Rattle.std.specs.Prelude.{IsTrue}
@@ -171,9 +171,6 @@ told_more rrsets k place (one ∷ told) unusable each number is =
     (each.0, each.1, told_more rrsets k (place + 1) told unusable each.2 (subst At there number) is)
 
 module _ (rrsets : List ReceivedRrset) (k : ℕ) (old : List Line) where
-  pub none_told : Adds (AreFirstTold rrsets k 0) old old
-  none_told = record { more = []; is = sym (append-nil old); says = record { told = []; are = refl; count = refl; each = tt } }
-
   pub one_told : (n : ℕ) (mid new : List Line) (unusable : UnusableDs) → new ≡ mid ++ line.Unusable unusable ∷ []
       → unusable.number ≡ record_of k (n + 1) → IsUnusableRecord rrsets unusable → Adds (AreFirstTold rrsets k n) old mid
       → Adds (AreFirstTold rrsets k (n + 1)) old new
