@@ -63,10 +63,6 @@ fault_of : (why : Option WhyEntry) (n : EntryNumber) (m : Mended) → ((why ≡ 
 fault_of None n m = inl (refl, refl)
 fault_of (Some w) n m = inr (told_first (fault (told.Entry w n)) m (told_fault (told.Entry w n) (entry_dear w n)))
 
-told_with : (t : Option Told) (m : Mended) → ((line : Told) → t ≡ Some line → Dear line) → IsTold m → IsTold (with_fault t m)
-told_with None m dear h = h
-told_with (Some line) m dear h = told_first (fault line) m (told_fault line (dear line refl))
-
 -- by an anchor or a DS record: it has no fault and the key signs, or something is told
 by_voucher : (v : VoucherFacts) (k : HeldKey) (c m : Mended) → IsSelfSigned k ⊎ IsTold m
     → ((v.why ≡ None) × IsSelfSigned k) ⊎ IsTold (following c (with_fault (voucher_fault v) m))
