@@ -1,5 +1,5 @@
 -- The keys of all zones, gathered one zone after another, and those that a signature names.
-use Rattle.std.proofs.Common.{◌≡◌, ◌↔◌, ℕ, zero, suc, ◌+◌, ◌-◌, ◌<◌, ◌≤◌, ◌==◌, Bool, true, false, not, ⊎_elim, List, [], ◌∷◌, ◌++◌, Some, length, map, get_or, refl, sym, ap, ◌∙◌, subst, arith, append-nil}
+use Rattle.std.proofs.Common.{◌≡◌, ◌↔◌, ℕ, zero, suc, ◌+◌, ◌-◌, ◌<◌, ◌≤◌, ◌==◌, Bool, true, false, not, ⊎_elim, List, [], ◌∷◌, ◌++◌, Some, length, map, get_or, refl, sym, ap, ◌∙◌, subst, arith}
 use Rattle.std.proofs.lemmas.Bool.{cases_lt, false≢true}
 use Rattle.std.proofs.lemmas.Cmp.{nat_cmp_total, tied_itself}
 use Rattle.std.proofs.lemmas.List.Elements.{Contains-append_left, Contains-append_right}
@@ -61,12 +61,6 @@ pub record AreIndexedTo (rrsets : List ReceivedRrset) (count : ℕ) (all : List 
   pub each : AllByRecursion (IsPlaced rrsets) all
   pub every : (number : ℕ) (rrset : ReceivedRrset) → number ≤ count → IsNumbered rrsets number rrset
       → IsFirstOfKeys rrsets number rrset → HaveAllOf rrsets all rrset.owner
-
-pub none_indexed : (rrsets : List ReceivedRrset) → AreIndexedTo rrsets 0 []
-none_indexed rrsets = record {
-  each = tt;
-  every = λ number rrset within numbered. absurd (let from = numbered.0 in omega (arith, from, within));
-}
 
 pub more_indexed : (rrsets : List ReceivedRrset) (count : ℕ) (rrset : ReceivedRrset) (old new : List Placed)
     → IsNumbered rrsets (count + 1) rrset → AreIndexedTo rrsets count old → AddsZone rrsets (count + 1) rrset old new
@@ -163,15 +157,6 @@ adds_keys rrsets number rrset old own new are joined = record {
   are = joined;
   each = keys_placed rrsets rrset.owner own are;
   every = λ first. keys_all rrsets rrset.owner own are;
-}
-
-pub adds_nothing : (rrsets : List ReceivedRrset) (number : ℕ) (rrset : ReceivedRrset) (old : List Placed)
-    → (IsFirstOfKeys rrsets number rrset → ⊥) → AddsZone rrsets number rrset old old
-adds_nothing rrsets number rrset old never = record {
-  added = [];
-  are = sym (append-nil old);
-  each = tt;
-  every = λ first. absurd (never first);
 }
 
 -- ---- the keys that a signature names
