@@ -29,7 +29,7 @@ use Rattle.dnsv_remedies.specs.declared.facts.name.UnusableFacts.{UnusableFacts}
 use Rattle.dnsv_gaps.specs.Asking.{Asking}
 use Rattle.dnsv_gaps.specs.Denials.{HasSigner, IsDenialNumber}
 use Rattle.dnsv_gaps.specs.Sources.{IsSourceNsec3}
-use Rattle.dnsv_gaps.specs.Unusable.{AreUnusable, HasUnknownFields, IsHashLabel, IsOfItsParent, IsUnusable, IsUnusableOf, IsWhy}
+use Rattle.dnsv_gaps.specs.Unusable.{AreUnusable, IsOfItsParent, IsUnusable, IsUnusableOf, IsWhy}
 use Rattle.dnsv_gaps.specs.Unusable.IsWhy.{iterations, unusable}
 use Rattle.dnsv_gaps.specs.UnusableSearch.{AreUnused, IsInFront, IsUnusedAt, IsWhyUnused}
 
@@ -48,13 +48,6 @@ pub no_why : (rrset : ReceivedRrset) (fields : Nsec3) → ¬ (500 < fields.param
     → ¬ IsWhy rrset fields x
 no_why rrset fields few usable x (iterations many) = few many
 no_why rrset fields few usable x (unusable most is) = usable is
-
--- only the signer is left
-pub no_other : (rrset : ReceivedRrset) (fields : Nsec3) → ¬ HasUnknownFields fields → IsHashLabel rrset.owner → IsUnusable rrset fields
-    → ¬ IsOfItsParent rrset rrset.owner
-no_other rrset fields known spells (inl unknown) = absurd (known unknown)
-no_other rrset fields known spells (inr (inl never)) = absurd (never spells)
-no_other rrset fields known spells (inr (inr never)) = never
 
 module _ (rrset : ReceivedRrset) (owner : Labels) (its : owner ≡ rrset.owner) where
   pub no_parent : owner ≡ [] → ¬ IsOfItsParent rrset rrset.owner

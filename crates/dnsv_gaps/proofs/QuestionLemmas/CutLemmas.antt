@@ -159,14 +159,6 @@ one_source_more {X} {Y} {Z} R f xs i x zs z within at so_far one =
 
 -- ---- delegations
 
--- none of what shows one is so
-pub not_here : (a : Asking) (zone : Labels) (next : Option ℕ) (cut : Labels) → ¬ HasRrset a.basis.rrsets cut 2 → ¬ HasRrset a.basis.rrsets cut 6
-    → ¬ IsTypedBySome a zone cut IsDelegation → ¬ ((HasGoal a ⊎ IsThere next) × IsOptedOutBySome a zone cut) → ¬ IsSeenHere a zone next cut
-not_here a zone next cut ns soa typed out (inl has) = ns has
-not_here a zone next cut ns soa typed out (inr (inl has)) = soa has
-not_here a zone next cut ns soa typed out (inr (inr (inl is))) = typed is
-not_here a zone next cut ns soa typed out (inr (inr (inr is))) = out is
-
 -- and where nothing else shows one, Opt-Out may leave it out
 pub here_left_out : (a : Asking) (zone : Labels) (next : Option ℕ) (cut : Labels) → ¬ HasRrset a.basis.rrsets cut 2 → ¬ HasRrset a.basis.rrsets cut 6
     → ¬ IsTypedBySome a zone cut IsDelegation → IsSeenHere a zone next cut → (HasGoal a ⊎ IsThere next) × IsOptedOutBySome a zone cut
