@@ -68,13 +68,6 @@ module _ (a : Asking) where
         (λ number says. encloser_denial a (rightmost a.name n) chain name number says) part in
         (found.0, encloser_said a zone chain name found.0 found.2 found.1)
 
-    absent_part : (name : Labels) (facts : List RrsetFacts) → AreFactsOf a.basis ((source_said a (rightmost a.name n) chain).Absent name) facts → IsPart n facts
-        → (number : RecordNumber) × (evidence_said (Secured a) a.basis.rrsets (rightmost a.name n) chain).Absent name number
-    absent_part name facts are part =
-        let found = part_secured a n within ((source_said a (rightmost a.name n) chain).Absent name) facts are
-        (λ number says. absent_denial a (rightmost a.name n) chain name number says) part in
-        (found.0, absent_said a (rightmost a.name n) chain name found.0 found.2 found.1)
-
     empty_part : (name : Labels) (facts : List RrsetFacts) → AreFactsOf a.basis ((source_said a (rightmost a.name n) chain).EmptyNonTerminal name) facts → IsPart n facts
         → (number : RecordNumber) × (evidence_said (Secured a) a.basis.rrsets (rightmost a.name n) chain).EmptyNonTerminal name number
     empty_part name facts are part =

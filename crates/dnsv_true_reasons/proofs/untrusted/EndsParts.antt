@@ -33,7 +33,7 @@ use Rattle.dnsv_remedies.proofs.Within.{dear_own, trusted_at}
 use Rattle.dnsv_true_reasons.proofs.untrusted.Ending.{Ends, IsReason, IsUntrusted, Reasoned, SignatureEnds, ZoneEnds, reasons_of}
 use Rattle.dnsv_true_reasons.proofs.Members.{among_left, among_parts, among_right, mapped_among}
 use Rattle.dnsv_true_reasons.proofs.telling.Says.{Says, all_among, says_both, says_fault, says_nothing, says_telling, says_untold}
-use Rattle.dnsv_true_reasons.proofs.telling.SaysParts.{SaysNames, Tells, TrustOf}
+use Rattle.dnsv_true_reasons.proofs.telling.SaysParts.{Tells, TrustOf}
 
 -- ---- lines of a way
 
@@ -55,16 +55,6 @@ pub trust_other : (t : Told) → trust.is_reason t ≡ true → IsOther (said.Tr
 trust_other t is k e =
     let same : t ≡ told.Follows k = cc e in
     false≢true (sym (ap trust.is_reason same) ∙ is)
-
--- names of sources and zones tell of no signer
-other_names : (labels : ℕ) → SaysNames IsOther labels
-other_names labels = record {
-  missing = λ k e. cc e;
-  missing_of = λ n within k e. cc e;
-  unproved = λ n within k e. cc e;
-  ds_unproved = λ n c within inside k e. cc e;
-  dname_held = λ n number within k e. cc e;
-}
 
 module _ (zones : List ZoneFacts) (SaidOf : ℕ → Told → Type 0) (By : SignatureNumber → ℕ → Type 0) where
   -- a reason is one of its lines, which is said of the zone with so many labels or of one above

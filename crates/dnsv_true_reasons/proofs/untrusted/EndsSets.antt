@@ -36,10 +36,6 @@ dear_self k s =
     (dear_when (not k.is_zone_key) (told.Signature signature_why.NotZoneKey s.number) (dear_fault class.NotFitting (told.Signature signature_why.NotZoneKey s.number) refl refl)))
     (dear_answer s.number s.answer)
 
-trusted_or : (b : Bool) → (b ≡ true) ⊎ (b ≡ false)
-trusted_or true = inl refl
-trusted_or false = inr refl
-
 -- each DS RRset from the place on has its chain there
 abbrev pub AreChains : (DsFacts → Mended → Type 0) → List (Option Mended) → ℕ → List DsFacts → Type 0
 AreChains Leads chains place [] = Unit {0}
