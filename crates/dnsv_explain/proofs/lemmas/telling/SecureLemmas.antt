@@ -24,12 +24,10 @@ use Rattle.dnsv_verdict.specs.declared.verdict.Verdict.{Verdict}
 use Rattle.dnsv_verdict.specs.declared.verdict.Verdict.TheVariants.{SecureAnswer, SecureAlias, SecureNoName, SecureNoData, Pending, Bogus, Indeterminate}
 use Rattle.dnsv_derivations.specs.Explained.{Explained, Setting, setting_in}
 use Rattle.dnsv_explain.specs.Explained.{basis_in, explained_by}
-use Rattle.dnsv_explain.specs.Explanation.{IsSettledTold, IsSignatureAt, IsVerdictTold, told_kind}
-use Rattle.dnsv_derivations.specs.Saying.{Adds}
+use Rattle.dnsv_explain.specs.Explanation.{IsSignatureAt, told_kind}
 use Rattle.dnsv_derivations.specs.derivations.OwnDerivations.{SecuredIn}
 use Rattle.dnsv_lines.specs.declared.line.Kind.{Kind}
 use Rattle.dnsv_lines.specs.declared.line.Kind.TheVariants as kind
-use Rattle.dnsv_lines.specs.declared.line.Line.{Line}
 use Rattle.dnsv_canonical.specs.declared.number.SignatureNumber.{SignatureNumber}
 use Rattle.dnsv_derivations.proofs.lemmas.NumberedLemmas.{same_number}
 use Rattle.dnsv_explain.proofs.lemmas.telling.TellLemmas.{at_same, within_same}
@@ -108,13 +106,6 @@ module _ (explained : Explained) (name : Labels) (t : ℕ) where
   settled_as basis Bogus settled is = absurd settled
   settled_as basis Indeterminate settled is = absurd settled
   settled_as basis verdict settled is = is
-
-  pub settled_told : (verdict : Verdict) (old new : List Line) → IsSettledVerdict verdict
-      → Adds (IsSettledTold (setting_in explained) name t verdict) old new → Adds (IsVerdictTold explained name t verdict) old new
-  settled_told (Pending unknown) old new settled told = absurd settled
-  settled_told Bogus old new settled told = absurd settled
-  settled_told Indeterminate old new settled told = absurd settled
-  settled_told verdict old new settled told = told
 
   never_some : (word : Kind) → Path (Option Kind) (Some word) None → ⊥
   never_some word is = cc
