@@ -18,10 +18,8 @@ use Rattle.dnsv_program.specs.Work.Known.{IsKnownReached}
 use Rattle.dnsv_files.specs.Files.Faults.{IsAbout, OfFailedRead}
 use Rattle.dnsv_message.specs.Streams.Counted.{inner_of}
 use Rattle.dnsv_message.specs.declared.streams.counted.Counted.{Counted}
-use Rattle.dnsv_canonical.specs.Question.{Asked}
 use Rattle.dnsv_files.specs.Files.{Files, IsGiven, IsToldBy, octets_or_none}
-use Rattle.dnsv_files.specs.Files.Questions.{HasQuestions}
-use Rattle.dnsv_program.specs.Run.{HasEvidence, IsReachedByEach, IsReachedOfFiles}
+use Rattle.dnsv_program.specs.Run.{HasEvidence, IsReachedOfFiles}
 
 -- where a fault is about one file, what holds of that file is enough
 pub reached_by : (Holds : InputFile → Type 0) (file : InputFile) (told : Fault) → IsAbout file told → Holds file → OfFailedRead Holds told
@@ -76,17 +74,6 @@ in_files (Between from to) files Anchors holds = absurd holds
 in_files (Between from to) files Statements holds = absurd holds
 in_files (Between from to) files Answers holds = absurd holds
 in_files (Between from to) files Questions holds = absurd holds
-
--- the files that questions are judged by are read behind the questions
-behind_questions : (moment : ℕ) (files : Files) → (asked : List Asked) × HasQuestions (octets_or_none files.questions) asked
-    → (file : InputFile) → IsReachedOfFiles (At moment) files file → IsReachedByEach moment files file
-behind_questions moment files has Keys holds = (has, holds)
-behind_questions moment files has Macs holds = (has, holds)
-behind_questions moment files has Capture holds = (has, holds)
-behind_questions moment files has Anchors holds = (has, holds)
-behind_questions moment files has Statements holds = (has, holds)
-behind_questions moment files has Answers holds = (has, holds)
-behind_questions moment files has Questions holds = absurd holds
 
 -- the keys and the MACs are read first
 pub reached_sealed : (moments : Moments) (files : Files) (told : Fault) → OfFailedRead (IsOpeningReachedAt files.keys files.macs moments) told → OfFailedRead (IsReachedOfFiles moments files) told

@@ -156,8 +156,3 @@ module _ (error : CommandLineError) (code : ℕ) (ends : EndsSo error code) wher
 
   pub words_quiet : {Same : Type 0} → (code ≡ 0 → Same) → IsEnd code → Same
   words_quiet = quiet_so ends
-
--- ---- where help isn't written
-
-apart : (told : Fault) → told ≡ fault.OutOfMemory → told ≡ fault.WriteFailed → ⊥
-apart told memory written = cc
