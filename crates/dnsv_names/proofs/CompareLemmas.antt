@@ -160,8 +160,7 @@ last_first labels k more =
 
 then_assoc : (o p q : Ordering) → ordering_then (ordering_then o p) q ≡ ordering_then o (ordering_then p q)
 then_assoc Less p q = refl
-then_assoc Equal p q = refl
-then_assoc Greater p q = refl
+then_assoc o p q = refl
 
 -- of two lists cut at one place, what stands in front decides first
 cmp_append : (p q s t : Labels) → length p ≡ length q → slice_cmp label_cmp (p ++ s) (q ++ t) ≡ ordering_then (slice_cmp label_cmp p q) (slice_cmp label_cmp s t)
