@@ -10,7 +10,7 @@ use Rattle.std.specs.Map.{keys_of, lookup}
 use Rattle.std.specs.Option.{IsSome, unwrap_or}
 use Rattle.std.specs.Ordering.{eq_by_cmp, is_eq}
 use Rattle.std.specs.declared.cmp.Ordering.{Ordering}
-use Rattle.std.specs.declared.cmp.Ordering.TheVariants.{Less, Equal, Greater}
+use Rattle.std.specs.declared.cmp.Ordering.TheVariants.{Less, Equal}
 use Rattle.dnsv_canonical.specs.Rrsets.{ReceivedRrset}
 use Rattle.dnsv_canonical.proofs.CanonicalLemmas.{IsMember, IsMember-from_contains, Contains-from_member, rising_unique}
 use Rattle.dnsv_verifier.specs.Admissible.{IsAsked}
@@ -30,8 +30,7 @@ same_entry_equiv = eq_by_cmp_equiv entry_cmp_total
 
 pub is_eq-Equal : (order : Ordering) → is_eq order ≡ true → order ≡ Equal
 is_eq-Equal Equal e = refl
-is_eq-Equal Less e = cc
-is_eq-Equal Greater e = cc
+is_eq-Equal order e = cc
 
 pub exact_entries : (a b : Entry) → eq_by_cmp entry_cmp a b ≡ true → a ≡ b
 exact_entries a b e = entry_Equal a b (is_eq-Equal (entry_cmp a b) e)
