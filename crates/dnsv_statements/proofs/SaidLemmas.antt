@@ -9,7 +9,7 @@ use Rattle.std.specs.List.{Contains}
 use Rattle.std.specs.List.Sorted.{IsStrictlySortedBy}
 use Rattle.std.specs.Ordering.{is_eq, ordering_reverse}
 use Rattle.std.specs.declared.cmp.Ordering.{Ordering}
-use Rattle.std.specs.declared.cmp.Ordering.TheVariants.{Less, Equal, Greater}
+use Rattle.std.specs.declared.cmp.Ordering.TheVariants.{Less, Equal}
 use Rattle.dnsv_verifier.specs.Entry.{entry_cmp}
 use Rattle.dnsv_verifier.specs.EntryLaws.{entry_cmp_total, entry_Equal}
 use Rattle.dnsv_statements.specs.Statements.{other_word}
@@ -24,16 +24,14 @@ entries_of said = map (λ each. each.0) said
 
 is_eq-reverse : (o : Ordering) → is_eq (ordering_reverse o) ≡ is_eq o
 is_eq-reverse Less = refl
-is_eq-reverse Equal = refl
-is_eq-reverse Greater = refl
+is_eq-reverse o = refl
 
 tied_back : (a b : Entry) → is_eq (entry_cmp a b) ≡ is_eq (entry_cmp b a)
 tied_back a b = ap is_eq (entry_cmp_total.antisymm a b) ∙ is_eq-reverse (entry_cmp b a)
 
 is_eq-is : (o : Ordering) → is_eq o ≡ true → o ≡ Equal
 is_eq-is Equal e = refl
-is_eq-is Less e = cc
-is_eq-is Greater e = cc
+is_eq-is o e = cc
 
 -- the same is said behind the same front
 said_behind : (front xs ys : List (Entry × Word)) (each : Entry) → said_in xs each ≡ said_in ys each
