@@ -14,19 +14,13 @@ use Rattle.dnsv_verdict.specs.declared.at_name.Hope.{Hope}
 use Rattle.dnsv_verdict.specs.declared.link.Link.{Link}
 use Rattle.dnsv_verdict.specs.declared.trail.Trail.{Trail}
 use Rattle.dnsv_verdict.specs.declared.verdict.Verdict.{Verdict}
-use Rattle.dnsv_verdict.specs.declared.verdict.Verdict.TheVariants.{SecureAnswer, SecureAlias, SecureNoName, SecureNoData, Insecure, Pending, Bogus, Indeterminate}
+use Rattle.dnsv_verdict.specs.declared.verdict.Verdict.TheVariants.{SecureAlias, Pending}
 
 -- what is settled is not hoped
 pub settled_without_hope : (case : CaseContents) (Secured : ℕ → ℕ → Type 0) (rrsets : List ReceivedRrset) (name : Labels) (t : ℕ) (verdict : Verdict)
     (hope : Option Hope) → IsSettledAs Secured rrsets name t verdict → hope ≡ None → HasHope case name t verdict hope
-settled_without_hope case Secured rrsets name t (SecureAnswer k s) hope is none = none
-settled_without_hope case Secured rrsets name t (SecureAlias k s) hope is none = none
-settled_without_hope case Secured rrsets name t (SecureNoName proof) hope is none = none
-settled_without_hope case Secured rrsets name t (SecureNoData proof) hope is none = none
-settled_without_hope case Secured rrsets name t (Insecure cut) hope is none = none
 settled_without_hope case Secured rrsets name t (Pending entries) hope is none = absurd is
-settled_without_hope case Secured rrsets name t Bogus hope is none = none
-settled_without_hope case Secured rrsets name t Indeterminate hope is none = none
+settled_without_hope case Secured rrsets name t verdict hope is none = none
 
 -- ---- one name
 
