@@ -121,9 +121,8 @@ module _ (setting : Setting) (before : List Line) where
 -- what isn't a DS record is an anchor
 pub anchor_alone : (told : Voucher) → ((number : RecordNumber) (digest_type : DigestType) → told ≡ voucher.Ds number digest_type → ⊥)
     → IsByAnchor told
-anchor_alone (voucher.KeyAnchor number) never = tt
-anchor_alone (voucher.DsAnchor number digest_type) never = tt
 anchor_alone (voucher.Ds number digest_type) never = never number digest_type refl
+anchor_alone told never = tt
 
 -- the number of a signature by its parts
 pub number_is : (number : SignatureNumber) (k : ℕ) → number.rrset ≡ k → number ≡ record { rrset = k; signature = number.signature }

@@ -35,12 +35,10 @@ use Rattle.dnsv_derivations.proofs.lemmas.one.TrustedLemmas.{AreApart, one_recor
 
 one_why : (u v : WhyUnusable) (records : List Ds) (ds : Ds) → IsWhy u records ds → IsWhy v records ds → u ≡ v
 one_why why.Algorithm why.Algorithm records ds x y = refl
-one_why why.Algorithm why.DigestType records ds x y = absurd (x y.0)
-one_why why.Algorithm why.DigestIgnored records ds x y = absurd (x y.0)
-one_why why.DigestType why.Algorithm records ds x y = absurd (y x.0)
 one_why why.DigestType why.DigestType records ds x y = refl
 one_why why.DigestType why.DigestIgnored records ds x y = absurd (x.1 y.1)
-one_why why.DigestIgnored why.Algorithm records ds x y = absurd (y x.0)
+one_why u why.Algorithm records ds x y = absurd (y x.0)
+one_why why.Algorithm v records ds x y = absurd (x y.0)
 one_why why.DigestIgnored why.DigestType records ds x y = absurd (y.1 x.1)
 one_why why.DigestIgnored why.DigestIgnored records ds x y = refl
 
