@@ -6,7 +6,7 @@ use Rattle.std.specs.List.{flat_map}
 use Rattle.dnsv_names.specs.Name.{Labels, lower_case}
 use Rattle.dnsv_lines.specs.Json.{member, object, quoted}
 use Rattle.dnsv_lines.specs.Rows.{line_json, line_text, sentence_of}
-use Rattle.dnsv_lines.specs.Sentence.{Said, Name, Number, Rrset, Word, Salt, Nothing, SaidField, SaidSentence, field_members, field_text, json_of_sentence, keyed_members, labelled_text, plain, text_of_sentence}
+use Rattle.dnsv_lines.specs.Sentence.{Said, Name, Rrset, SaidField, SaidSentence, field_members, field_text, json_of_sentence, keyed_members, labelled_text, plain, text_of_sentence}
 use Rattle.dnsv_lines.specs.declared.line.Line.{Line}
 use Rattle.dnsv_lines.specs.declared.line.Line.TheVariants as line
 use Rattle.dnsv_lines.specs.declared.line.denial.Part.{Part}
@@ -35,11 +35,7 @@ twice (label ∷ name) = ap₂ (λ l n. l ∷ n) (label_twice label) (twice name
 -- of a field
 said_text : (label : Option (List ℕ)) (said : Said) → labelled_text label (lower_said said) ≡ labelled_text label said
 said_text label (Name name) = rw (twice name)
-said_text label (Number number) = refl
-said_text label (Rrset number) = refl
-said_text label (Word word) = refl
-said_text label (Salt salt) = refl
-said_text label Nothing = refl
+said_text label said = refl
 
 -- of fields
 fields_text : (fields : List SaidField) → flat_map field_text (map lower_field fields) ≡ flat_map field_text fields
@@ -53,11 +49,7 @@ sentence_text s = ap (λ t. s.line ++ t) (fields_text (plain (codes "ede") s.err
 -- in JSON of a field
 said_json : (key : List ℕ) (said : Said) → keyed_members key (lower_said said) ≡ keyed_members key said
 said_json key (Name name) = rw (twice name)
-said_json key (Number number) = refl
-said_json key (Rrset number) = refl
-said_json key (Word word) = refl
-said_json key (Salt salt) = refl
-said_json key Nothing = refl
+said_json key said = refl
 
 -- of fields
 fields_json : (fields : List SaidField) → flat_map field_members (map lower_field fields) ≡ flat_map field_members fields
@@ -117,12 +109,11 @@ lowered (line.Proof x) = proof_lowered x x.encloser
 lowered (line.Part x) = part_lowered x x.by
 lowered (line.Case x) = case_lowered x x.zone
 lowered (line.Unusable x) = rw (twice x.owner)
-lowered (line.Hope x) = refl
-lowered (line.Holds x) = refl
 lowered (line.Reason x) = reason_lowered x
 lowered (line.Follows x) = rw (twice x.signature.owner, twice x.signature.signer)
 lowered (line.Key x) = rw (twice x.zone)
 lowered (line.Rrset x) = rw (twice x.owner)
+lowered x = refl
 
 -- what is written of a line is what is written of it with names in lower case
 lower_line_text : (x : Line) → line_text (lower_line x) ≡ line_text x
