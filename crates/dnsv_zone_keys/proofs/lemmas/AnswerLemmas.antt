@@ -83,6 +83,5 @@ module _ (meaning : Entry → Answer) (moment : ℕ) (rrset : ReceivedRrset) (rr
 
     pub says_so : (answer : Answer) → meaning (entry_over rrsig octets key) ≡ answer
         → IsKeyAnswer meaning moment rrset rrsig key (key_answer answer)
-    says_so Valid says = it_is Valid says
-    says_so Invalid says = it_is Invalid says
     says_so Unknown says = unknown_says says
+    says_so answer says = it_is answer says

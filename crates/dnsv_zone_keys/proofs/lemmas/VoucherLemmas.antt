@@ -215,9 +215,7 @@ module _ (rrsets : List ReceivedRrset) (zone : Labels) (wanted : Wanted) where
   first_unusable why.Algorithm is = inl (is, refl)
   first_unusable why.DigestType is = inr (λ never. never is.0, inl (is.1, refl))
   first_unusable why.DigestIgnored is = inr (λ never. never is.0, inr (is.1, inl (is.2, refl)))
-  first_unusable why.KeyMissing is = absurd is
-  first_unusable why.KeyAlgorithm is = absurd is
-  first_unusable why.DigestDiffers is = absurd is
+  first_unusable word is = absurd is
 
   no_matches : (word : WhyEntry) → AreMatches rrsets zone wanted (Some word) []
   no_matches word = record {
