@@ -220,9 +220,7 @@ module _ (a : Asking) where
       let above = is.first.closed.above in
       (omega (arith, above), says_facts _ (c.rrset ∷ []) is.rrset c.rrset (inl refl))
   says_case zone chain (case.At r) is = says_at zone chain a.name r is.2
-  says_case zone chain case.Apex is = tt
   says_case zone chain (case.NonTerminal rrsets) is = says_facts _ rrsets.items is.4
-  says_case zone chain case.NoEncloser is = tt
   says_case zone chain (case.Encloser e) is =
       let facts = is.1 in
       let above = facts.longest.above in
@@ -233,15 +231,14 @@ module _ (a : Asking) where
         says_facts _ e.covers.items facts.covers,
         says_wildcard zone chain (rightmost a.name e.next) (wildcard_of (rightmost a.name e.name)) e.wildcard facts.wildcard,
       )
+  says_case zone chain c is = tt
 
   says_cut : (zone : Labels) (chain : Chain) (HasOne : Type 0) (parent below : Labels) (c : CutCase)
       → IsCutCase a.basis (source_said a zone chain) HasOne parent below c → SaysCut (HasLines a) c
   says_cut zone chain HasOne parent below (cut.Delegation rrsets) is = says_facts _ rrsets.items is.1
-  says_cut zone chain HasOne parent below cut.NoCut is = tt
   says_cut zone chain HasOne parent below (cut.Signed s) is = says_rrset a s.number.rrset s.rrset is.2
   says_cut zone chain HasOne parent below (cut.OptOut o) is = (says_facts _ o.shown.items is.2, says_facts _ o.covers.items is.3)
-  says_cut zone chain HasOne parent below cut.Uncovered is = tt
-  says_cut zone chain HasOne parent below cut.Unmatched is = tt
+  says_cut zone chain HasOne parent below c is = tt
 
   -- ---- speakers and zones above unsigned delegations
 

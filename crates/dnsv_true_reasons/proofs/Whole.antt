@@ -199,11 +199,8 @@ module _ (a : Asking) (zones : List ZoneFacts) (of_zones : AreZoneFacts a.basis 
       showing_of name facts (by_records needs are) r among = of_encloser name facts are r among
 
       case_of : (c : SourceCase) → IsSourceCase a.basis (source_said a (rightmost a.name n) chain) (rightmost a.name n) a.name a.rtype c → IsCaseOf n c
-      case_of (case.Closed c) is = tt
       case_of (case.At r) is = at_of a.name r is.2
-      case_of case.Apex is = tt
       case_of (case.NonTerminal rrsets) is = of_empty a.name rrsets.items is.4
-      case_of case.NoEncloser is = tt
       case_of (case.Encloser e) is =
           let its = is.1 in
           let next : Labels = rightmost a.name e.next in (
@@ -213,14 +210,12 @@ module _ (a : Asking) (zones : List ZoneFacts) (of_zones : AreZoneFacts a.basis 
               wildcard_of_case next (wildcard_of (rightmost a.name e.name)) e.wildcard its.wildcard,
             ),
           )
+      case_of c is = tt
 
       cut_case_of : (HasOut : Type 0) (parent name : Labels) (c : CutCase) → IsCutCase a.basis (source_said a (rightmost a.name n) chain) HasOut parent name c → IsCutCaseOf n c
       cut_case_of HasOut parent name (cut.Delegation rrsets) is = of_types name _ rrsets.items is.1
-      cut_case_of HasOut parent name cut.NoCut is = tt
-      cut_case_of HasOut parent name (cut.Signed s) is = tt
       cut_case_of HasOut parent name (cut.OptOut o) is = (of_encloser parent o.shown.items is.2, of_opted name o.covers.items is.3)
-      cut_case_of HasOut parent name cut.Uncovered is = tt
-      cut_case_of HasOut parent name cut.Unmatched is = tt
+      cut_case_of HasOut parent name c is = tt
 
     -- ---- the question
 

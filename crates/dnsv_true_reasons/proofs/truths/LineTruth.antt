@@ -46,18 +46,8 @@ use Rattle.dnsv_true_reasons.proofs.truths.zones.VoucherTruth.{fault_moves}
 
 -- the reason that a line tells is such
 abbrev pub IsLineTrue : (Reason → Type 0) → Line → Type 0
-IsLineTrue IsSo (line.Trusted keys) = ⊤
-IsLineTrue IsSo (line.Signed rrset) = ⊤
-IsLineTrue IsSo (line.Proof proof) = ⊤
-IsLineTrue IsSo (line.Part part) = ⊤
-IsLineTrue IsSo (line.Case cut) = ⊤
-IsLineTrue IsSo (line.Unusable ds) = ⊤
-IsLineTrue IsSo (line.Hope kind) = ⊤
-IsLineTrue IsSo (line.Holds interval) = ⊤
 IsLineTrue IsSo (line.Reason reason) = IsSo reason
-IsLineTrue IsSo (line.Follows signer) = ⊤
-IsLineTrue IsSo (line.Key key) = ⊤
-IsLineTrue IsSo (line.Rrset place) = ⊤
+IsLineTrue IsSo other = ⊤
 
 -- ---- places
 

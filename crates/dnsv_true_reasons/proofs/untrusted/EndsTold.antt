@@ -76,27 +76,19 @@ module _ (a : Asking) where
 
   -- a line that a signer isn't trusted says just that
   trust_follows : (t : Told) (u : UntrustedSigner) → IsTrustLine a t (line.Follows u) → (k : SignatureNumber) × (t ≡ told.Follows k) × IsShown a.basis.rrsets k u.signature
-  trust_follows (told.Zone why n) u by = absurd (let e = by.2 in cc e)
-  trust_follows (told.Entry why n) u by = absurd (let e = by.2 in cc e)
   trust_follows (told.NotSelfSigned n) u by = absurd (let e = by.4 in cc e)
-  trust_follows (told.NotVouched k) u by = absurd (let e = by.2 in cc e)
-  trust_follows (told.Unsigned k) u by = absurd (let e = by.2 in cc e)
-  trust_follows (told.Signature why n) u by = absurd (let e = by.2 in cc e)
   trust_follows (told.Follows k) u by =
       let e = by.2 in
       let one : u ≡ record { signature = by.0 } = cc e in
       (k, refl, subst (λ (x : ShownSignature). IsShown a.basis.rrsets k x) (sym (ap (λ (x : UntrustedSigner). x.signature) one)) by.1)
+  trust_follows t u by = absurd (let e = by.2 in cc e)
 
   follows_of : (t : Said) (u : UntrustedSigner) → IsSaidLine a t (line.Follows u) → (k : SignatureNumber) × (t ≡ said.Trust (told.Follows k)) × IsShown a.basis.rrsets k u.signature
   follows_of (said.Trust t) u by = let of = trust_follows t u by in (of.0, ap said.Trust of.1, of.2)
   follows_of (said.NoCloser n c) u by = absurd (let e = by.4 in cc e)
-  follows_of (said.Dname d) u by = absurd (let e = by.2 in cc e)
-  follows_of (said.DnameHeld n number) u by = absurd (let e = by.2 in cc e)
-  follows_of (said.Nsec3 why number) u by = absurd (let e = by.2 in cc e)
   follows_of (said.Source why n x) u by = absurd (let e = by.4 in cc e)
-  follows_of (said.AnswerMissing n) u by = absurd (let e = by.2 in cc e)
-  follows_of (said.DenialUnproved n) u by = absurd (let e = by.2 in cc e)
   follows_of (said.DsUnproved c) u by = absurd (let e = by.4 in cc e)
+  follows_of t u by = absurd (let e = by.2 in cc e)
 
   -- ---- signers
 

@@ -147,10 +147,8 @@ module _ (a : Asking) (n : ℕ) (within : n ≤ length a.name) where
         (sym same) are.first.is))
         (inl one)
     of_case (case.At found) r are one = of_records a.name found r are.2 one
-    of_case case.Apex r are one = absurd one
     of_case (case.NonTerminal rrsets) r are one = of_such _ rrsets.items r are.4
         (λ number is. empty_denial a (rightmost a.name n) chain a.name number is) one
-    of_case case.NoEncloser r are one = absurd one
     of_case (case.Encloser e) r are (inl shown) = of_showing (rightmost a.name e.name) e.shown.items r are.1.shown shown
     of_case (case.Encloser e) r are (inr (inl covered)) = of_such _ e.covers.items r are.1.covers covering covered
       where
@@ -160,13 +158,13 @@ module _ (a : Asking) (n : ℕ) (within : n ≤ length a.name) where
         covering number (inr is) = opted_denial a (rightmost a.name n) chain (rightmost a.name e.next) number is.1
     of_case (case.Encloser e) r are (inr (inr one)) = of_wildcard (rightmost a.name e.next) (wildcard_of (rightmost a.name e.name))
         e.wildcard r are.1.wildcard one
+    of_case c r are one = absurd one
 
     pub of_cut_case : (parent x : Labels) (c : CutCase) (r : RrsetFacts)
         → IsCutCase a.basis (source_said a (rightmost a.name n) chain) (HasOptOut a (rightmost a.name n) chain) parent x c
         → IsOneOfCut c r → PartThere a n r
     of_cut_case parent x (cut.Delegation rrsets) r are one = of_such _ rrsets.items r are.1
         (λ number is. typed_denial a (rightmost a.name n) chain x _ number is) one
-    of_cut_case parent x cut.NoCut r are one = absurd one
     of_cut_case parent x (cut.Signed s) r are one = record {
       k = s.number.rrset;
       its = subst (AreRrsetFacts a.basis s.number.rrset) (sym one) are.2;
@@ -177,8 +175,7 @@ module _ (a : Asking) (n : ℕ) (within : n ≤ length a.name) where
         (λ number is. shown_denial a (rightmost a.name n) chain parent number is) shown
     of_cut_case parent x (cut.OptOut o) r are (inr covered) = of_such _ o.covers.items r are.3
         (λ number is. opted_denial a (rightmost a.name n) chain x number is) covered
-    of_cut_case parent x cut.Uncovered r are one = absurd one
-    of_cut_case parent x cut.Unmatched r are one = absurd one
+    of_cut_case parent x c r are one = absurd one
 
 pub part_there : (a : Asking) (q : QuestionFacts) → AreQuestionFacts a q → (zone : ℕ) (r : RrsetFacts) → IsPartOf q zone r
     → PartThere a zone r

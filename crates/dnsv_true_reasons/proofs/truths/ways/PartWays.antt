@@ -38,11 +38,9 @@ use Rattle.dnsv_true_reasons.proofs.truths.ways.Told.IsOfSignature.{answered, fo
 -- ---- the mildest answer is that of a key
 
 milder_either : (a b : KeyAnswer) → (milder a b ≡ a) ⊎ (milder a b ≡ b)
-milder_either answer.Good b = inl refl
 milder_either answer.Bad b = inr refl
 milder_either answer.Unanswered answer.Good = inr refl
-milder_either answer.Unanswered answer.Bad = inl refl
-milder_either answer.Unanswered answer.Unanswered = inl refl
+milder_either a b = inl refl
 
 pub record MildestOf (a : KeyAnswer) (keys : List NamedKey) : Type 0 where
   pub k : NamedKey

@@ -40,8 +40,7 @@ LevelsOf P zones levels = (n : ℕ) (level : Leveled) → slice_get levels n ≡
 
 pub good_by : (said : KeyAnswer) (n : SignatureNumber) → answer_lines n said ≡ [] → said ≡ answer.Good
 good_by answer.Good n none = refl
-good_by answer.Bad n none = absurd (cc none)
-good_by answer.Unanswered n none = absurd (cc none)
+good_by said n none = absurd (cc none)
 
 module _ (P : Told → Type 0) (zones : List ZoneFacts) (s : SignatureFacts) (each : (t : Told) → IsOfSignature zones s t → P t) where
   pub all_wrong : AllByRecursion P (signature_lines s)

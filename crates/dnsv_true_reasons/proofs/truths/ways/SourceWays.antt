@@ -153,12 +153,10 @@ neither false b e = (refl, e)
 pub proving : (levels : List Leveled) (n : SourceNumber) (c : ℕ) (x : CutCase) → lacks_nothing (cut_remedy levels n c x) ≡ true
     → IsProvingCase x
 proving levels n c (cut.Delegation rrsets) e = part_there levels n.zone rrsets.items [] (off_by_not _ e)
-proving levels n c cut.NoCut e = absurd (false≢true e)
 proving levels n c (cut.Signed s) e = absurd (false≢true (sym (neither (part_of_one levels n.zone s.rrset).lacks true (off_by_not _ e)).1))
 proving levels n c (cut.OptOut o) e =
     let line = said.Source why.EncloserMissing n (name.At c) in
     let whole = neither (part levels n.zone o.shown.items (line ∷ [])).lacks (part levels n.zone o.covers.items []).lacks (off_by_not _ e)
     in
     (part_there levels n.zone o.shown.items (line ∷ []) whole.0, part_there levels n.zone o.covers.items [] whole.1)
-proving levels n c cut.Uncovered e = absurd (false≢true e)
-proving levels n c cut.Unmatched e = absurd (false≢true e)
+proving levels n c x e = absurd (false≢true e)

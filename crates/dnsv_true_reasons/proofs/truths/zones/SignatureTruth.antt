@@ -180,12 +180,11 @@ module _ (basis : Basis) (name : Labels) (t : ℕ) (zones : List ZoneFacts) (are
   answer_told n key clean said.Good is line among = absurd among
   answer_told n key clean said.Bad is line (inl same) =
       subst (IsTold basis name) (sym same) (it_is why.Bad (has_answer basis rrset its.rrsig n.key key.key Invalid key.placed is))
-  answer_told n key clean said.Bad is line (inr never) = absurd never
   answer_told n key clean said.Unanswered is line (inl same) =
       let asked = unknown basis rrset its.rrsig s.faults its.faults (faults_clean clean) (covers rrset sn its.rrsig formed its.its)
       key.key key.meant key.placed.owner is in
       subst (IsTold basis name) (sym same) (it_is why.Unanswered (has_answer basis rrset its.rrsig n.key key.key Unknown key.placed asked))
-  answer_told n key clean said.Unanswered is line (inr never) = absurd never
+  answer_told n key clean a is line (inr never) = absurd never
 
   trusted_signer : (z : ZoneFacts) → slice_get zones s.signer ≡ Some z → is_zone_trusted z ≡ true → s.faults.signer ≡ false
       → IsTrustedZone basis its.rrsig.signer

@@ -48,14 +48,12 @@ some_key_moves rrsets a b Such same some = (some.0, some.1, placed_same rrsets a
 pub fault_moves : (rrsets : List ReceivedRrset) (a b : Labels) (wanted : Wanted) (w : WhyEntry) → SameName a b
     → IsVoucherFault rrsets a wanted w
     → IsVoucherFault rrsets b wanted w
-fault_moves rrsets a b wanted why.Algorithm same is = is
-fault_moves rrsets a b wanted why.DigestType same is = is
-fault_moves rrsets a b wanted why.DigestIgnored same is = is
 fault_moves rrsets a b wanted why.KeyMissing same is = no_key_moves rrsets a b (HasTag wanted) same is
 fault_moves rrsets a b wanted why.KeyAlgorithm same is =
     (some_key_moves rrsets a b (HasTag wanted) same is.0, no_key_moves rrsets a b (IsWantedBy wanted) same is.1)
 fault_moves rrsets a b wanted why.DigestDiffers same is =
     (some_key_moves rrsets a b (IsWantedBy wanted) same is.0, no_key_moves rrsets a b (IsMatchOf wanted) same is.1)
+fault_moves rrsets a b wanted w same is = is
 
 pub fits_moves : (rrsets : List ReceivedRrset) (a b : Labels) (wanted : Wanted) (key : DnskeyRecord) → SameName a b
     → Fits rrsets a wanted key → Fits rrsets b wanted key
