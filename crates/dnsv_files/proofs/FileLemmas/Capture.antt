@@ -38,10 +38,7 @@ AllTaken-push demand opening held number at (x' ∷ xs) (y' ∷ ys) x y same all
 pub IsFaultOf-weaker : (P Q : Refusal → Place → Type 0) (told : Fault) → ((why : Refusal) (place : Place) → P why place → Q why place) → IsFaultOf P told → IsFaultOf Q told
 IsFaultOf-weaker P Q (fault.Refused why place) weaker holds = weaker why place holds
 IsFaultOf-weaker P Q fault.OutOfMemory weaker holds = tt
-IsFaultOf-weaker P Q (fault.ReadFailed file) weaker holds = holds
-IsFaultOf-weaker P Q (fault.TooLong file) weaker holds = holds
-IsFaultOf-weaker P Q (fault.OpenFailed file) weaker holds = holds
-IsFaultOf-weaker P Q fault.WriteFailed weaker holds = holds
+IsFaultOf-weaker P Q told weaker holds = holds
 
 -- what a capture doesn't take is refused
 module _ (opening : Opening) (held : Evidence) (frame : List ℕ) (number : ℕ) (message : Contents) (is : IsInFrame opening number frame message) where
@@ -51,35 +48,13 @@ module _ (opening : Opening) (held : Evidence) (frame : List ℕ) (number : ℕ)
   capture_refused capture.Truncated (fault.Refused why place) refused tells = (inr (message, is, (capture.Truncated, refused, tells.0)), tells.1, tells.2)
   capture_refused (capture.BadRdata k) (fault.Refused why place) refused tells = (inr (message, is, (capture.BadRdata k, refused, tells.0)), tells.1, tells.2)
   capture_refused capture.Limit (fault.Refused why place) refused tells = (inr (message, is, (capture.Limit, refused, tells.0)), tells.1, tells.2)
-  capture_refused capture.NotAResponse fault.OutOfMemory refused tells = absurd tells
-  capture_refused capture.NotAResponse (fault.ReadFailed file) refused tells = absurd tells
-  capture_refused capture.NotAResponse (fault.TooLong file) refused tells = absurd tells
-  capture_refused capture.NotAResponse (fault.OpenFailed file) refused tells = absurd tells
-  capture_refused capture.NotAResponse fault.WriteFailed refused tells = absurd tells
-  capture_refused capture.Truncated fault.OutOfMemory refused tells = absurd tells
-  capture_refused capture.Truncated (fault.ReadFailed file) refused tells = absurd tells
-  capture_refused capture.Truncated (fault.TooLong file) refused tells = absurd tells
-  capture_refused capture.Truncated (fault.OpenFailed file) refused tells = absurd tells
-  capture_refused capture.Truncated fault.WriteFailed refused tells = absurd tells
-  capture_refused (capture.BadRdata k) fault.OutOfMemory refused tells = absurd tells
-  capture_refused (capture.BadRdata k) (fault.ReadFailed file) refused tells = absurd tells
-  capture_refused (capture.BadRdata k) (fault.TooLong file) refused tells = absurd tells
-  capture_refused (capture.BadRdata k) (fault.OpenFailed file) refused tells = absurd tells
-  capture_refused (capture.BadRdata k) fault.WriteFailed refused tells = absurd tells
-  capture_refused capture.Limit fault.OutOfMemory refused tells = absurd tells
-  capture_refused capture.Limit (fault.ReadFailed file) refused tells = absurd tells
-  capture_refused capture.Limit (fault.TooLong file) refused tells = absurd tells
-  capture_refused capture.Limit (fault.OpenFailed file) refused tells = absurd tells
-  capture_refused capture.Limit fault.WriteFailed refused tells = absurd tells
+  capture_refused error told refused tells = absurd tells
 
 -- memory is wanted for a whole response alone
 pub whole_wanted : {T : Type 0} (held : Evidence) (message : Contents) (number : ℕ) (error : CaptureError) (told : Fault) → IsReasonAgainst held message error
     → IsCaptureFault error number told → Path (Result T Fault) (Err told) (Err fault.OutOfMemory) → IsWhole message
 whole_wanted held message number capture.OutOfMemory told refused tells is = refused
-whole_wanted held message number capture.NotAResponse told refused tells is = let same : told ≡ fault.OutOfMemory = cc in absurd (subst (IsCaptureFault capture.NotAResponse number) same tells)
-whole_wanted held message number capture.Truncated told refused tells is = let same : told ≡ fault.OutOfMemory = cc in absurd (subst (IsCaptureFault capture.Truncated number) same tells)
-whole_wanted held message number (capture.BadRdata k) told refused tells is = let same : told ≡ fault.OutOfMemory = cc in absurd (subst (IsCaptureFault (capture.BadRdata k) number) same tells)
-whole_wanted held message number capture.Limit told refused tells is = let same : told ≡ fault.OutOfMemory = cc in absurd (subst (IsCaptureFault capture.Limit number) same tells)
+whole_wanted held message number error told refused tells is = let same : told ≡ fault.OutOfMemory = cc in absurd (subst (IsCaptureFault error number) same tells)
 
 -- the messages before the place are taken, and what is refused from there on is the first that is
 pub record MessagesSoFar (demand : Demand) (opening : Opening) (frames : List (List ℕ)) (done : ℕ) (messages : List Contents) : Type 0 where

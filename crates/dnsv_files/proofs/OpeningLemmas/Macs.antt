@@ -107,11 +107,7 @@ module _ {T : Type 0} (text : List ℕ) (all : List NumberedLine) (has : HasLine
       → GoesOn all macs (line ∷ left) → IsRefusalOf (IsMacRefused line) told → TellsRefusals {T = T} (AreMacsRefused text) (BeginsWithMac text) (Err told)
   line_told line left (fault.Refused a p) so_far is why place bad =
       inl (ap (λ (f : Fault). Err f) (one_macs_refusal text a why p place (all, has, so_far.refused a p (inl is)) bad))
-  line_told line left fault.OutOfMemory so_far is why place bad = absurd is
-  line_told line left (fault.ReadFailed file) so_far is why place bad = absurd is
-  line_told line left (fault.TooLong file) so_far is why place bad = absurd is
-  line_told line left (fault.OpenFailed file) so_far is why place bad = absurd is
-  line_told line left fault.WriteFailed so_far is why place bad = absurd is
+  line_told line left told so_far is why place bad = absurd is
 
   -- nothing is refused
   pub none_told : (macs : List (Option (List ℕ))) (x : T) → SayMacs all macs → TellsRefusals {T = T} (AreMacsRefused text) (BeginsWithMac text) (Ok x)
