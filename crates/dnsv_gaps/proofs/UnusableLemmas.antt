@@ -18,7 +18,8 @@ use Rattle.dnsv_canonical.specs.Canonical.{IsCanonical}
 use Rattle.dnsv_canonical.specs.CanonicalRdata.{canonical_form}
 use Rattle.dnsv_canonical.specs.Rrsets.{IsNumbered, ReceivedRrset}
 use Rattle.dnsv_canonical.specs.declared.number.RecordNumber.{RecordNumber}
-use Rattle.dnsv_denial.proofs.lemmas.gathering.EvidenceLemmas.{nsec3_forms, one_numbered, one_record}
+use Rattle.dnsv_denial.proofs.lemmas.gathering.EvidenceLemmas.{nsec3_forms, one_record}
+use Rattle.dnsv_canonical.proofs.NumberLemmas.{one_numbered}
 use Rattle.dnsv_denial.proofs.lemmas.gathering.Gathering.{Grown, UpTo, grown_all, grown_none, grown_not, grown_one, none_in}
 use Rattle.dnsv_denial.proofs.lemmas.gathering.NsecGather.{place_within, record_at}
 use Rattle.dnsv_denial.proofs.lemmas.words.AlikeLemmas.{any_place}

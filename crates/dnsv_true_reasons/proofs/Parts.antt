@@ -27,7 +27,7 @@ use Rattle.dnsv_faults.specs.Rrsets.{AreRrsetFacts}
 use Rattle.dnsv_faults.specs.Signatures.{AreSignatureFacts, IsSignatureAt}
 use Rattle.dnsv_faults.proofs.lemmas.zones.ClosedLemmas.{among_of, contains_of, not_true, off_by}
 use Rattle.dnsv_faults.proofs.lemmas.zones.TrustLemmas.{number_of, numbered_among, or_cases, signature_known, zip_left}
-use Rattle.dnsv_zone_keys.proofs.lemmas.ZoneKeyLemmas.{same_number}
+use Rattle.dnsv_canonical.proofs.NumberLemmas.{one_numbered}
 use Rattle.dnsv_gaps.specs.Asking.{Asking}
 use Rattle.dnsv_gaps.specs.Denials.{HasSigner, IsDenialNumber, IsDenialOf, IsStrayOf}
 use Rattle.dnsv_gaps.specs.Parts.{AreFactsOf}
@@ -62,7 +62,7 @@ not_off false h = refl
 -- a signature with a number is one
 pub one_signature : (rrset : ReceivedRrset) (s : ℕ) (x y : Rrsig) → IsSignatureAt rrset s x → IsSignatureAt rrset s y → x ≡ y
 one_signature rrset s x y first second =
-    let same = same_number rrset.signatures s first.rdata second.rdata first.numbered second.numbered in
+    let same = one_numbered rrset.signatures s first.rdata second.rdata first.numbered second.numbered in
     one_rrsig second.rdata x y (subst (λ (rdata : List ℕ). IsRrsig rdata x) same first.is) second.is
 
 -- one that is secured, as it is read here
@@ -71,7 +71,7 @@ pub secured_as : (basis : Basis) (k s : ℕ) (rrset : ReceivedRrset) (rrsig : Rr
     → IsGoodByTrust basis.meaning basis.moment basis.rrsets basis.anchors rrset rrsig
 secured_as basis k s rrset rrsig numbered its is =
     let Good = IsGoodByTrust basis.meaning basis.moment basis.rrsets basis.anchors in
-    let same = same_number basis.rrsets k is.rrset rrset is.numbered numbered in
+    let same = one_numbered basis.rrsets k is.rrset rrset is.numbered numbered in
     let at : IsSignatureAt is.rrset s is.rrsig = record { rdata = is.rdata; numbered = is.signature; is = is.is } in
     let here = subst (λ (r : ReceivedRrset). IsSignatureAt r s is.rrsig) same at in
     let one = one_signature rrset s is.rrsig rrsig here its in
@@ -96,7 +96,7 @@ module _ (a : Asking) where
   module _ (n : ℕ) (within : n ≤ length a.name) (r : RrsetFacts) (facts : AreRrsetFacts a.basis r.number r)
       (denial : IsDenialNumber a (rightmost a.name n) r.number) where
     same_rrset : denial.rrset ≡ facts.rrset
-    same_rrset = same_number a.basis.rrsets r.number denial.rrset facts.rrset denial.numbered facts.numbered
+    same_rrset = one_numbered a.basis.rrsets r.number denial.rrset facts.rrset denial.numbered facts.numbered
 
     is_denial : IsDenialOf a (rightmost a.name n) facts.rrset
     is_denial = subst (λ (x : ReceivedRrset). IsDenialOf a (rightmost a.name n) x) same_rrset denial.denial

@@ -48,7 +48,7 @@ use Rattle.dnsv_faults.specs.Signatures.{AreSignatureFacts}
 use Rattle.dnsv_faults.proofs.lemmas.zones.ClosedLemmas.{among_of, contains_of}
 use Rattle.dnsv_faults.proofs.lemmas.zones.PlaceLemmas.{contains_at}
 use Rattle.dnsv_faults.proofs.lemmas.zones.TrustLemmas.{zip_left}
-use Rattle.dnsv_zone_keys.proofs.lemmas.ZoneKeyLemmas.{same_number}
+use Rattle.dnsv_canonical.proofs.NumberLemmas.{one_numbered}
 use Rattle.dnsv_gaps.proofs.QuestionLemmas.CloserLemmas.{fewer_counted}
 use Rattle.dnsv_gaps.specs.Asking.{Asking}
 use Rattle.dnsv_gaps.specs.Cases.{AreRecordsAt, AreShowing, AreWildcardFacts, IsSourceCase}
@@ -311,7 +311,7 @@ module _ (a : Asking) where
       (mapped_among (λ (each : AnswerSignature). each.signature) g.signatures.items s among) in
       let one = zip_left (λ (signature : ℕ × Rrsig) facts. AreSignatureFacts a.basis g.number known.rrset signature.0 facts) known.order are.known.signatures.items
       s.signature known.each (contains_of s.signature are.known.signatures.items there) in
-      let same = same_number a.basis.rrsets g.number known.rrset are.rrset known.numbered are.numbered in
+      let same = one_numbered a.basis.rrsets g.number known.rrset are.rrset known.numbered are.numbered in
       record { number = one.0.0; its = subst (λ (r : ReceivedRrset). AreSignatureFacts a.basis g.number r one.0.0 s.signature) same one.2 }
 
   some_closer : (g : GoalFacts) (s : AnswerSignature) (c : CloserFacts) (rrset : ReceivedRrset) (rrsig : Rrsig) (o : Option CloserFacts) → s.closer ≡ o → o ≡ Some c
@@ -371,7 +371,7 @@ module _ (a : Asking) where
             let such = (are.goals.members g.number).0 (contains_of g.number (map (λ (each : GoalFacts). each.number) q.goals.items)
             (mapped_among (λ (each : GoalFacts). each.number) q.goals.items g among)) in
             says_goal g its (λ rrset numbered.
-            let same = same_number a.basis.rrsets g.number such.0 rrset such.1 numbered in
+            let same = one_numbered a.basis.rrsets g.number such.0 rrset such.1 numbered in
             subst (λ (r : ReceivedRrset). SameName r.owner a.name) same such.2.owner);
         dnames = λ d among.
             let there = subst (λ (all : List DnameFacts). IsAmong d all) are.dnames among in

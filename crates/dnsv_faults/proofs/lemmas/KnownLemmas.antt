@@ -19,7 +19,7 @@ use Rattle.dnsv_canonical.specs.Rrsets.{IsNumbered, ReceivedRrset}
 use Rattle.dnsv_chain.proofs.ZipLemmas.{zip_at, zip_length}
 use Rattle.dnsv_verdict.specs.Verdict.{Basis}
 use Rattle.dnsv_verdict.proofs.SearchLemmas.{numbers_are}
-use Rattle.dnsv_verdict.proofs.SearchLemmas.NumberLemmas.{IsOneAt}
+use Rattle.dnsv_canonical.proofs.NumberLemmas.{IsOneAt}
 use Rattle.dnsv_verifier.proofs.AskLemmas.{adds_nothing, adds_same}
 use Rattle.dnsv_verifier.specs.Admissible.{IsSignatureOf}
 use Rattle.dnsv_verifier.specs.Asking.{AddsJust, ComesOfSome}

@@ -24,7 +24,7 @@ use Rattle.dnsv_remedies.specs.declared.facts.name.AskedName.TheVariants.{At, Wi
 use Rattle.dnsv_remedies.specs.declared.facts.name.SourceNumber.{SourceNumber}
 use Rattle.dnsv_remedies.specs.declared.said.Said.{Said}
 use Rattle.dnsv_remedies.specs.declared.said.Said.TheVariants as said
-use Rattle.dnsv_reason_laws.proofs.OnePlace.{IsOrdered, no_self, one_list, tail}
+use Rattle.dnsv_reasons.proofs.SourceLemmas.{IsOrdered, no_self, one_list, tail}
 use Rattle.dnsv_reason_laws.proofs.alike.AlikeLines.{as_read, labels_of, read, read_parameters, said_read, some_record, some_source}
 use Rattle.dnsv_reason_laws.proofs.kept.KeptRemedies.{Fits, is_of_wildcard}
 

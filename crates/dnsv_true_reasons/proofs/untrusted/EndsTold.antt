@@ -31,7 +31,7 @@ use Rattle.dnsv_remedies.proofs.Once.{each_told, only_told, unanchored_reasons}
 use Rattle.dnsv_faults.proofs.lemmas.zones.ClosedLemmas.{off_by}
 use Rattle.dnsv_faults.proofs.lemmas.zones.TrustLemmas.{number_of}
 use Rattle.dnsv_faults.proofs.lemmas.zones.WholeLemmas.{whole}
-use Rattle.dnsv_zone_keys.proofs.lemmas.ZoneKeyLemmas.{same_number}
+use Rattle.dnsv_canonical.proofs.NumberLemmas.{one_numbered}
 use Rattle.dnsv_gaps.specs.Asking.{Asking}
 use Rattle.dnsv_reasons.specs.Failures.{AreFailures}
 use Rattle.dnsv_reasons.specs.Lines.{AreSaidLines, IsSaidLine, IsTrustLine}
@@ -151,7 +151,7 @@ module _ (a : Asking) where
               let listed = number_of a.basis.rrsets set (trusted_among trusted.1) in
               let zone = trusted_zone a zones of_zones end.c end.untrusted.0 listed.0 set end.untrusted.1 listed.1 (trusted.2 ∙ signer) (trusted_rtype trusted.1)
               (λ r its_facts. its_facts.trusted.1 (subst (λ (x : ReceivedRrset). chain.IsTrusted a.basis.meaning a.basis.moment a.basis.rrsets a.basis.anchors x)
-              (same_number a.basis.rrsets listed.0 set its_facts.set listed.1 its_facts.numbered) trusted.1)) in
+              (one_numbered a.basis.rrsets listed.0 set its_facts.set listed.1 its_facts.numbered) trusted.1)) in
               let one : end.untrusted.0 ≡ zone.z = same_Some end.untrusted.0 zone.z (sym end.untrusted.1 ∙ zone.is) in
               false≢true (sym (subst (λ (z : ZoneFacts). is_zone_trusted z ≡ false) one end.untrusted.2) ∙ zone.trusted);
           reason = reason.0;

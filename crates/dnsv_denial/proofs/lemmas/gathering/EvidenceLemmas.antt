@@ -23,11 +23,9 @@ use Rattle.dnsv_denial.specs.gathering.Gathered.{AreAll}
 use Rattle.dnsv_denial.specs.words.EvidenceWords.{number_cmp}
 use Rattle.dnsv_canonical.specs.declared.number.RecordNumber.{RecordNumber}
 use Rattle.dnsv_canonical.proofs.OrderLemmas.{each_kept}
+use Rattle.dnsv_canonical.proofs.NumberLemmas.{one_numbered}
 
 -- ---- at most one record has a number
-
-pub one_numbered : {X : Type 0} (xs : List X) (n : ℕ) (a b : X) → IsNumbered xs n a → IsNumbered xs n b → a ≡ b
-one_numbered xs n a b is_a is_b = let at_a = is_a.1 in let at_b = is_b.1 in cc
 
 -- an RRset and an RDATA of it, as one value
 pub one_record : (rrsets : List ReceivedRrset) (n : RecordNumber) (r s : ReceivedRrset) (x y : List ℕ)

@@ -18,7 +18,8 @@ use Rattle.dnsv_denial.specs.gathering.Gathered.{AreNsec3s, AreNsec3sOf, IsDenia
 use Rattle.dnsv_denial.specs.records.Record.{flags_of, read_nsec3}
 use Rattle.dnsv_denial.specs.declared.records.entry.Nsec3Entry.{Nsec3Entry}
 use Rattle.dnsv_canonical.specs.declared.number.RecordNumber.{RecordNumber}
-use Rattle.dnsv_denial.proofs.lemmas.gathering.EvidenceLemmas.{all_said, one_numbered, one_record, nsec3_forms}
+use Rattle.dnsv_denial.proofs.lemmas.gathering.EvidenceLemmas.{all_said, one_record, nsec3_forms}
+use Rattle.dnsv_canonical.proofs.NumberLemmas.{one_numbered}
 use Rattle.dnsv_denial.proofs.lemmas.gathering.Gathering.{UpTo, Grown, grown_none, grown_one, grown_not, grown_all, none_in}
 use Rattle.dnsv_denial.proofs.lemmas.gathering.NsecGather.{record_at, place_within}
 

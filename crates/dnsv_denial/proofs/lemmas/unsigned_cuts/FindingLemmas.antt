@@ -10,7 +10,7 @@ use Rattle.dnsv_canonical.specs.Rrsets.{IsNumbered, ReceivedRrset}
 use Rattle.dnsv_denial.specs.unsigned_cuts.Cuts.{no_ds, no_usable_ds, opt_out, IsFewest, IsMost, IsUnsignedDelegationCut, IsUnusableDsCut, IsOptOutCut, IsUnsignedCut, HasUnsignedCut}
 use Rattle.dnsv_chain.specs.UnusableDs.{IsUnusableDs}
 use Rattle.dnsv_denial.specs.unsigned_cuts.Findings.{IsFewestFound, IsMostFound, IsLesser, IsGreater, AreFindings}
-use Rattle.dnsv_denial.proofs.lemmas.gathering.EvidenceLemmas.{one_numbered}
+use Rattle.dnsv_canonical.proofs.NumberLemmas.{one_numbered}
 
 -- ---- the lesser and the greater of two findings
 

@@ -20,7 +20,7 @@ use Rattle.dnsv_derivations.specs.Saying.{Adds}
 use Rattle.dnsv_lines.specs.declared.line.Line.{Line}
 use Rattle.dnsv_canonical.specs.declared.number.SignatureNumber.{SignatureNumber}
 use Rattle.dnsv_derivations.proofs.lemmas.derivations.ClimbLemmas.{number_is}
-use Rattle.dnsv_derivations.proofs.lemmas.NumberedLemmas.{same_number}
+use Rattle.dnsv_canonical.proofs.NumberLemmas.{one_numbered}
 use Rattle.dnsv_derivations.proofs.lemmas.denials.PartLemmas.{signature_too}
 use Rattle.dnsv_derivations.proofs.lemmas.intervals.ShownLemmas.{rdata_at, read_at}
 
@@ -85,7 +85,7 @@ module _ (setting : Setting) (zone : Labels) (k : ℕ) where
           place = there.0;
           within = there.1;
           is = is;
-          has = subst Has (same_number setting.rrsets k own.rrset rrset own.is_rrset numbered)
+          has = subst Has (one_numbered setting.rrsets k own.rrset rrset own.is_rrset numbered)
               (signature_too (λ t. (t ≡ s) × SecuredIn setting k t) (λ t. t ≡ get_or numbers there.0 0) own.rrset zone own.signed
               (own.signed.secured.0 ∙ sym is));
         }
@@ -130,7 +130,7 @@ module _ (rrset : ReceivedRrset) (zone : Labels) (number : ℕ) (rrsigs : List R
       let there = rdata_at rrset.signatures rrsigs (number - 1) rrsig zip numbered.1 in
       let Numbered : ℕ → Type 0 = λ n. IsNumbered rrset.signatures n has.rdata in
       let octets : has.rdata ≡ there.0 =
-      same_number rrset.signatures number has.rdata there.0 (subst Numbered has.secured has.is_signature) (numbered.0, there.1) in
+      one_numbered rrset.signatures number has.rdata there.0 (subst Numbered has.secured has.is_signature) (numbered.0, there.1) in
       let Read : List ℕ → Type 0 = λ each. IsRrsig each has.rrsig in
       let same : has.rrsig ≡ rrsig = one_rrsig there.0 has.rrsig rrsig (subst Read octets has.read) there.2 in
       let Signer : Rrsig → Type 0 = λ each. SameName each.signer zone in

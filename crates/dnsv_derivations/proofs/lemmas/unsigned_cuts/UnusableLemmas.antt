@@ -31,7 +31,7 @@ use Rattle.dnsv_lines.specs.declared.line.cut.UnusableDs.{UnusableDs}
 use Rattle.dnsv_canonical.specs.declared.number.SignatureNumber.{SignatureNumber}
 use Rattle.dnsv_derivations.proofs.lemmas.derivations.ClimbLemmas.{number_is}
 use Rattle.dnsv_derivations.proofs.lemmas.SayingLemmas.{both_added}
-use Rattle.dnsv_derivations.proofs.lemmas.NumberedLemmas.{same_number}
+use Rattle.dnsv_canonical.proofs.NumberLemmas.{one_numbered}
 use Rattle.dnsv_derivations.proofs.lemmas.derivations.WayLemmas.KeysLemmas.{mapped_long, mapped_there, read_there}
 use Rattle.dnsv_derivations.proofs.lemmas.derivations.WayLemmas.RankLemmas.{ds_read, forms_of}
 use Rattle.dnsv_records.specs.Algorithm.{is_supported}
@@ -140,7 +140,7 @@ module _ (setting : Setting) (name : Labels) where
     }
 
     same_set : (is : IsUnusableSet setting name k) → is.ds ≡ ds
-    same_set is = same_number setting.rrsets k is.ds ds is.is_ds numbered
+    same_set is = one_numbered setting.rrsets k is.ds ds is.is_ds numbered
 
     pub set_delegates : IsUnusableSet setting name k → MayDelegate setting k ds name
     set_delegates is =
@@ -238,7 +238,7 @@ module _ {X : Type 0} (rdata : X → List ℕ) (record_read : X → Ds) (rrsets 
       n = n;
       first = added.says;
       every = λ place rrset octets at.
-          let same_rrset : rrset ≡ ds = same_number rrsets k rrset ds at.is_rrset numbered in
+          let same_rrset : rrset ≡ ds = one_numbered rrsets k rrset ds at.is_rrset numbered in
           let Canonical : ReceivedRrset → Type 0 = λ one. IsCanonical (map (canonical_form one.rtype) one.rdata) at.canonical in
           let lists : at.canonical ≡ map rdata records =
           canonical_unique (map (canonical_form ds.rtype) ds.rdata) at.canonical (map rdata records) (subst Canonical same_rrset at.is_canonical)

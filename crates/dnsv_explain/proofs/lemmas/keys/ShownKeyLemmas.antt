@@ -16,7 +16,7 @@ use Rattle.dnsv_derivations.specs.Explained.{Setting}
 use Rattle.dnsv_verifier.specs.Admissible.{DnskeyRecord}
 use Rattle.dnsv_explain.specs.KeyLines.{IsLowestDs, IsLowestOf, IsMatchedByAnchor, IsMatchedByDs}
 use Rattle.dnsv_derivations.specs.unsigned_cuts.UnsignedCuts.{record_of}
-use Rattle.dnsv_derivations.proofs.lemmas.NumberedLemmas.{same_number}
+use Rattle.dnsv_canonical.proofs.NumberLemmas.{one_numbered}
 use Rattle.dnsv_derivations.proofs.lemmas.derivations.WayLemmas.RankLemmas.{ds_read}
 
 module _ (setting : Setting) (key : DnskeyRecord) where
@@ -34,7 +34,7 @@ module _ (setting : Setting) (key : DnskeyRecord) where
       → ¬ IsMatchedByAnchor setting key (i + 1)
   anchor_never i anchor numbered never = λ is.
       let Matches : Anchor → Type 0 = λ each. IsAnchorMatch each key in
-      never (subst Matches (same_number setting.anchors (i + 1) is.0 anchor is.1 numbered) is.2)
+      never (subst Matches (one_numbered setting.anchors (i + 1) is.0 anchor is.1 numbered) is.2)
 
   -- ---- DS records
 
@@ -43,7 +43,7 @@ module _ (setting : Setting) (key : DnskeyRecord) where
     ByDs place = IsMatchedByDs setting key (record_of k place)
 
     its_rrset : (place : ℕ) (is : ByDs place) → is.1.rrset ≡ ds
-    its_rrset place is = same_number setting.rrsets k is.1.rrset ds is.1.at.is_rrset is_ds
+    its_rrset place is = one_numbered setting.rrsets k is.1.rrset ds is.1.at.is_rrset is_ds
 
     pub ds_counted : (place : ℕ) → ByDs place → 1 ≤ place
     ds_counted place is = is.1.at.is_rdata.0

@@ -29,7 +29,7 @@ use Rattle.dnsv_derivations.specs.derivations.OwnDerivations.{SecuredIn}
 use Rattle.dnsv_lines.specs.declared.line.Kind.{Kind}
 use Rattle.dnsv_lines.specs.declared.line.Kind.TheVariants as kind
 use Rattle.dnsv_canonical.specs.declared.number.SignatureNumber.{SignatureNumber}
-use Rattle.dnsv_derivations.proofs.lemmas.NumberedLemmas.{same_number}
+use Rattle.dnsv_canonical.proofs.NumberLemmas.{one_numbered}
 use Rattle.dnsv_explain.proofs.lemmas.telling.TellLemmas.{at_same, within_same}
 use Rattle.dnsv_derivations.proofs.lemmas.derivations.SignerLemmas.{no_signature}
 
@@ -57,10 +57,10 @@ module _ (setting : Setting) (name : Labels) (number : SignatureNumber) (secure 
     pub must_hold : (rrsig : Rrsig) → IsSignatureAt setting.rrsets number rrset rrsig → IsExpanded rrset.owner rrsig
         → CanProveNoCloser (SecuredIn setting) setting.rrsets name rrsig.labels rrsig.signer
     must_hold rrsig at expanded =
-        let same : secure.1.rrset ≡ rrset = same_number setting.rrsets number.rrset secure.1.rrset rrset secure.1.is_rrset is_rrset in
+        let same : secure.1.rrset ≡ rrset = one_numbered setting.rrsets number.rrset secure.1.rrset rrset secure.1.is_rrset is_rrset in
         let Numbered : ReceivedRrset → Type 0 = λ each. IsNumbered each.signatures number.signature secure.1.rdata in
         let rdata : secure.1.rdata ≡ at.rdata =
-        same_number rrset.signatures number.signature secure.1.rdata at.rdata (subst Numbered same secure.1.is_signature) at.is_signature in
+        one_numbered rrset.signatures number.signature secure.1.rdata at.rdata (subst Numbered same secure.1.is_signature) at.is_signature in
         let Read : List ℕ → Type 0 = λ octets. IsRrsig octets secure.1.rrsig in
         let one : secure.1.rrsig ≡ rrsig = one_rrsig at.rdata secure.1.rrsig rrsig (subst Read rdata secure.1.read) at.read in
         let Holds : ReceivedRrset → Type 0 = λ each. HoldsForName (SecuredIn setting) setting.rrsets name each secure.1.rrsig in

@@ -19,7 +19,7 @@ use Rattle.dnsv_faults.specs.Zones.{AreZoneFacts}
 use Rattle.dnsv_faults.proofs.lemmas.zones.ClosedLemmas.{among_of, contains_of, off_by}
 use Rattle.dnsv_faults.proofs.lemmas.zones.InPlaceLemmas.{at_or_above}
 use Rattle.dnsv_faults.proofs.lemmas.zones.TrustLemmas.{number_of, numbered_among, signature_known, zip_left}
-use Rattle.dnsv_zone_keys.proofs.lemmas.ZoneKeyLemmas.{same_number}
+use Rattle.dnsv_canonical.proofs.NumberLemmas.{one_numbered}
 use Rattle.dnsv_gaps.specs.Asking.{Asking}
 use Rattle.dnsv_gaps.specs.Cases.{AreShowing, AreWildcardFacts, IsBestCover, IsSourceCase}
 use Rattle.dnsv_gaps.specs.Cases.AreShowing.{by_records, needless}
@@ -222,7 +222,7 @@ module _ (a : Asking) (zones : List ZoneFacts) (are : AreZoneFacts a.basis a.nam
   -- the RRset is a denial of the zone, at or below it
   denial : IsDenialOf a (rightmost a.name zone) there.its.rrset
   denial = subst (IsDenialOf a (rightmost a.name zone))
-      (same_number a.basis.rrsets there.k there.denial.rrset there.its.rrset there.denial.numbered there.its.numbered) there.denial.denial
+      (one_numbered a.basis.rrsets there.k there.denial.rrset there.its.rrset there.denial.numbered there.its.numbered) there.denial.denial
 
   -- a signer at or above its owner with as many labels as the zone is the zone
   its_zone : (signer : Labels) → IsAtOrBelow there.its.rrset.owner signer → length signer ≡ zone

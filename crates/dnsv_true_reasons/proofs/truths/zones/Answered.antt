@@ -23,12 +23,11 @@ use Rattle.dnsv_zone_keys.specs.Keys.{AreStanding, IsKeyPlaced}
 use Rattle.dnsv_faults.specs.Signatures.{AreSignatureFaults, IsMeant, IsSignatureAt, expired, not_yet}
 use Rattle.dnsv_faults.proofs.lemmas.zones.PlaceLemmas.{contains_at}
 use Rattle.dnsv_faults.proofs.lemmas.zones.TrustLemmas.{numbered_among}
-use Rattle.dnsv_zone_keys.proofs.lemmas.ZoneKeyLemmas.{same_number}
+use Rattle.dnsv_canonical.proofs.NumberLemmas.{each_number, IsOneAt, one_numbered}
 use Rattle.dnsv_mending.specs.declared.facts.signature.KeyAnswer.TheVariants as said
 use Rattle.dnsv_mending.specs.declared.facts.signature.SignatureFaults.{SignatureFaults}
 use Rattle.dnsv_lines.specs.declared.line.fault.signature.SignatureTimes.{SignatureTimes}
 use Rattle.dnsv_verdict.specs.Verdict.{Basis}
-use Rattle.dnsv_verdict.proofs.SearchLemmas.NumberLemmas.{IsOneAt, each_number}
 use Rattle.dnsv_verifier.specs.Admissible.{DnskeyRecord, IsAdmissible, IsEntryOf, IsKeyAmong, MaySign, entry_over}
 use Rattle.dnsv_verifier.specs.declared.answer.Answer.{Answer}
 use Rattle.dnsv_verifier.specs.declared.answer.Answer.TheVariants.{Valid, Invalid, Unknown}
@@ -88,7 +87,7 @@ among_placed rrsets zone place key placed =
     (subst (λ (each : List (List ℕ)). Contains each key.rdata) placed.are.once there) in
     let stands = stands_in rrsets (numbers_at rrsets zone 48) placed.are.standing key.rdata placed.are.stand appears in
     let one = each_of (IsOneAt rrsets zone 48) (numbers_at rrsets zone 48) stands.k (each_number rrsets zone 48) stands.listed in
-    let set = same_number rrsets stands.k one.rrset stands.set one.is_rrset stands.numbered in
+    let set = one_numbered rrsets stands.k one.rrset stands.set one.is_rrset stands.numbered in
     record {
       same = record { owner = stands.set.owner; rdata = key.rdata; dnskey = key.dnskey };
       among = record {

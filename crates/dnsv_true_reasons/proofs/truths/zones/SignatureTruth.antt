@@ -18,7 +18,7 @@ use Rattle.dnsv_faults.specs.Signatures.{AreSignatureFacts, AreSignatureFaults, 
 use Rattle.dnsv_faults.specs.Zones.{AreZoneFacts}
 use Rattle.dnsv_faults.proofs.lemmas.zones.ClosedLemmas.{closed_signature, contains_of}
 use Rattle.dnsv_faults.proofs.lemmas.zones.TrustLemmas.{zip_left}
-use Rattle.dnsv_zone_keys.proofs.lemmas.ZoneKeyLemmas.{same_number}
+use Rattle.dnsv_canonical.proofs.NumberLemmas.{each_number, IsOneAt, one_numbered}
 use Rattle.dnsv_lines.specs.declared.line.fault.signature.SignatureTimes.{SignatureTimes}
 use Rattle.dnsv_lines.specs.declared.line.fault.signature.WhySignature.{WhySignature}
 use Rattle.dnsv_lines.specs.declared.line.fault.signature.WhySignature.TheVariants as why
@@ -37,7 +37,6 @@ use Rattle.dnsv_mending.specs.declared.told.Told.TheVariants as told
 use Rattle.dnsv_mending.proofs.AllWays.{all_append}
 use Rattle.dnsv_mending.proofs.SomeWays.{passing}
 use Rattle.dnsv_verdict.specs.Verdict.{Basis}
-use Rattle.dnsv_verdict.proofs.SearchLemmas.NumberLemmas.{IsOneAt, each_number}
 use Rattle.dnsv_verifier.specs.declared.answer.Answer.TheVariants.{Valid, Invalid, Unknown}
 use Rattle.dnsv_true_reasons.specs.Ends.{IsTrustedZone}
 use Rattle.dnsv_true_reasons.specs.truth.Signatures.{IsSignatureTrue}
@@ -197,7 +196,7 @@ module _ (basis : Basis) (name : Labels) (t : ℕ) (zones : List ZoneFacts) (are
       let of = zip_left (AreDnskeyFacts basis zone) (numbers_at basis.rrsets zone 48) z.dnskeys.items one.x (are.each s.signer z at).dnskeys
       (contains_of one.x z.dnskeys.items one.among) in
       let listed = each_of (IsOneAt basis.rrsets zone 48) (numbers_at basis.rrsets zone 48) of.0 (each_number basis.rrsets zone 48) of.1 in
-      let same = same_number basis.rrsets of.0 listed.rrset of.2.set listed.is_rrset of.2.numbered in
+      let same = one_numbered basis.rrsets of.0 listed.rrset of.2.set listed.is_rrset of.2.numbered in
       let owner : SameName of.2.set.owner zone = subst (λ (r : ReceivedRrset). SameName r.owner zone) same listed.owner in
       (of.2.set, of.2.trusted.0 one.passes, owner ∙ sym signer)
 

@@ -27,7 +27,7 @@ use Rattle.dnsv_faults.proofs.lemmas.zones.MatchLemmas.{anchor_known, record_kno
 use Rattle.dnsv_faults.proofs.lemmas.zones.PlaceLemmas.{at_some, same_record}
 use Rattle.dnsv_faults.proofs.lemmas.zones.TrustLemmas.{number_of, numbered_among, zip_left, zip_right}
 use Rattle.dnsv_faults.proofs.lemmas.zones.ZoneLemmas.{has_held}
-use Rattle.dnsv_zone_keys.proofs.lemmas.ZoneKeyLemmas.{same_number}
+use Rattle.dnsv_canonical.proofs.NumberLemmas.{each_number, IsOneAt, one_numbered}
 use Rattle.dnsv_lines.specs.declared.line.derivation.KeyName.{KeyName}
 use Rattle.dnsv_lines.specs.declared.line.fault.zone.EntryNumber.{EntryNumber}
 use Rattle.dnsv_lines.specs.declared.line.fault.zone.EntryNumber.TheVariants as number
@@ -45,7 +45,6 @@ use Rattle.dnsv_mending.specs.declared.told.Told.{Told}
 use Rattle.dnsv_mending.proofs.SomeWays.{both_parts}
 use Rattle.dnsv_verdict.specs.Verdict.{Basis}
 use Rattle.dnsv_verdict.proofs.SearchLemmas.{numbers_are}
-use Rattle.dnsv_verdict.proofs.SearchLemmas.NumberLemmas.{IsOneAt, each_number}
 use Rattle.dnsv_verifier.specs.Admissible.{DnskeyRecord}
 use Rattle.dnsv_true_reasons.specs.truth.Entries.{Fits, IsVoucherOf}
 use Rattle.dnsv_true_reasons.proofs.truths.zones.KeyTruth.{key_true, numbered_next}
@@ -113,7 +112,7 @@ it_is_at : (rrsets : List ReceivedRrset) (zone : Labels) (rtype k : ℕ) (rrset 
     → IsNumbered rrsets k rrset → ItIsAt zone rtype rrset
 it_is_at rrsets zone rtype k rrset there numbered =
     let one = each_of (IsOneAt rrsets zone rtype) (numbers_at rrsets zone rtype) k (each_number rrsets zone rtype) there in
-    let same = same_number rrsets k one.rrset rrset one.is_rrset numbered in record {
+    let same = one_numbered rrsets k one.rrset rrset one.is_rrset numbered in record {
       owner = subst (λ (r : ReceivedRrset). SameName r.owner zone) same one.owner;
       rtype_is = subst (λ (r : ReceivedRrset). r.rtype ≡ rtype) same one.same_type;
     }
@@ -223,7 +222,7 @@ module _ (basis : Basis) (name : Labels) (t : ℕ) (zones : List ZoneFacts) (are
       (record { rrset = vouches.rrset; is_rrset = vouches.numbered; owner = vouches.owner ∙ same; same_type = vouches.rtype }) in
       let found = zip_right (AreDsFacts basis zone) (numbers_at basis.rrsets zone 43) z.ds.items k facts.ds in_list in
       let its = found.2 in
-      let set : its.set ≡ vouches.rrset = same_number basis.rrsets k its.set vouches.rrset its.numbered vouches.numbered in
+      let set : its.set ≡ vouches.rrset = one_numbered basis.rrsets k its.set vouches.rrset its.numbered vouches.numbered in
       let canonical : vouches.placed.canonical ≡ its.canonical =
       canonical_unique vouches.rrset.rdata vouches.placed.canonical its.canonical vouches.placed.in_order
       (subst (λ (r : ReceivedRrset). IsCanonical r.rdata its.canonical) set its.in_order) in
@@ -375,7 +374,7 @@ module _ (basis : Basis) (name : Labels) (t : ℕ) (zones : List ZoneFacts) (are
   zone_true line (of_ds ds x in_zone of) =
       let there = ds_there ds in_zone in
       let its = there.its.rrset in
-      let set = same_number basis.rrsets there.k there.its.set its.rrset there.its.numbered its.numbered in
+      let set = one_numbered basis.rrsets there.k there.its.set its.rrset there.its.numbered its.numbered in
       let owner : SameName its.rrset.owner (rightmost name n) = subst (λ (r : ReceivedRrset). SameName r.owner (rightmost name n)) set
       there.it_is.owner in
       rrset_true basis name t zones are formed there.k ds.rrset its
