@@ -77,7 +77,7 @@ unsigned_told : (r : DnskeyFacts) (k : HeldKey) (t : Bool) → IsTold (if t then
 unsigned_told r k true = told_fault (told.NotSelfSigned k.number) (dear_fault class.NotSigning (told.NotSelfSigned k.number) refl refl)
 unsigned_told r k false = told_fault (told.Unsigned r.number) (dear_fault class.Stripped (told.Unsigned r.number) refl refl)
 
-dear_self : (k : HeldKey) (s : SelfSignature) → AllByRecursion Dear (self_lines k s)
+pub dear_self : (k : HeldKey) (s : SelfSignature) → AllByRecursion Dear (self_lines k s)
 dear_self k s =
     dear_else (fault_lines s.number s.faults ++ when (not k.is_zone_key) (told.Signature signature_why.NotZoneKey s.number)) (answer_lines s.number s.answer)
     (all_append Dear (fault_lines s.number s.faults) (when (not k.is_zone_key) (told.Signature signature_why.NotZoneKey s.number)) (dear_faults s.number s.faults)

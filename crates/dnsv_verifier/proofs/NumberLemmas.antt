@@ -7,12 +7,12 @@ use Rattle.std.proofs.lemmas.List.{append-nil, get_or-map, length-map, map-appen
 use Rattle.std.proofs.lemmas.List.Kept.{Contains-dedup, Contains-from_dedup, IsStrictlySortedBy-dedup}
 use Rattle.std.proofs.lemmas.List.Sorted.{Contains-permutation, IsPermutation-sym}
 use Rattle.std.proofs.lemmas.Map.Keys.{Less-from_sorted}
-use Rattle.std.specs.Cmp.{IsTotalOrder, both_tied, nat_cmp_is}
+use Rattle.std.specs.Cmp.{IsTotalOrder, both_tied, nat_cmp_is, unsigned_ties}
 use Rattle.std.specs.Cmp.Derive.{then_next}
 use Rattle.std.specs.Cmp.Lexicographic.{pointwise, texts_ties}
 use Rattle.std.specs.List.{AllByRecursion, Contains, HoldsAt, dedup, filter}
 use Rattle.std.specs.List.Sorted.{IsPermutation, IsSorted, IsStrictlySortedBy}
-use Rattle.std.specs.Ordering.{eq_by_cmp, is_eq, nat_cmp, ordering_then}
+use Rattle.std.specs.Ordering.{eq_by_cmp, nat_cmp, ordering_then}
 use Rattle.std.specs.declared.cmp.Ordering.{Ordering}
 use Rattle.std.specs.declared.cmp.Ordering.TheVariants.{Less, Equal, Greater}
 use Rattle.dnsv_names.specs.Octets.{octets_cmp}
@@ -154,23 +154,14 @@ signature_found signatures asked number d holds = signature_Equal (get_or signat
 
 -- ---- putting parts in order
 
-number_ties : (x y : ℕ) → nat_eq x y ≡ eq_by_cmp nat_cmp x y
-number_ties x y =
-    ⊎_elim
-    (λ (same : x ≡ y). let test : nat_eq x y ≡ true = grind (arith, nat_tests) in test ∙ ap is_eq (nat_cmp_is x y Equal same))
-    (⊎_elim
-    (λ (less : x < y). let test : nat_eq x y ≡ false = grind (arith, nat_tests) in test ∙ ap is_eq (nat_cmp_is x y Less less))
-    (λ (more : y < x). let test : nat_eq x y ≡ false = grind (arith, nat_tests) in test ∙ ap is_eq (nat_cmp_is x y Greater more)))
-    (cases_order x y)
-
 pub key_ties : (x y : KeyPart) → (nat_eq x.algorithm.0 y.algorithm.0 && pointwise nat_eq x.key y.key) ≡ eq_by_cmp key_cmp x y
-key_ties x y = both_tied _ _ _ _ (number_ties x.algorithm.0 y.algorithm.0) (texts_ties x.key y.key)
+key_ties x y = both_tied _ _ _ _ (unsigned_ties x.algorithm.0 y.algorithm.0) (texts_ties x.key y.key)
 
 pub signature_ties : (x y : SignaturePart) → (pointwise nat_eq x.signed_data y.signed_data && pointwise nat_eq x.signature y.signature) ≡ eq_by_cmp signature_cmp x y
 signature_ties x y = both_tied _ _ _ _ (texts_ties x.signed_data y.signed_data) (texts_ties x.signature y.signature)
 
 pub numbers_ties : (x y : EntryNumbers) → (nat_eq x.key y.key && nat_eq x.signature y.signature) ≡ eq_by_cmp numbers_cmp x y
-numbers_ties x y = both_tied _ _ _ _ (number_ties x.key y.key) (number_ties x.signature y.signature)
+numbers_ties x y = both_tied _ _ _ _ (unsigned_ties x.key y.key) (unsigned_ties x.signature y.signature)
 
 pub rising_keys : (sorted kept : List KeyPart) → IsSorted key_cmp sorted → kept ≡ dedup (λ x y. nat_eq x.algorithm.0 y.algorithm.0 && pointwise nat_eq x.key y.key) sorted → IsStrictlySortedBy key_cmp kept
 rising_keys sorted kept ordered is = subst (IsStrictlySortedBy key_cmp) (sym is) (IsStrictlySortedBy-dedup key_cmp_total key_ties sorted ordered)

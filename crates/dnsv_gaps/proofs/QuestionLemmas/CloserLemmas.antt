@@ -1,7 +1,7 @@
 -- What wildcards' signatures ask for beside them.
 use Rattle.std.proofs.Common.{◌≡◌, ◌↔◌, ◌⊎◌, ◌+◌, ◌-◌, ◌<◌, ◌≤◌, ◌==◌, ℕ, Bool, true, false, inl, inr, ⊎_elim, List, [], ◌∷◌, ◌++◌, Option, Some, None, if◌then◌else◌, length, get_or, map, take, refl, sym, ap, ◌∙◌, subst, arith, IsTrue}
 use Rattle.std.proofs.lemmas.Bool.{false≢true}
-use Rattle.std.proofs.lemmas.List.Elements.{All-contains, All-from_recursion, Contains-append_cases, Contains-append_left, Contains-append_right, Contains-get_or}
+use Rattle.std.proofs.lemmas.List.Elements.{All-contains, All-from_recursion, Contains-append_cases, Contains-append_left, Contains-append_right}
 use Rattle.std.proofs.lemmas.List.Kept.{Contains-dedup, Contains-from_dedup, IsStrictlySortedBy-dedup}
 use Rattle.std.proofs.lemmas.List.Sorted.{Contains-permutation, IsPermutation-sym}
 use Rattle.std.proofs.lemmas.Option.{slice_get-get_or, slice_get_within}
@@ -62,17 +62,6 @@ in_range rrset signatures number rrsig read its =
 
 -- what is read of the signatures of an RRset
 module _ (rrset : ReceivedRrset) (rrsigs : List Rrsig) (each : AllZip IsRrsig rrset.signatures rrsigs) where
-  pub signature_read : (rrsig : Rrsig) → Contains rrsigs rrsig → IsSignatureOf rrset rrsig
-  signature_read rrsig there =
-      let size = zip_length IsRrsig rrset.signatures rrsigs each in
-      let within = there.1 in
-      let inside : there.0 < length rrset.signatures = omega (arith, size, within) in (
-        get_or rrset.signatures there.0 [],
-        Contains-get_or rrset.signatures there.0 [] inside,
-        subst (λ (r : Rrsig). IsRrsig (get_or rrset.signatures there.0 []) r) there.2
-            (pairs_at IsRrsig rrset.signatures rrsigs there.0 [] rrsig each inside),
-      )
-
   pub signature_among : (rrsig : Rrsig) → IsSignatureOf rrset rrsig → Contains rrsigs rrsig
   signature_among rrsig its =
       let size = zip_length IsRrsig rrset.signatures rrsigs each in

@@ -38,14 +38,14 @@ use Rattle.dnsv_faults.proofs.lemmas.zones.TrustLemmas.{numbered_among, zip_left
 use Rattle.dnsv_zone_keys.proofs.lemmas.ZoneKeyLemmas.{one_zone_keys, placed_same}
 
 -- the RRset that a record stands in
-record StandsIn (rrsets : List ReceivedRrset) (numbers : List ℕ) (rdata : List ℕ) : Type 0 where
-  k : ℕ
-  listed : Contains numbers k
-  set : ReceivedRrset
-  numbered : IsNumbered rrsets k set
-  holds : Contains set.rdata rdata
+pub record StandsIn (rrsets : List ReceivedRrset) (numbers : List ℕ) (rdata : List ℕ) : Type 0 where
+  pub k : ℕ
+  pub listed : Contains numbers k
+  pub set : ReceivedRrset
+  pub numbered : IsNumbered rrsets k set
+  pub holds : Contains set.rdata rdata
 
-stands_in : (rrsets : List ReceivedRrset) (numbers : List ℕ) (standing : List (List ℕ)) (rdata : List ℕ) → AreStanding rrsets numbers standing
+pub stands_in : (rrsets : List ReceivedRrset) (numbers : List ℕ) (standing : List (List ℕ)) (rdata : List ℕ) → AreStanding rrsets numbers standing
     → Contains standing rdata → StandsIn rrsets numbers rdata
 stands_in rrsets [] standing rdata stand there =
     absurd (let none = subst (λ (all : List (List ℕ)). Contains all rdata) stand there in let within = none.1 in omega (arith, within))

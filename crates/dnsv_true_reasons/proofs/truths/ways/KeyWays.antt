@@ -23,11 +23,11 @@ use Rattle.dnsv_true_reasons.proofs.truths.ways.Told.IsOfKey.{not_self_signed, s
 
 -- ---- that a key signs its RRset
 
-empty_left : (xs ys : List Told) → xs ++ ys ≡ [] → xs ≡ []
+pub empty_left : (xs ys : List Told) → xs ++ ys ≡ [] → xs ≡ []
 empty_left [] ys none = refl
 empty_left (x ∷ xs) ys none = absurd (cc none)
 
-empty_right : (xs ys : List Told) → xs ++ ys ≡ [] → ys ≡ []
+pub empty_right : (xs ys : List Told) → xs ++ ys ≡ [] → ys ≡ []
 empty_right [] ys none = none
 empty_right (x ∷ xs) ys none = absurd (cc none)
 

@@ -45,6 +45,7 @@ use Rattle.dnsv_true_reasons.proofs.truths.ways.MendLines.{all_when}
 use Rattle.dnsv_true_reasons.proofs.truths.ways.Told.{IsOfSignature}
 use Rattle.dnsv_true_reasons.proofs.truths.ways.Told.IsOfSignature.{answered, follows, unnamed, untrusted, wrong}
 use Rattle.dnsv_true_reasons.proofs.truths.zones.TrueTold.{IsSignatureTold, IsTold}
+use Rattle.dnsv_true_reasons.proofs.truths.ways.KeyWays.{empty_left, empty_right}
 
 -- ---- lists
 
@@ -52,14 +53,6 @@ pub among_all : {X : Type 0} (P : X → Type 0) (xs : List X) (x : X) → AllByR
 among_all P [] x all among = absurd among
 among_all P (y ∷ xs) x all (inl same) = subst P (sym same) all.0
 among_all P (y ∷ xs) x all (inr later) = among_all P xs x all.1 later
-
-empty_left : (xs ys : List Told) → xs ++ ys ≡ [] → xs ≡ []
-empty_left [] ys none = refl
-empty_left (x ∷ xs) ys none = absurd (cc none)
-
-empty_right : (xs ys : List Told) → xs ++ ys ≡ [] → ys ≡ []
-empty_right [] ys none = none
-empty_right (x ∷ xs) ys none = absurd (cc none)
 
 not_when : (b : Bool) (t : Told) → when b t ≡ [] → b ≡ false
 not_when false t none = refl
