@@ -17,7 +17,8 @@ use Rattle.dnsv_derivations.specs.Saying.{AreBoth}
 use Rattle.dnsv_derivations.specs.derivations.Derivations.{IsLowestSecured}
 use Rattle.dnsv_derivations.specs.derivations.OwnDerivations.{IsSignatureTold}
 use Rattle.dnsv_derivations.specs.unsigned_cuts.ShownCuts.{IsCutTold}
-use Rattle.dnsv_derivations.specs.unsigned_cuts.UnsignedCuts.{AreAllTold, AreToldFrom, IsCaseTold, IsUnusableTold, record_of}
+use Rattle.dnsv_derivations.specs.unsigned_cuts.UnsignedCuts.{AreAllTold, AreToldFrom, IsCaseTold, IsUnusableTold}
+use Rattle.dnsv_derivations.specs.derivations.Ways.{record_at}
 use Rattle.dnsv_lines.specs.declared.line.Line.{Line}
 use Rattle.dnsv_lines.specs.declared.line.Line.TheVariants as line
 use Rattle.dnsv_lines.specs.declared.line.cut.InsecureCase.TheVariants as case
@@ -76,7 +77,7 @@ module _ (rrsets : List ReceivedRrset) where
         λ i. head i ∷ tail i
 
     abbrev EndsBy : ℕ → Type 0
-    EndsBy n = (place : ℕ) (rrset : ReceivedRrset) (rdata : List ℕ) → IsRecordAt rrsets (record_of k place) rrset rdata → place ≤ n
+    EndsBy n = (place : ℕ) (rrset : ReceivedRrset) (rdata : List ℕ) → IsRecordAt rrsets (record_at k place) rrset rdata → place ≤ n
 
     within : (place n : ℕ) (told : List UnusableDs) → place ≤ n + 1 → EndsBy n → AreToldFrom rrsets k place told → place + length told ≤ n + 1
     within place n [] begins ends each = omega (arith, begins)

@@ -27,8 +27,7 @@ use Rattle.dnsv_denial.specs.words.EvidenceWords.{number_cmp}
 use Rattle.dnsv_canonical.specs.declared.number.RecordNumber.{RecordNumber}
 use Rattle.dnsv_derivations.specs.Explained.{IsTodo, Setting}
 use Rattle.dnsv_derivations.specs.Following.{IsDsMatch, IsGoodUnder, IsNamed}
-use Rattle.dnsv_derivations.specs.derivations.WaySearch.{record_at}
-use Rattle.dnsv_derivations.specs.derivations.Ways.{IsFirstWay, IsTrustedLine, IsWayInto, Way, voucher_rank}
+use Rattle.dnsv_derivations.specs.derivations.Ways.{IsFirstWay, IsTrustedLine, IsWayInto, Way, record_at, voucher_rank}
 use Rattle.dnsv_lines.specs.declared.line.derivation.KeyName.{KeyName}
 use Rattle.dnsv_canonical.specs.declared.number.SignatureNumber.{SignatureNumber}
 use Rattle.dnsv_lines.specs.declared.line.derivation.TrustedKeys.{TrustedKeys}

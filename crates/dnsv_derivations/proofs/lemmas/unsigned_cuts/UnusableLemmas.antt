@@ -22,7 +22,8 @@ use Rattle.dnsv_derivations.specs.derivations.OwnDerivations.{IsSignatureTold, S
 use Rattle.dnsv_derivations.specs.derivations.Derivations.{IsLowestSecured}
 use Rattle.dnsv_derivations.specs.Following.Parts.{IsUnusableRecord, IsWhy}
 use Rattle.dnsv_derivations.specs.Saying.{Adds, AreBoth}
-use Rattle.dnsv_derivations.specs.unsigned_cuts.UnsignedCuts.{AreAllTold, AreFirstTold, AreToldFrom, IsCaseTold, IsFirstUnusable, IsUnusableSet, IsUnusableTold, record_of}
+use Rattle.dnsv_derivations.specs.unsigned_cuts.UnsignedCuts.{AreAllTold, AreFirstTold, AreToldFrom, IsCaseTold, IsFirstUnusable, IsUnusableSet, IsUnusableTold}
+use Rattle.dnsv_derivations.specs.derivations.Ways.{record_at}
 use Rattle.dnsv_derivations.specs.derivations.WaySearch.{MayDelegate}
 use Rattle.dnsv_lines.specs.declared.line.Line.{Line}
 use Rattle.dnsv_lines.specs.declared.line.Line.TheVariants as line
@@ -159,25 +160,25 @@ module _ (setting : Setting) (name : Labels) where
 -- ---- why its records can't be used
 
 told_more : (rrsets : List ReceivedRrset) (k place : ℕ) (told : List UnusableDs) (unusable : UnusableDs)
-    → AreToldFrom rrsets k place told → unusable.number ≡ record_of k (place + length told) → IsUnusableRecord rrsets unusable
+    → AreToldFrom rrsets k place told → unusable.number ≡ record_at k (place + length told) → IsUnusableRecord rrsets unusable
     → AreToldFrom rrsets k place (told ++ unusable ∷ [])
 told_more rrsets k place [] unusable each number is =
-    let At : ℕ → Type 0 = λ n. unusable.number ≡ record_of k n in
+    let At : ℕ → Type 0 = λ n. unusable.number ≡ record_at k n in
     let here : place + 0 ≡ place = omega arith in
     (subst At here number, is, tt)
 told_more rrsets k place (one ∷ told) unusable each number is =
-    let At : ℕ → Type 0 = λ n. unusable.number ≡ record_of k n in
+    let At : ℕ → Type 0 = λ n. unusable.number ≡ record_at k n in
     let there : place + suc (length told) ≡ (place + 1) + length told = omega arith in
     (each.0, each.1, told_more rrsets k (place + 1) told unusable each.2 (subst At there number) is)
 
 module _ (rrsets : List ReceivedRrset) (k : ℕ) (old : List Line) where
   pub one_told : (n : ℕ) (mid new : List Line) (unusable : UnusableDs) → new ≡ mid ++ line.Unusable unusable ∷ []
-      → unusable.number ≡ record_of k (n + 1) → IsUnusableRecord rrsets unusable → Adds (AreFirstTold rrsets k n) old mid
+      → unusable.number ≡ record_at k (n + 1) → IsUnusableRecord rrsets unusable → Adds (AreFirstTold rrsets k n) old mid
       → Adds (AreFirstTold rrsets k (n + 1)) old new
   one_told n mid new unusable pushed number is added =
       let said = added.says in
       let size = said.count in
-      let At : ℕ → Type 0 = λ place. unusable.number ≡ record_of k place in
+      let At : ℕ → Type 0 = λ place. unusable.number ≡ record_at k place in
       let place : n + 1 ≡ 1 + length said.told = omega (arith, size) in
       let long = length-append said.told (unusable ∷ []) in
       record {
@@ -198,7 +199,7 @@ module _ {X : Type 0} (rdata : X → List ℕ) (record_read : X → Ds) (rrsets 
     (records items : List X) (same : items ≡ records) (canonical : IsCanonical ds.rdata (map rdata records))
     (are_read : AllByRecursion (λ x. IsDs (rdata x) (record_read x)) records) where
   record_at : (place : ℕ) (x : X) → place < length items → x ≡ get_or items place x
-      → IsRecordAt rrsets (record_of k (place + 1)) ds (rdata x)
+      → IsRecordAt rrsets (record_at k (place + 1)) ds (rdata x)
   record_at place x within at =
       let AtPlace : ℕ → Type 0 = λ p. slice_get (map rdata records) p ≡ Some (rdata x) in
       let here : place ≡ place + 1 - 1 = omega arith in record {
@@ -209,7 +210,7 @@ module _ {X : Type 0} (rdata : X → List ℕ) (record_read : X → Ds) (rrsets 
       }
 
   pub unusable_at : (place : ℕ) (x : X) (unusable : UnusableDs) → place < length items → x ≡ get_or items place x
-      → unusable.number ≡ record_of k (place + 1) → unusable.owner ≡ ds.owner → IsWhy unusable.why values (record_read x)
+      → unusable.number ≡ record_at k (place + 1) → unusable.owner ≡ ds.owner → IsWhy unusable.why values (record_read x)
       → unusable.key.tag.0 ≡ (record_read x).key_tag.0 → unusable.key.algorithm.0 ≡ (record_read x).algorithm.0
       → unusable.digest_type.0 ≡ (record_read x).digest_type.0 → IsUnusableRecord rrsets unusable
   unusable_at place x unusable within at number owner why tag algorithm digest_type =

@@ -18,8 +18,8 @@ use Rattle.dnsv_chain.specs.declared.anchor.Anchor.TheVariants as anchor
 use Rattle.dnsv_canonical.specs.declared.number.RecordNumber.{RecordNumber}
 use Rattle.dnsv_derivations.specs.Explained.{Setting}
 use Rattle.dnsv_derivations.specs.Following.{IsDsMatch}
-use Rattle.dnsv_derivations.specs.derivations.WaySearch.{IsNoWay, IsNoWayBefore, IsNoneUnder, IsVoucherOf, record_at}
-use Rattle.dnsv_derivations.specs.derivations.Ways.{HasSecured, IsWayInto, Way, voucher_rank}
+use Rattle.dnsv_derivations.specs.derivations.WaySearch.{IsNoWay, IsNoWayBefore, IsNoneUnder, IsVoucherOf}
+use Rattle.dnsv_derivations.specs.derivations.Ways.{HasSecured, IsWayInto, Way, record_at, voucher_rank}
 use Rattle.dnsv_lines.specs.declared.line.derivation.Voucher.{Voucher}
 use Rattle.dnsv_lines.specs.declared.line.derivation.Voucher.TheVariants as voucher
 use Rattle.dnsv_canonical.proofs.NumberLemmas.{one_numbered}

@@ -21,8 +21,8 @@ use Rattle.dnsv_denial.specs.gathering.Evidence.{IsRecordAt}
 use Rattle.dnsv_canonical.specs.declared.number.RecordNumber.{RecordNumber}
 use Rattle.dnsv_derivations.specs.Explained.{Setting}
 use Rattle.dnsv_derivations.specs.Following.{IsDsMatch}
-use Rattle.dnsv_derivations.specs.derivations.WaySearch.{IsFirstUnder, IsFoundWay, IsNoWayBefore, IsNoneUnder, record_at}
-use Rattle.dnsv_derivations.specs.derivations.Ways.{HasSecured, voucher_rank}
+use Rattle.dnsv_derivations.specs.derivations.WaySearch.{IsFirstUnder, IsFoundWay, IsNoWayBefore, IsNoneUnder}
+use Rattle.dnsv_derivations.specs.derivations.Ways.{HasSecured, record_at, voucher_rank}
 use Rattle.dnsv_lines.specs.declared.line.derivation.Voucher.{Voucher}
 use Rattle.dnsv_lines.specs.declared.line.derivation.Voucher.TheVariants as voucher
 use Rattle.dnsv_derivations.specs.declared.derivations.ways.FoundWay.{FoundWay}
