@@ -15,11 +15,12 @@ use Rattle.dnsv_records.specs.declared.rrsig.Rrsig.{Rrsig}
 use Rattle.dnsv_records.proofs.OneRecord.{one_rrsig}
 use Rattle.dnsv_canonical.specs.Rrsets.{IsNumbered, ReceivedRrset}
 use Rattle.dnsv_canonical.proofs.SignedLemmas.{signed_data_unique}
+use Rattle.dnsv_canonical.proofs.OrderLemmas.{zip_length}
 use Rattle.dnsv_verifier.specs.Asking.{AddsJust}
 use Rattle.dnsv_verifier.specs.Numbers.{signature_cmp}
 use Rattle.dnsv_verifier.specs.declared.entry.Entry.{Entry}
 use Rattle.dnsv_verifier.specs.declared.entry.parts.SignaturePart.{SignaturePart}
-use Rattle.dnsv_verifier.proofs.AskLemmas.{adds_same, zip_at, zip_length}
+use Rattle.dnsv_verifier.proofs.AskLemmas.{adds_same, zip_at}
 use Rattle.dnsv_verifier.proofs.NumberLemmas.{signature_cmp_total}
 use Rattle.dnsv_compact.specs.Signed.{ComesOfFirst, IsFirstSigned, IsSignedAmong, IsSignedBy, IsSignedIn, part_cmp, signed_cmp}
 use Rattle.dnsv_compact.specs.declared.signed.Signed.{Signed}

@@ -134,7 +134,7 @@ zero_length out octets (octet ∷ more) some zero_octets =
     let same : octets ++ (octet ∷ more) ≡ 0 ∷ (0 ∷ more) = sym (append_assoc octets (octet ∷ []) more) ∙ ap (λ xs. xs ++ more) zero_octets in
     (0 ∷ (0 ∷ more), (more, refl), Gains-none out (octets ++ (octet ∷ more)) (0 ∷ (0 ∷ more)) same (zero_begins_no_frame more))
 
-take_nil : (n : ℕ) → take {A = ℕ} n [] ≡ []
+pub take_nil : (n : ℕ) → take {A = ℕ} n [] ≡ []
 take_nil zero = refl
 take_nil (suc n) = refl
 

@@ -158,7 +158,7 @@ last_first labels k more =
     ∙ ap reverse (map-append (λ label. map to_ascii_lowercase label) (take k labels) (get_or labels k [] ∷ []))
     ∙ reverse-append (lower_case (take k labels)) (map to_ascii_lowercase (get_or labels k []) ∷ [])
 
-then_assoc : (o p q : Ordering) → ordering_then (ordering_then o p) q ≡ ordering_then o (ordering_then p q)
+pub then_assoc : (o p q : Ordering) → ordering_then (ordering_then o p) q ≡ ordering_then o (ordering_then p q)
 then_assoc Less p q = refl
 then_assoc o p q = refl
 

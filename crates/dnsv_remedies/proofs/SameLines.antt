@@ -22,7 +22,7 @@ use Rattle.dnsv_names.specs.declared.number.RecordType.{RecordType}
 use Rattle.dnsv_records.specs.declared.nsec3.Iterations.{Iterations}
 use Rattle.dnsv_mending.specs.declared.told.Told.{Told}
 use Rattle.dnsv_mending.specs.declared.told.Told.TheVariants as told
-use Rattle.dnsv_mending.proofs.SomeWays.{both_parts}
+use Rattle.dnsv_mending.proofs.Reasons.{both_true as both_parts}
 use Rattle.dnsv_remedies.specs.Same.{is_same, is_same_cut, is_same_dname, is_same_entry, is_same_fault, is_same_name, is_same_nsec3, is_same_number, is_same_record, is_same_role, is_same_signature, is_same_source, is_same_speaker, is_same_times, is_same_told, is_same_why, is_same_zone}
 use Rattle.dnsv_remedies.specs.declared.facts.name.AskedName.{AskedName}
 use Rattle.dnsv_remedies.specs.declared.facts.name.AskedName.TheVariants as name

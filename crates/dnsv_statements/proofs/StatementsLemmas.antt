@@ -51,7 +51,7 @@ says_none said empty =
       empty = λ same. empty;
     }
 
-is_eq_is : (o : Ordering) → is_eq o ≡ true → o ≡ Equal
+pub is_eq_is : (o : Ordering) → is_eq o ≡ true → o ≡ Equal
 is_eq_is Equal e = refl
 is_eq_is o e = cc
 

@@ -21,8 +21,9 @@ use Rattle.dnsv_mending.specs.Within.{is_by}
 use Rattle.dnsv_mending.specs.declared.facts.signature.RrsetFacts.{RrsetFacts}
 use Rattle.dnsv_mending.specs.declared.facts.signature.SignatureFacts.{SignatureFacts}
 use Rattle.dnsv_mending.proofs.DearLines.{or_true, or_true_second}
-use Rattle.dnsv_mending.proofs.SomeWays.{both_parts}
+use Rattle.dnsv_mending.proofs.Reasons.{both_true}
 use Rattle.dnsv_remedies.specs.Reasons.{AreOf, IsOf, IsPart}
+use Rattle.dnsv_remedies.proofs.Once.{not_false}
 use Rattle.dnsv_faults.specs.Rrsets.{AreRrsetFacts}
 use Rattle.dnsv_faults.specs.Signatures.{AreSignatureFacts, IsSignatureAt}
 use Rattle.dnsv_faults.proofs.lemmas.zones.ClosedLemmas.{among_of, contains_of, not_true, off_by}
@@ -52,10 +53,6 @@ some_passing test (x ∷ xs) h = ⊎_elim
 by_test : (b : Bool) (m n : ℕ) → b ≡ false → m ≡ n → (not b && nat_eq m n) ≡ true
 by_test true m n off same = absurd (false≢true (sym off))
 by_test false m n off same = grind (arith, nat_tests, same)
-
-not_off : (b : Bool) → not b ≡ true → b ≡ false
-not_off true h = absurd (false≢true h)
-not_off false h = refl
 
 -- ---- one signature
 
@@ -150,9 +147,9 @@ module _ (a : Asking) where
         → IsSecuredBy (IsSecured a.basis.meaning a.basis.moment a.basis.rrsets a.basis.anchors) a.basis.rrsets (rightmost a.name n) r.number
     rrset_secured s among h =
         let zone : Labels = rightmost a.name n in
-        let parts = both_parts (is_by n s) s.is_signed h in
-        let by = both_parts (not s.faults.signer) (nat_eq s.signer n) parts.0 in
-        let off = not_off s.faults.signer by.0 in
+        let parts = both_true (is_by n s) s.is_signed h in
+        let by = both_true (not s.faults.signer) (nat_eq s.signer n) parts.0 in
+        let off = not_false s.faults.signer by.0 in
         let labels : s.signer ≡ n = eqb-true s.signer n by.1 in
         let one = zip_left (λ (signature : ℕ × Rrsig) known. AreSignatureFacts a.basis r.number facts.rrset signature.0 known) facts.order r.signatures.items s facts.each
         (contains_of s r.signatures.items among) in
@@ -183,8 +180,8 @@ module _ (a : Asking) where
         → (number : ℕ) × ((its : AreSignatureFacts a.basis r.number facts.rrset number s) × SameName its.rrsig.signer (rightmost a.name n))
     by_zone s among h =
         let zone : Labels = rightmost a.name n in
-        let by = both_parts (not s.faults.signer) (nat_eq s.signer n) h in
-        let off = not_off s.faults.signer by.0 in
+        let by = both_true (not s.faults.signer) (nat_eq s.signer n) h in
+        let off = not_false s.faults.signer by.0 in
         let labels : s.signer ≡ n = eqb-true s.signer n by.1 in
         let one = zip_left (λ (signature : ℕ × Rrsig) known. AreSignatureFacts a.basis r.number facts.rrset signature.0 known) facts.order r.signatures.items s facts.each
         (contains_of s r.signatures.items among) in

@@ -67,7 +67,7 @@ reason_said a (t ∷ ts) lines all some (inr (none, others)) = absurd (none all.
 
 -- ---- what is told
 
-all_from : {X : Type 0} (P : X → Type 0) (xs : List X) → ((x : X) → IsAmong x xs → P x) → AllByRecursion P xs
+pub all_from : {X : Type 0} (P : X → Type 0) (xs : List X) → ((x : X) → IsAmong x xs → P x) → AllByRecursion P xs
 all_from P [] each = tt
 all_from P (x ∷ xs) each = (each x (inl refl), all_from P xs (λ y among. each y (inr among)))
 

@@ -5,12 +5,13 @@ use Rattle.std.proofs.lemmas.Bool.Decides.{nat_tests}
 use Rattle.std.specs.List.{AllZip}
 use Rattle.dnsv_canonical.specs.Rdata.{rdata_of_type}
 use Rattle.dnsv_canonical.specs.Rrsets.{ReceivedRrset}
+use Rattle.dnsv_canonical.proofs.OrderLemmas.{zip_length}
 use Rattle.dnsv_records.specs.Dnskey.{IsDnskey}
 use Rattle.dnsv_records.specs.declared.dnskey.Dnskey.{Dnskey}
 use Rattle.dnsv_records.proofs.OneRecord.{one_dnskey}
 use Rattle.dnsv_verifier.specs.Admissible.{DnskeyRecord}
 use Rattle.dnsv_verifier.specs.Asking.{AddsJust, AreKeysOf, ComesOfSome, IsKeyOf}
-use Rattle.dnsv_verifier.proofs.AskLemmas.{adds_one, adds_more, adds_same, zip_at, zip_length}
+use Rattle.dnsv_verifier.proofs.AskLemmas.{adds_one, adds_more, adds_same, zip_at}
 
 -- the key is one of the RRset's first n records
 pub record IsKeyBefore (rrset : ReceivedRrset) (n : ℕ) (key : DnskeyRecord) : Type 0 where

@@ -19,7 +19,7 @@ use Rattle.dnsv_canonical.specs.Canonical.{rdata_cmp}
 use Rattle.dnsv_verifier.specs.Admissible.{DnskeyRecord}
 use Rattle.dnsv_chain.specs.Chain.{AreKnown, HasRdata, known_cmp}
 
-both_equal : (a b : Ordering) → is_eq (ordering_then a b) ≡ true → (is_eq a ≡ true) × (is_eq b ≡ true)
+pub both_equal : (a b : Ordering) → is_eq (ordering_then a b) ≡ true → (is_eq a ≡ true) × (is_eq b ≡ true)
 both_equal Equal b same = (refl, same)
 both_equal a b same = absurd (false≢true same)
 

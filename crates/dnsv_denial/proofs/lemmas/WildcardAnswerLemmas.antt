@@ -5,19 +5,15 @@ use Rattle.std.proofs.lemmas.Cmp.{ranked}
 use Rattle.std.specs.BTreeMap.{BTreeMap, Updates, get}
 use Rattle.std.specs.Cmp.{Equal-is}
 use Rattle.std.specs.Prelude.{MatchOption}
-use Rattle.std.specs.Ordering.{is_eq, nat_cmp, ordering_then}
-use Rattle.std.specs.declared.cmp.Ordering.{Ordering}
+use Rattle.std.specs.Ordering.{is_eq, nat_cmp}
 use Rattle.std.specs.declared.cmp.Ordering.TheVariants.{Equal}
 use Rattle.dnsv_names.specs.Name.{IsAtOrBelow, Labels, SameName, rightmost}
 use Rattle.dnsv_names.specs.Tree.AncestorLaws.{rightmost_same}
 use Rattle.dnsv_canonical.specs.Rrsets.{ReceivedRrset}
+use Rattle.dnsv_chain.proofs.ChainLemmas.KnownLemmas.{both_equal}
 use Rattle.dnsv_denial.specs.WildcardAnswers.{AreAnswers, IsShown, asked_cmp}
 use Rattle.dnsv_denial.specs.declared.wildcard_answers.Shown.{Shown}
 use Rattle.dnsv_denial.proofs.lemmas.proving.RespelledZoneLemmas.{above_as, closer_as, opted_out_as}
-
-both_equal : (a b : Ordering) → is_eq (ordering_then a b) ≡ true → (is_eq a ≡ true) × (is_eq b ≡ true)
-both_equal Equal b same = (refl, same)
-both_equal a b same = absurd (false≢true same)
 
 pub none_of : {X : Type 0} (found : Option X) (No : Type 0) (Yes : X → Type 0) → is_some found ≡ false → MatchOption found No Yes → No
 none_of None No Yes is tells = tells

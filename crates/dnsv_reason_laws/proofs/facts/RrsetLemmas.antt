@@ -8,9 +8,10 @@ use Rattle.dnsv_mending.specs.declared.facts.signature.RrsetFacts.{RrsetFacts}
 use Rattle.dnsv_mending.specs.declared.facts.signature.SignatureFacts.{SignatureFacts}
 use Rattle.dnsv_faults.specs.Rrsets.{AreInOrder, AreRrsetFacts, Rank, rank_of}
 use Rattle.dnsv_faults.specs.Signatures.{AreSignatureFacts}
+use Rattle.dnsv_faults.proofs.lemmas.OrderLemmas.{zip_mapped}
 use Rattle.dnsv_canonical.proofs.NumberLemmas.{one_numbered}
 use Rattle.dnsv_remedy_laws.specs.AlikeZones.{AreAlikeRrsets, AreAlikeSignatures}
-use Rattle.dnsv_reason_laws.proofs.facts.ListLemmas.{alike_zip, zip_mapped}
+use Rattle.dnsv_reason_laws.proofs.facts.ListLemmas.{alike_zip}
 use Rattle.dnsv_reason_laws.proofs.facts.OrderLemmas.{one_order}
 use Rattle.dnsv_reason_laws.proofs.facts.SignatureLemmas.{one_signature_facts}
 

@@ -22,8 +22,7 @@ use Rattle.dnsv_mending.specs.declared.told.Told.{Told}
 use Rattle.dnsv_mending.specs.declared.told.Told.TheVariants as told
 use Rattle.dnsv_mending.proofs.AllWays.{all_flat, all_if}
 use Rattle.dnsv_mending.proofs.DearLines.{no_lines}
-use Rattle.dnsv_mending.proofs.Reasons.{signer_first}
-use Rattle.dnsv_mending.proofs.SomeWays.{both_parts}
+use Rattle.dnsv_mending.proofs.Reasons.{both_true, signer_first}
 use Rattle.dnsv_remedies.specs.Reasons.{IsOf, IsTrusted}
 use Rattle.dnsv_remedies.specs.Remedy.{Remedied, after, beside, both, following, whole}
 use Rattle.dnsv_remedies.specs.declared.said.Said.{Said}
@@ -210,7 +209,7 @@ module _ (zones : List ZoneFacts) (SaidOf : ℕ → Told → Type 0) (By : Signa
         → AllByRecursion (Says (TrustOf (IsOwnBy z))) (if t then own_way (levels_of true zones) s ∷ [] else [])
     zone_way s false e by = tt
     zone_way s true e by =
-        let same : s.signer ≡ z = eqb-true s.signer z ((both_parts (not s.faults.signer) (nat_eq s.signer z) e).1) in (
+        let same : s.signer ≡ z = eqb-true s.signer z ((both_true (not s.faults.signer) (nat_eq s.signer z) e).1) in (
           own_case s (is_none (own_lines s)) (is_signer_trusted (slice_get (levels_of true zones) s.signer)) (by e)
               (λ off. untrusted_by (ap (λ (n : ℕ). is_signer_trusted (slice_get (levels_of true zones) n)) (sym same) ∙ off)),
           tt,

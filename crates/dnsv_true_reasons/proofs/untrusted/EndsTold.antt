@@ -1,5 +1,5 @@
 -- Each signer that is told as untrusted has a reason among the lines.
-use Rattle.std.proofs.Common.{◌≡◌, ◌⊎◌, inl, inr, ⊎_elim, zero, suc, Bool, true, false, List, [], ◌∷◌, refl, sym, ap, ◌∙◌, subst, arith}
+use Rattle.std.proofs.Common.{◌≡◌, ◌⊎◌, inl, inr, ⊎_elim, suc, Bool, true, false, List, [], ◌∷◌, refl, sym, ap, ◌∙◌, subst, arith}
 use Rattle.std.proofs.lemmas.Bool.{false≢true}
 use Rattle.std.proofs.lemmas.Option.{same_Some}
 use Rattle.std.specs.Prelude.{Contains}
@@ -31,6 +31,7 @@ use Rattle.dnsv_remedies.proofs.Once.{each_told, only_told, unanchored_reasons}
 use Rattle.dnsv_faults.proofs.lemmas.zones.ClosedLemmas.{off_by}
 use Rattle.dnsv_faults.proofs.lemmas.zones.TrustLemmas.{number_of}
 use Rattle.dnsv_faults.proofs.lemmas.zones.WholeLemmas.{whole}
+use Rattle.dnsv_faults.proofs.lemmas.zones.MatchLemmas.{first_or_later}
 use Rattle.dnsv_canonical.proofs.NumberLemmas.{one_numbered}
 use Rattle.dnsv_gaps.specs.Asking.{Asking}
 use Rattle.dnsv_reasons.specs.Failures.{AreFailures}
@@ -45,10 +46,6 @@ use Rattle.dnsv_true_reasons.proofs.QuestionNames.{HasLine}
 use Rattle.dnsv_true_reasons.proofs.telling.Says.{all_among}
 use Rattle.dnsv_true_reasons.proofs.Told.{all_said}
 use Rattle.dnsv_true_reasons.proofs.Whole.{trusted_zone}
-
-first_or_later : {X : Type 0} (y : X) (ys : List X) (x : X) → Contains (y ∷ ys) x → (y ≡ x) ⊎ Contains ys x
-first_or_later y ys x (zero, within, at) = inl at
-first_or_later y ys x (suc i, within, at) = inr (i, omega (arith, within), at)
 
 later : {X : Type 0} (x y : X) (xs : List X) → Contains xs y → Contains (x ∷ xs) y
 later x y xs (k, within, is) = (suc k, omega (arith, within), is)

@@ -14,6 +14,7 @@ use Rattle.dnsv_records.proofs.OneRecord.{one_nsec}
 use Rattle.dnsv_zones.specs.Any.{Any}
 use Rattle.dnsv_zones.specs.chains.NsecChain.{NsecRecord}
 use Rattle.dnsv_zones.specs.chains.Rdata.{nsec_record}
+use Rattle.dnsv_zones.proofs.lemmas.chains.ChainLemmas.{any_right}
 use Rattle.dnsv_canonical.specs.Canonical.{IsCanonical}
 use Rattle.dnsv_canonical.specs.CanonicalRdata.{canonical_form}
 use Rattle.dnsv_canonical.specs.Rrsets.{IsNumbered, ReceivedRrset}
@@ -77,10 +78,6 @@ rising_join (x ∷ xs) ys first second less =
 any_left : {X : Type 0} (P : X → Type 0) (xs ys : List X) → Any P xs → Any P (xs ++ ys)
 any_left P [] ys some = absurd some
 any_left P (x ∷ xs) ys some = ⊎_elim (λ (h : P x). inl h) (λ (rest : Any P xs). inr (any_left P xs ys rest)) some
-
-any_right : {X : Type 0} (P : X → Type 0) (xs ys : List X) → Any P ys → Any P (xs ++ ys)
-any_right P [] ys some = some
-any_right P (x ∷ xs) ys some = inr (any_right P xs ys some)
 
 pub all_to : {E : Type 0} (number : E → RecordNumber) (P : RecordNumber → Type 0) (xs : List E) → AllByRecursion (λ e. P (number e)) xs → AllByRecursion P (map number xs)
 all_to number P [] all = tt

@@ -45,7 +45,7 @@ flags_are true flags most to from = sym (to refl)
 flags_are false zero most to from = refl
 flags_are false (suc n) most to from = let one : suc n ≡ 1 = omega (arith, most) in let wrong = from one in cc
 
-forms_of : (rrset : ReceivedRrset) (canonical : List (List ℕ)) → rrset.rtype ≡ 50 → IsCanonical rrset.rdata canonical → IsCanonical (map (canonical_form rrset.rtype) rrset.rdata) canonical
+pub forms_of : (rrset : ReceivedRrset) (canonical : List (List ℕ)) → rrset.rtype ≡ 50 → IsCanonical rrset.rdata canonical → IsCanonical (map (canonical_form rrset.rtype) rrset.rdata) canonical
 forms_of rrset canonical rtype is =
     subst (λ t. IsCanonical (map (canonical_form t) rrset.rdata) canonical) (sym rtype) (subst (λ r. IsCanonical r canonical) (sym (nsec3_forms rrset.rdata)) is)
 

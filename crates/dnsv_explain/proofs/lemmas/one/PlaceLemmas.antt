@@ -12,8 +12,8 @@ use Rattle.dnsv_lines.specs.declared.line.place.RrsetPlace.{RrsetPlace}
 use Rattle.dnsv_canonical.proofs.NumberLemmas.{one_numbered}
 use Rattle.dnsv_derivations.proofs.lemmas.intervals.HoldingLemmas.{one_around}
 use Rattle.dnsv_derivations.proofs.lemmas.intervals.MomentLemmas.{first_or_behind, is_behind, is_first}
-use Rattle.dnsv_explain.proofs.lemmas.one.ShownLemmas.{one_rising}
 use Rattle.dnsv_derivations.proofs.lemmas.one.StepLemmas.{IsOne}
+use Rattle.dnsv_reason_laws.proofs.facts.ListLemmas.{one_rising}
 
 -- ---- places
 

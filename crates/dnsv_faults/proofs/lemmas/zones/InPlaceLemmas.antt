@@ -70,7 +70,7 @@ some_held basis zone k set n [] keys rdata are there = absurd (let within = ther
 some_held basis zone k set n (x ∷ xs) [] rdata are there = absurd are
 some_held basis zone k set n (x ∷ xs) (y ∷ keys) rdata are there = refl
 
-first_of : {X : Type 0} (xs : List X) → 0 < length xs → (x : X) × Contains xs x
+pub first_of : {X : Type 0} (xs : List X) → 0 < length xs → (x : X) × Contains xs x
 first_of [] some = absurd (omega (arith, some))
 first_of (x ∷ xs) some = (x, (0, omega arith, refl))
 

@@ -153,7 +153,7 @@ has_signed basis k rrset facts are numbered by =
 
 -- ---- what vouches for a key
 
-true_by : (b : Bool) → ((IsTrue b → ⊥) → ⊥) → IsTrue b
+pub true_by : (b : Bool) → ((IsTrue b → ⊥) → ⊥) → IsTrue b
 true_by true twice = refl
 true_by false twice = absurd (twice (λ yes. false≢true yes))
 

@@ -35,8 +35,7 @@ use Rattle.dnsv_mending.specs.declared.facts.signature.RrsetFacts.{RrsetFacts}
 use Rattle.dnsv_mending.specs.declared.facts.signature.SignatureFacts.{SignatureFacts}
 use Rattle.dnsv_mending.specs.declared.facts.zone.ZoneFacts.{ZoneFacts}
 use Rattle.dnsv_mending.specs.declared.told.Told.{Told}
-use Rattle.dnsv_mending.proofs.Reasons.{signer_first}
-use Rattle.dnsv_mending.proofs.SomeWays.{both_parts}
+use Rattle.dnsv_mending.proofs.Reasons.{both_true, signer_first}
 use Rattle.dnsv_remedies.specs.declared.facts.answer.CloserFacts.{CloserFacts}
 use Rattle.dnsv_remedies.specs.declared.facts.cut.CutCase.{CutCase}
 use Rattle.dnsv_remedies.specs.declared.facts.cut.CutCase.TheVariants as cut
@@ -275,7 +274,7 @@ module _ (a : Asking) (zones : List ZoneFacts) (are : AreZoneFacts a.basis a.nam
   pub part_true : (line : Told) → IsOfPart zones zone r line → IsTold a.basis a.name line
   part_true line (part_unsigned none) = unsigned_true a.basis a.name a.rtype zones are formed there.k r there.its none
   part_true line (by_zone s x among is of) =
-      let its = both_parts (not s.faults.signer) (nat_eq s.signer zone) is in
+      let its = both_true (not s.faults.signer) (nat_eq s.signer zone) is in
       one_true a.basis a.name a.rtype zones are formed there.k r there.its s among (λ sn one may.
       its_zone one.rrsig.signer (at_or_above a.basis a.name a.rtype zones are there.k there.its.rrset sn s one may)
       (sym one.signer ∙ eqb-true s.signer zone its.1)) line of

@@ -1,5 +1,5 @@
 -- What is told of the sources of a zone, to deny a question or to prove an unsigned delegation.
-use Rattle.std.proofs.Common.{◌≡◌, inl, inr, ℕ, ◌||◌, not, Bool, true, false, if◌then◌else◌, List, [], ◌∷◌, Some, map, refl, sym, subst}
+use Rattle.std.proofs.Common.{◌≡◌, inl, inr, ℕ, ◌||◌, Bool, true, false, if◌then◌else◌, List, [], ◌∷◌, Some, map, refl, sym, subst}
 use Rattle.std.proofs.lemmas.Bool.{false≢true}
 use Rattle.std.proofs.lemmas.Option.{same_Some}
 use Rattle.std.specs.List.{AllByRecursion}
@@ -33,7 +33,7 @@ use Rattle.dnsv_remedies.specs.declared.facts.name.SourceNumber.{SourceNumber}
 use Rattle.dnsv_remedies.specs.declared.said.Said.{Said}
 use Rattle.dnsv_remedies.specs.declared.said.Said.TheVariants as said
 use Rattle.dnsv_true_reasons.proofs.truths.ways.PartTold.{IsOfPart, IsOneAt, IsOneOfCase, IsOneOfCut, IsOneOfWildcard}
-use Rattle.dnsv_true_reasons.proofs.truths.ways.PartWays.{one_says, part_says}
+use Rattle.dnsv_true_reasons.proofs.truths.ways.PartWays.{off_by_not, one_says, part_says}
 use Rattle.dnsv_true_reasons.proofs.truths.ways.RemedyLines.{Says, says_both, says_missing, says_nothing}
 use Rattle.dnsv_true_reasons.proofs.truths.ways.SaidOf.{IsOfCase, IsOfCut, IsOfRecordsAt, IsOfWildcard, IsProvingCase}
 use Rattle.dnsv_true_reasons.proofs.truths.ways.SignatureWays.{LevelsOf}
@@ -142,11 +142,7 @@ part_there : (levels : List Leveled) (zone : ℕ) (rrsets : List RrsetFacts) (li
 part_there levels zone [] lines whole = absurd (false≢true (sym whole))
 part_there levels zone (r ∷ rrsets) lines whole = refl
 
-off_by_not : (b : Bool) → not b ≡ true → b ≡ false
-off_by_not true e = absurd (false≢true e)
-off_by_not false e = refl
-
-neither : (a b : Bool) → (a || b) ≡ false → (a ≡ false) × (b ≡ false)
+pub neither : (a b : Bool) → (a || b) ≡ false → (a ≡ false) × (b ≡ false)
 neither true b e = absurd (false≢true (sym e))
 neither false b e = (refl, e)
 

@@ -21,7 +21,7 @@ use Rattle.dnsv_zone_keys.specs.Answers.{IsAnswered, IsKeyAnswer}
 use Rattle.dnsv_zone_keys.specs.Keys.{IsKeyPlaced}
 use Rattle.dnsv_faults.specs.Signatures.{AreSignatureFaults, IsMeant, IsSignatureAt, expired, not_yet}
 use Rattle.dnsv_faults.proofs.lemmas.zones.PlaceLemmas.{contains_at}
-use Rattle.dnsv_faults.proofs.lemmas.zones.TrustLemmas.{numbered_among}
+use Rattle.dnsv_faults.proofs.lemmas.zones.TrustLemmas.{numbered_among, true_by}
 use Rattle.dnsv_faults.proofs.lemmas.zones.InPlaceLemmas.{stands_in}
 use Rattle.dnsv_canonical.proofs.NumberLemmas.{each_number, IsOneAt, one_numbered}
 use Rattle.dnsv_mending.specs.declared.facts.signature.KeyAnswer.TheVariants as said
@@ -106,10 +106,6 @@ has_answer basis rrset rrsig place key answer placed answered =
     }
 
 -- ---- a signature with which nothing is wrong
-
-pub true_by : (b : Bool) → ((IsTrue b → ⊥) → ⊥) → IsTrue b
-true_by true twice = refl
-true_by false twice = absurd (twice (λ yes. false≢true yes))
 
 pub may_sign : (signer : Labels) (rtype : ℕ) (owner : Labels) → ((MaySign signer rtype owner → ⊥) → ⊥) → MaySign signer rtype owner
 may_sign signer rtype owner twice = record {
