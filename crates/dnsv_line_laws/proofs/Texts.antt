@@ -18,8 +18,6 @@ use Rattle.dnsv_lines.specs.declared.line.fault.denial.MissingAnswer.{MissingAns
 use Rattle.dnsv_line_laws.specs.Lower.{SameLine, lower_line}
 use Rattle.dnsv_line_laws.proofs.Reading.{lower_field, lower_said, lower_sentence}
 
--- ---- names
-
 -- ---- texts don't tell the case of letters
 
 -- of a field
