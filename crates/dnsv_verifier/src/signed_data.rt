@@ -87,12 +87,18 @@ impl<'b> SignedData<'b> {
     {
         if self.front.len() <= other.front.len() {
             let (first, rest) = other.front.split_at(self.front.len());
-            return compare_octets(self.front, first)
-                .then_with(|| against(self.records, rest, other.records));
+            return compare_octets(self.front, first).then_with(|| against(
+                self.records,
+                rest,
+                other.records,
+            ));
         }
         let (first, rest) = self.front.split_at(other.front.len());
-        compare_octets(first, other.front)
-            .then_with(|| against(other.records, rest, self.records).reverse())
+        compare_octets(first, other.front).then_with(|| against(
+            other.records,
+            rest,
+            self.records,
+        ).reverse())
     }
 }
 
