@@ -27,24 +27,18 @@ in_manner options moment at form written same_moment same_form manner =
 pub one_asked : (options : Options) (name : List ℕ) (rtype : ℕ) (asks : Asking) (held : Known) (moment : ℕ) (form : Format) (asked : Request)
     → Judges asks held moment form options.why asked → IsOne name rtype asks → IsUtf8 name → rtype < 2 ^ 16 → IsKnown held options.verified → IsManner options moment form
     → AsksOne options name rtype asked
-one_asked options name rtype asks held moment form (request.Show capture) judges is utf8 low known manner = absurd judges
-one_asked options name rtype asks held moment form (request.List capture at statements lists written) judges is utf8 low known manner = absurd judges
-one_asked options name rtype asks held moment form (request.ListRange capture from to statements each written) judges is utf8 low known manner = absurd judges
-one_asked options name rtype asks held moment form (request.Timeline capture anchors from to text kind knows kinds written) judges is utf8 low known manner = absurd judges
 one_asked options name rtype asks held moment form (request.Check capture anchors at (asking.Each questions) knows keys macs written why) judges is utf8 low known manner =
     absurd (subst (λ (each : Asking). IsOne name rtype each) (sym judges.0) is)
 one_asked options name rtype asks held moment form (request.Check capture anchors at (asking.One text kind) knows keys macs written why) judges is utf8 low known manner =
     let one : IsOne name rtype (asking.One text kind) = subst (λ (each : Asking). IsOne name rtype each) (sym judges.0) is in
     (utf8, one.0, low, one.1, subst (λ (each : Known). IsKnown each options.verified) (sym judges.1) known, in_manner options moment at form written judges.2 judges.3 manner, judges.4)
+one_asked options name rtype asks held moment form asked judges is utf8 low known manner = absurd judges
 
 -- the questions of a text
 pub each_asked : (options : Options) (asks : Asking) (held : Known) (moment : ℕ) (form : Format) (asked : Request)
     → Judges asks held moment form options.why asked → AreMany asks → IsKnown held options.verified → IsManner options moment form → AsksEach options asked
-each_asked options asks held moment form (request.Show capture) judges are known manner = absurd judges
-each_asked options asks held moment form (request.List capture at statements lists written) judges are known manner = absurd judges
-each_asked options asks held moment form (request.ListRange capture from to statements each written) judges are known manner = absurd judges
-each_asked options asks held moment form (request.Timeline capture anchors from to text kind knows kinds written) judges are known manner = absurd judges
 each_asked options asks held moment form (request.Check capture anchors at (asking.One text kind) knows keys macs written why) judges are known manner =
     absurd (subst AreMany (sym judges.0) are)
 each_asked options asks held moment form (request.Check capture anchors at (asking.Each questions) knows keys macs written why) judges are known manner =
     (subst (λ (each : Known). IsKnown each options.verified) (sym judges.1) known, in_manner options moment at form written judges.2 judges.3 manner, judges.4)
+each_asked options asks held moment form asked judges are known manner = absurd judges

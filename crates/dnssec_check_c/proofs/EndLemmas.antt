@@ -27,21 +27,15 @@ text_ends asked files end text {old = old} {new = new} {told = told} {status = s
 pub fault_ends : (asked : Request) (files : Files) (failed : Fault) {old new : List ℕ} {told : Outcome} {status : ℕ}
     → OfOctets (IsFirstFault asked files) failed → ((file : InputFile) → failed ≡ fault.OpenFailed file → ⊥)
     → TellsFault (in_memory failed) old new told status → Ends asked files old new told status
-fault_ends asked files fault.OutOfMemory first opened tells = inr (inr tells)
-fault_ends asked files fault.WriteFailed first opened tells = inr (inr tells)
-fault_ends asked files (fault.ReadFailed file) first opened tells = inr (inr tells)
 fault_ends asked files (fault.TooLong file) first opened tells = inr (inl (fault.TooLong file, first, tells))
 fault_ends asked files (fault.OpenFailed file) first opened tells = absurd (opened file refl)
 fault_ends asked files (fault.Refused why place) first opened tells = inr (inl (fault.Refused why place, first, tells))
+fault_ends asked files failed first opened tells = inr (inr tells)
 
 -- a question is refused by a refusal, which is told as it is
 question_alone : (asked : List ℕ) (rtype : ℕ) (refused : Fault) → IsFaultOfQuestion asked rtype refused → in_memory refused ≡ refused
-question_alone asked rtype fault.OutOfMemory is = absurd is
-question_alone asked rtype fault.WriteFailed is = absurd is
-question_alone asked rtype (fault.ReadFailed file) is = absurd is
-question_alone asked rtype (fault.TooLong file) is = absurd is
-question_alone asked rtype (fault.OpenFailed file) is = absurd is
 question_alone asked rtype (fault.Refused reason place) is = refl
+question_alone asked rtype refused is = absurd is
 
 -- so is a range
 range_alone : (from to : ℕ) (refused : Fault) → IsFaultOfRange from to refused → in_memory refused ≡ refused

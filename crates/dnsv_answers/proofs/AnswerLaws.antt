@@ -20,14 +20,10 @@ other_sizes line a b p q = ap (λ (text : List ℕ). length text) (sym p ∙ q)
 
 by_size : (a b : Answer) → length (answer_text a) ≡ length (answer_text b) → a ≡ b
 by_size Valid Valid e = refl
-by_size Valid Invalid e = absurd (omega (arith, e))
-by_size Valid Unknown e = absurd (omega (arith, e))
-by_size Invalid Valid e = absurd (omega (arith, e))
 by_size Invalid Invalid e = refl
-by_size Invalid Unknown e = absurd (omega (arith, e))
-by_size Unknown Valid e = absurd (omega (arith, e))
-by_size Unknown Invalid e = absurd (omega (arith, e))
+by_size a Valid e = absurd (omega (arith, e))
 by_size Unknown Unknown e = refl
+by_size a b e = absurd (omega (arith, e))
 
 one_answer : (line : List ℕ) (a b : Answer) → line ≡ answer_text a → line ≡ answer_text b → a ≡ b
 one_answer line a b p q = by_size a b (other_sizes line a b p q)

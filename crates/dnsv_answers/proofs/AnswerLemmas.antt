@@ -1,9 +1,9 @@
 -- Files of answers, a line at a time.
-use Rattle.std.proofs.Common.{◌≡◌, ℕ, List, [], ◌∷◌, ◌++◌, Some, length, refl, sym, ap, ◌∙◌, arith, subst, inl, inr, append_assoc, append-nil}
+use Rattle.std.proofs.Common.{◌≡◌, ℕ, List, [], ◌∷◌, ◌++◌, Some, length, refl, sym, ap, ◌∙◌, arith, subst, inl, inr, append-nil}
 use Rattle.dnsv_names.specs.Lines.LineLaws.{HasLines-only}
 use Rattle.dnsv_names.specs.Lines.{HasLines, NumberedLine}
 use Rattle.dnsv_verifier.specs.declared.answer.Answer.{Answer}
-use Rattle.dnsv_answers.specs.AnswerFile.{AreAnswersOf, IsAnswerLine, IsFirstNoAnswer, IsNoAnswer, SayAnswers, answer_text}
+use Rattle.dnsv_answers.specs.AnswerFile.{AreAnswersOf, IsFirstNoAnswer, IsNoAnswer, SayAnswers, answer_text}
 use Rattle.dnsv_answers.specs.Heading.{IsHeading}
 use Rattle.dnsv_answers.specs.declared.error.AnswersError.{AnswersError}
 use Rattle.dnsv_answers.specs.declared.error.AnswersError.TheVariants.{Syntax}
@@ -78,11 +78,6 @@ said_by : (line : NumberedLine) (rest : List NumberedLine) (more : List SaidAnsw
 said_by line rest [] say = absurd say
 said_by line rest (each ∷ more) say = (each.answer, say.0.word)
 
-rest_of : (line : NumberedLine) (rest : List NumberedLine) (more : List SaidAnswer) → SayAnswers (line ∷ rest) more
-    → (others : List SaidAnswer) × SayAnswers rest others
-rest_of line rest [] say = absurd say
-rest_of line rest (each ∷ more) say = (more, say.1)
-
 -- the next line says an answer
 pub reads_one : (all left rest : List NumberedLine) (said : List SaidAnswer) (line : NumberedLine) → left ≡ line ∷ rest → Reads all left said
     → IsNoAnswer line → ⊥
@@ -90,20 +85,6 @@ reads_one all left rest said line next so_far none =
     let here = subst (λ (lines : List NumberedLine). Reads all lines said) next so_far in
     let (answer, is) = said_by line rest here.more here.say in
     none answer is
-
-pub reads_past : (all left rest : List NumberedLine) (old new : List SaidAnswer) (line : NumberedLine) (each : SaidAnswer) → left ≡ line ∷ rest
-    → IsAnswerLine line each → new ≡ old ++ each ∷ [] → Reads all left old → Reads all rest new
-reads_past all left rest old new line each next is grown so_far =
-    let here = subst (λ (lines : List NumberedLine). Reads all lines old) next so_far in
-    let (others, say) = rest_of line rest here.more here.say in
-    record {
-      more = others;
-      say = say;
-      gives = λ more behind.
-          let whole : SayAnswers all ((old ++ each ∷ []) ++ more) =
-          subst (λ (said : List SaidAnswer). SayAnswers all said) (sym (append_assoc old (each ∷ []) more)) (here.gives (each ∷ more) (is, behind)) in
-          subst (λ (said : List SaidAnswer). SayAnswers all (said ++ more)) (sym grown) whole;
-    }
 
 pub reads_to_end : (all left : List NumberedLine) (said : List SaidAnswer) → left ≡ [] → Reads all left said → SayAnswers all said
 reads_to_end all left said none so_far =

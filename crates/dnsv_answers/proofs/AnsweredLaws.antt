@@ -106,7 +106,3 @@ module _ (moment : ℕ) (rrsets : List ReceivedRrset) (said : List Answer) (tabl
 
   pub one_answered_table : (other : TableContents) → IsAnsweredTable moment rrsets said other → table ≡ other
   one_answered_table other its = one_answered_within moment moment rrsets said table is other its
-
-pub one_number_asked : (moment : ℕ) (rrsets : List ReceivedRrset) (a b : ℕ) → IsNumberAsked moment rrsets a → IsNumberAsked moment rrsets b → a ≡ b
-one_number_asked moment rrsets a b x y =
-    one_number_within moment moment rrsets a b (number_from moment rrsets a x) (number_from moment rrsets b y)

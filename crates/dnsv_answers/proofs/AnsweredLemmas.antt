@@ -34,15 +34,6 @@ answered_by from to rrsets asked of_moment is said each = record {
       (ap (λ (answers : List (Entry × Answer)). map (λ each. each.0) answers) is.answers ∙ same_entries is.entries);
 }
 
--- there are as many entries as answers in a table
-pub number_within : (meaning : Entry → Answer) (from to : ℕ) (rrsets : List ReceivedRrset) (table : TableContents) → IsTableWithin meaning from to rrsets table
-    → IsNumberAskedWithin from to rrsets (length table.answers)
-number_within meaning from to rrsets table is = record {
-  entries = is.entries;
-  asked = is.asked;
-  is = ap (λ (answers : List (Entry × Answer)). length answers) is.answers ∙ length-map is.entries (λ (entry : Entry). (entry, meaning entry));
-}
-
 -- ---- a range of one moment
 
 -- what is asked at some moment of it is asked at this one

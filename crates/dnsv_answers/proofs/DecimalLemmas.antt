@@ -1,29 +1,15 @@
 -- The text of a number below 2^64, and what `parse` makes of it.
-use Rattle.std.proofs.Common.{◌≡◌, ◌≢◌, ℕ, ◌<◌, ◌^◌, List, [], ◌∷◌, length, get_or, refl, sym, ap, ◌∙◌, arith, true, false, Result, Ok, Err, subst}
-use Rattle.std.proofs.lemmas.Bool.Decides.{nat_tests}
+use Rattle.std.proofs.Common.{◌≡◌, ℕ, ◌<◌, ◌^◌, List, sym, ap, ◌∙◌, arith, true, false, Result, Ok, Err, subst}
 use Rattle.std.proofs.lemmas.Fmt.{parse-decimal, decimal-digits_value, IsAscii-decimal}
-use Rattle.std.proofs.lemmas.Str.Parse.{IsNumeralModel, numerals_by_value, tells_all_ascii_digits, parse_plain}
+use Rattle.std.proofs.lemmas.Str.Parse.{parse_plain}
 use Rattle.std.proofs.lemmas.Str.{IsUtf8-from_ascii}
 use Rattle.std.specs.Fmt.{decimal}
 use Rattle.std.specs.Option.{MatchOption}
 use Rattle.std.specs.Result.{result_ok}
-use Rattle.std.specs.Str.{all_ascii_digits, IsAscii, IsUtf8}
+use Rattle.std.specs.Str.{IsAscii, IsUtf8}
 use Rattle.std.specs.Str.Parse.{ParsesUnsigned, digits_value}
-use Rattle.dnsv_names.proofs.LineLemmas.DecimalLemmas.{decimal_unmarked}
+use Rattle.dnsv_names.proofs.LineLemmas.DecimalLemmas.{decimal_unmarked, no_plus, no_zero, own}
 use Rattle.dnsv_names.specs.Lines.LineReading.{is_marked}
-
-own : IsNumeralModel (λ ds. all_ascii_digits ds ≡ true) (digits_value 10)
-own = numerals_by_value (λ ds. all_ascii_digits ds ≡ true) tells_all_ascii_digits
-
-no_plus : (text : List ℕ) → is_marked text ≡ false → get_or text 0 0 ≢ 43
-no_plus [] plain e = omega arith
-no_plus (x ∷ []) plain e = grind (arith, nat_tests)
-no_plus (x ∷ y ∷ text) plain e = grind (arith, nat_tests)
-
-no_zero : (text : List ℕ) → 0 < length text → is_marked text ≡ false → get_or text 0 0 ≡ 48 → length text ≡ 1
-no_zero [] some plain e = omega arith
-no_zero (x ∷ []) some plain e = refl
-no_zero (x ∷ y ∷ text) some plain e = grind (arith, nat_tests)
 
 -- what `parse` answers of a text with no sign and no zero in front
 pub parsed : {E : Type 0} (text : List ℕ) (r : Result ℕ E) → is_marked text ≡ false → ParsesUnsigned 64 10 text r → MatchOption (result_ok r) ((number : ℕ) → number < 2 ^ 64 → text ≡ decimal number → ⊥) (λ number. text ≡ decimal number)

@@ -1,5 +1,5 @@
 -- The heading of a file of answers, as its fields are read.
-use Rattle.std.proofs.Common.{◌≡◌, ◌⊎◌, ◌<◌, ◌≤◌, ◌^◌, ℕ, List, [], ◌∷◌, Ok, Option, Some, None, codes, length, sym, ap, subst, inl, inr, ◌∙◌, arith}
+use Rattle.std.proofs.Common.{◌≡◌, ◌<◌, ◌≤◌, ◌^◌, ℕ, List, [], ◌∷◌, Ok, Option, Some, None, codes, length, sym, ap, subst, ◌∙◌, arith}
 use Rattle.std.proofs.lemmas.Fmt.{decimal_injective}
 use Rattle.std.specs.Fmt.{decimal}
 use Rattle.std.specs.Option.{MatchOption}
@@ -43,48 +43,12 @@ first_of_two first last fields (At moment) is none (digits, same, says) =
 first_of_two first last fields (Between a b) is none (from, to, same, says, more) =
     let from_is : from ≡ first = cc in none a (subst (λ (d : List ℕ). SaysMoment d a) from_is says)
 
-last_of_two : (first last : List ℕ) (fields : List (List ℕ)) (moments : Moments) → fields ≡ first ∷ last ∷ []
-    → ((moment : ℕ) → SaysMoment last moment → ⊥) → AreMoments fields moments → ⊥
-last_of_two first last fields (At moment) is none (digits, same, says) =
-    let size : length (digits ∷ []) ≡ length (first ∷ last ∷ []) = ap (λ (xs : List (List ℕ)). length xs) (sym same ∙ is) in omega arith
-last_of_two first last fields (Between a b) is none (from, to, same, says, more) =
-    let to_is : to ≡ last = cc in none b (subst (λ (d : List ℕ). SaysMoment d b) to_is more)
-
 pub no_first : (word digest first last : List ℕ) → ((moment : ℕ) → SaysMoment first moment → ⊥)
     → (heading : Heading) → SaysHeading (word ∷ digest ∷ first ∷ last ∷ []) heading → ⊥
 no_first word digest first last none heading says =
     first_of_two first last says.behind heading.moments (behind_of word digest (first ∷ last ∷ []) heading says) none says.moments
 
-pub no_last : (word digest first last : List ℕ) → ((moment : ℕ) → SaysMoment last moment → ⊥)
-    → (heading : Heading) → SaysHeading (word ∷ digest ∷ first ∷ last ∷ []) heading → ⊥
-no_last word digest first last none heading says =
-    last_of_two first last says.behind heading.moments (behind_of word digest (first ∷ last ∷ []) heading says) none says.moments
-
 -- ---- how many fields
-
-counted : (fields : List (List ℕ)) (moments : Moments) → AreMoments fields moments → (length fields ≡ 1) ⊎ (length fields ≡ 2)
-counted fields (At moment) (digits, same, says) = inl (ap (λ (xs : List (List ℕ)). length xs) same)
-counted fields (Between first last) (from, to, same, says, more) = inr (ap (λ (xs : List (List ℕ)). length xs) same)
-
-three_or_four : (fields : List (List ℕ)) (word digest : List ℕ) (behind : List (List ℕ)) → fields ≡ word ∷ digest ∷ behind
-    → (length behind ≡ 1) ⊎ (length behind ≡ 2) → (length fields ≡ 3) ⊎ (length fields ≡ 4)
-three_or_four fields word digest behind is (inl one) =
-    let size : length fields ≡ length (word ∷ digest ∷ behind) = ap (λ (xs : List (List ℕ)). length xs) is in inl (omega (arith, size, one))
-three_or_four fields word digest behind is (inr two) =
-    let size : length fields ≡ length (word ∷ digest ∷ behind) = ap (λ (xs : List (List ℕ)). length xs) is in inr (omega (arith, size, two))
-
-by_count : (line : List ℕ) (fields : List (List ℕ)) → AreFields line fields
-    → ((others : List (List ℕ)) → AreFields line others → length others ≡ 3 → ⊥)
-    → ((others : List (List ℕ)) → AreFields line others → length others ≡ 4 → ⊥) → (length fields ≡ 3) ⊎ (length fields ≡ 4) → ⊥
-by_count line fields are no_three no_four (inl three) = no_three fields are three
-by_count line fields are no_three no_four (inr four) = no_four fields are four
-
--- a line with neither three nor four fields is no heading
-pub no_fields : (line : List ℕ) → ((fields : List (List ℕ)) → AreFields line fields → length fields ≡ 3 → ⊥)
-    → ((fields : List (List ℕ)) → AreFields line fields → length fields ≡ 4 → ⊥) → (heading : Heading) → IsHeading line heading → ⊥
-no_fields line no_three no_four heading (fields, are, says) =
-    by_count line fields are no_three no_four
-    (three_or_four fields (codes "of") says.digest says.behind says.are (counted says.behind heading.moments says.moments))
 
 -- a line whose fields are none is none
 pub no_heading : (line : List ℕ) (fields : List (List ℕ)) → AreFields line fields → ((heading : Heading) → SaysHeading fields heading → ⊥)

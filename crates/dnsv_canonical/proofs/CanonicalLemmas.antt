@@ -163,7 +163,7 @@ pub each_map : {X Y : Type 0} (f : X → Y) (P : Y → Type 0) (xs : List X) →
 each_map f P [] each = tt
 each_map f P (x ∷ xs) each = (each.0, each_map f P xs each.1)
 
-rising_map : {X Y : Type 0} (f : X → Y) (R : Y → Y → Ordering) (xs : List X) → IsStrictlySortedBy (λ a b. R (f a) (f b)) xs → IsStrictlySortedBy R (map f xs)
+pub rising_map : {X Y : Type 0} (f : X → Y) (R : Y → Y → Ordering) (xs : List X) → IsStrictlySortedBy (λ a b. R (f a) (f b)) xs → IsStrictlySortedBy R (map f xs)
 unfolding IsStrictlySortedBy
 rising_map f R [] rises = tt
 rising_map f R (x ∷ xs) rises = (each_map f (λ y. R (f x) y ≡ Less) xs rises.0, rising_map f R xs rises.1)

@@ -26,7 +26,7 @@ module _ {X : Type 0} (p q : X → Bool) where
       ]
 
 -- an element at the end is behind so many places
-placed-push : {X : Type 0} (k : ℕ) (xs : List X) (x : X) → enumerate_from k (xs ++ x ∷ []) ≡ enumerate_from k xs ++ (k + length xs, x) ∷ []
+pub placed-push : {X : Type 0} (k : ℕ) (xs : List X) (x : X) → enumerate_from k (xs ++ x ∷ []) ≡ enumerate_from k xs ++ (k + length xs, x) ∷ []
 placed-push {X} k [] x = ap {B = List (ℕ × X)} (λ n. (n, x) ∷ []) (omega arith)
 placed-push {X} k (y ∷ ys) x =
     ap (λ placed. (k, y) ∷ placed) (placed-push (k + 1) ys x ∙ ap {B = List (ℕ × X)} (λ n. enumerate_from (k + 1) ys ++ (n, x) ∷ []) (omega arith))
@@ -161,6 +161,3 @@ module _ (message : ℕ) (section : Section) (records : List Record) (i : ℕ) (
 
     pub rrset_appeared : is_grouped x ≡ true → list_any (λ r. is_grouped r && same_rrset r x) (take i records) ≡ true → before ≡ old ++ appeared_at (i + 1)
     rrset_appeared grouped appeared = so_far ∙ ap (λ gs. old ++ gs) (sym (next_rrset true true grouped appeared ∙ append-nil (appeared_at i)))
-
-    pub no_rrset : is_grouped x ≡ false → before ≡ old ++ appeared_at (i + 1)
-    no_rrset grouped = so_far ∙ ap (λ gs. old ++ gs) (sym (next_rrset false _ grouped refl ∙ append-nil (appeared_at i)))

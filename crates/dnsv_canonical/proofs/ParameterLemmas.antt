@@ -19,7 +19,7 @@ use Rattle.dnsv_canonical.specs.Kept.{IsParametersRefusal}
 use Rattle.dnsv_canonical.specs.Rdata.{rdata_of_type}
 use Rattle.dnsv_canonical.specs.Rrsets.{ReceivedRrset}
 use Rattle.dnsv_canonical.specs.declared.capture.CaptureError.{CaptureError}
-use Rattle.dnsv_canonical.specs.declared.capture.CaptureError.TheVariants.{OutOfMemory, NotAResponse, Truncated, BadRdata, Limit}
+use Rattle.dnsv_canonical.specs.declared.capture.CaptureError.TheVariants.{OutOfMemory, Limit}
 use Rattle.dnsv_canonical.proofs.LimitLemmas.{few_where_distinct}
 use Rattle.dnsv_canonical.proofs.OrderLemmas.{take_next}
 
@@ -130,10 +130,8 @@ one_too_many limit received pairs new are full some =
 -- what is refused for some of the records is refused for all of them
 refused_part : (part rest : List (List ℕ)) (error : CaptureError) → IsParametersRefusal part error → IsParametersRefusal (part ++ rest) error
 refused_part part rest OutOfMemory refused = tt
-refused_part part rest NotAResponse refused = absurd refused
-refused_part part rest Truncated refused = absurd refused
-refused_part part rest (BadRdata k) refused = absurd refused
 refused_part part rest Limit many = λ few. many (few.0, few.1, λ pair among. few.2 pair (among_part part rest pair among))
+refused_part part rest error refused = absurd refused
 
 refused_of : (earlier part more rest all : List (List ℕ)) (error : CaptureError) → (part ++ more) ++ rest ≡ all → IsParametersRefusal ((earlier ++ part) ++ more) error → IsParametersRefusal (earlier ++ all) error
 refused_of earlier part more rest all error is refused =

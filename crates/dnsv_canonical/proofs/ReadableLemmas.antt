@@ -17,7 +17,7 @@ use Rattle.dnsv_canonical.specs.Evidence.{Evidence, IsWhole, IsReadable, IsFirst
 use Rattle.dnsv_canonical.specs.Rdata.{IsLaidOut}
 use Rattle.dnsv_canonical.specs.Kept.{IsBadAfter}
 use Rattle.dnsv_canonical.specs.declared.capture.CaptureError.{CaptureError}
-use Rattle.dnsv_canonical.specs.declared.capture.CaptureError.TheVariants.{OutOfMemory, NotAResponse, Truncated, BadRdata, Limit}
+use Rattle.dnsv_canonical.specs.declared.capture.CaptureError.TheVariants.{BadRdata}
 
 -- ---- whether RDATA was read
 
@@ -63,31 +63,22 @@ IsFirstBad-behind xs ys k each first = (
 -- what is told of the second of three sections, and of the others, is told of the message
 module _ (held : Evidence) (message : Contents) (whole : IsWhole message) where
   pub refused_in_answer : (error : CaptureError) → IsBadAfter 0 message.answer error → IsReasonAgainst held message error
-  refused_in_answer OutOfMemory bad = absurd bad
   refused_in_answer (BadRdata k) bad =
       (whole, subst (IsFirstBad (records_of message)) (omega (arith, bad.2)) (IsFirstBad-front (message.answer ++ message.authority) message.additional bad.0 (IsFirstBad-front message.answer message.authority bad.0 bad.1)))
-  refused_in_answer NotAResponse bad = absurd bad
-  refused_in_answer Truncated bad = absurd bad
-  refused_in_answer Limit bad = absurd bad
+  refused_in_answer error bad = absurd bad
 
   pub refused_in_authority : (error : CaptureError) → AllByRecursion IsReadable message.answer → IsBadAfter (length message.answer) message.authority error → IsReasonAgainst held message error
-  refused_in_authority OutOfMemory each bad = absurd bad
   refused_in_authority (BadRdata k) each bad =
       (whole, subst (IsFirstBad (records_of message)) (sym bad.2) (IsFirstBad-front (message.answer ++ message.authority) message.additional _ (IsFirstBad-behind message.answer message.authority bad.0 each bad.1)))
-  refused_in_authority NotAResponse each bad = absurd bad
-  refused_in_authority Truncated each bad = absurd bad
-  refused_in_authority Limit each bad = absurd bad
+  refused_in_authority error each bad = absurd bad
 
   pub refused_in_additional : (error : CaptureError) (earlier : ℕ) → earlier ≡ length message.answer + length message.authority → AllByRecursion IsReadable message.answer → AllByRecursion IsReadable message.authority → IsBadAfter earlier message.additional error → IsReasonAgainst held message error
-  refused_in_additional OutOfMemory earlier is answer authority bad = absurd bad
   refused_in_additional (BadRdata k) earlier is answer authority bad = (
     whole,
     subst (IsFirstBad (records_of message)) (omega (arith, bad.2, is, length-append message.answer message.authority))
         (IsFirstBad-behind (message.answer ++ message.authority) message.additional bad.0 (recursion-append IsReadable message.answer message.authority answer authority) bad.1),
   )
-  refused_in_additional NotAResponse earlier is answer authority bad = absurd bad
-  refused_in_additional Truncated earlier is answer authority bad = absurd bad
-  refused_in_additional Limit earlier is answer authority bad = absurd bad
+  refused_in_additional error earlier is answer authority bad = absurd bad
 
 pub IfErr-weaker : {X : Type 0} (P Q : CaptureError → Type 0) (result : Result X CaptureError) → ((error : CaptureError) → P error → Q error) → IfErr result P → IfErr result Q
 IfErr-weaker P Q (Ok value) weaker holds = tt

@@ -101,10 +101,9 @@ no_fault line before anchor behind says few (TooMany number) there =
 one_fault : (line : NumberedLine) (before : List Anchor) (a b : AnchorsError) → IsFaultOfLine a line before
     → IsFaultOfLine b line before → a ≡ b
 one_fault line before OutOfMemory b p q = absurd p
-one_fault line before (Syntax m) OutOfMemory p q = absurd q
 one_fault line before (Syntax m) (Syntax n) p q = ap (λ k. Syntax k) (p.0 ∙ sym q.0)
 one_fault line before (Syntax m) (TooMany n) p q = absurd (p.1 q.1.0 q.1.1)
-one_fault line before (TooMany m) OutOfMemory p q = absurd q
+one_fault line before a OutOfMemory p q = absurd q
 one_fault line before (TooMany m) (Syntax n) p q = absurd (q.1 p.1.0 p.1.1)
 one_fault line before (TooMany m) (TooMany n) p q = ap (λ k. TooMany k) (p.0 ∙ sym q.0)
 

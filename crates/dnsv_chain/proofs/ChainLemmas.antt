@@ -76,12 +76,6 @@ one_key set a b first second same =
     λ i. record { owner = (first.owner ∙ sym second.owner) i; rdata = same i; dnskey = dnskeys i }
 
 module _ (set : ReceivedRrset) where
-  pub no_keys_yet : AreKeysTo set 0 []
-  no_keys_yet = record {
-    each = λ key among. let below = among.1 in absurd (omega (arith, below));
-    every = λ place key below within at stands. absurd (omega (arith, below));
-  }
-
   pub keys_more : (n : ℕ) (keys : List DnskeyRecord) (key : DnskeyRecord) → IsKeyOf set key
       → ((other : List ℕ) → get_or set.rdata n other ≡ key.rdata) → AreKeysTo set n keys → AreKeysTo set (n + 1) (keys ++ key ∷ [])
   keys_more n keys key stands there so_far = record {
@@ -132,9 +126,6 @@ module _ (anchors : List Anchor) (delegations : List ReceivedRrset) where
 -- what is signed under some of the keys of a set that are vouched for is signed by one of them
 module _ (m : Entry → Answer) (t : ℕ) (anchors : List Anchor) (delegations : List ReceivedRrset) (set : ReceivedRrset) (keys : List DnskeyRecord)
     (are : AreKeysOfSet set keys) where
-  pub not_by_own : ¬ IsSignedUnderSome m t set keys → IsSignedByVouched m t anchors delegations set → ⊥
-  not_by_own never by = never (record { key = by.key; among = (are by.key).1 by.signs.stands; signed = by.signs.signed })
-
   pub signed_by_vouched : (vouched : List DnskeyRecord) → AreVouched anchors delegations keys vouched
       → IsSignedUnderSome m t set vouched ↔ IsSignedByVouched m t anchors delegations set
   signed_by_vouched vouched are_vouched = (
@@ -167,13 +158,6 @@ there_now : {T : Type 0} (owner : Labels) (value : T) (old : List T) → Contain
 there_now owner value old = subst (λ (b : Bool). Contains (old ++ (if b then value ∷ [] else [])) value) (sym (itself owner)) (Contains-push old value)
 
 module _ (set : ReceivedRrset) (old : Labels → List DnskeyRecord) where
-  pub nothing_added : AddsKeysTo set 0 old old
-  nothing_added = record {
-    cases = λ zone key among. inl among;
-    kept = λ zone key among. among;
-    all = λ place rdata below within at. absurd (omega (arith, below));
-  }
-
   pub key_added : (n : ℕ) (new newer : Labels → List DnskeyRecord) (key : DnskeyRecord) → IsKeyOf set key
       → ((other : List ℕ) → get_or set.rdata n other ≡ key.rdata)
       → ((name : Labels) → newer name ≡ new name ++ (if same_name name set.owner then key ∷ [] else []))
@@ -220,13 +204,6 @@ module _ (m : Entry → Answer) (t : ℕ) (anchors : List Anchor) (delegations :
     cases = λ zone key among. ⊎_elim (λ (before : Contains (old zone) key). inl before)
         (λ (fresh : SameName set.owner zone × IsKeyOf set key). inr (by, fresh.0, fresh.1))
         (adds.cases zone key among);
-  }
-
-  pub trusted_skipped : (old : Labels → List DnskeyRecord) → ¬ IsSignedByVouched m t anchors (delegations set.owner) set → AddsTrusted m t anchors delegations set old old
-  trusted_skipped old never = record {
-    signed = λ by. absurd (never by);
-    kept = λ zone key among. among;
-    cases = λ zone key among. inl among;
   }
 
 -- ---- DS RRsets that are added

@@ -1,5 +1,5 @@
 -- What is kept of trust says what trust is.
-use Rattle.std.proofs.Common.{◌≡◌, ◌<◌, ◌≤◌, ◌-◌, ◌==◌, ℕ, Bool, true, false, cond, Some, Vec, List, [], ◌∷◌, ◌++◌, length, get_or, map, nat_eq, if◌then◌else◌, suc, zero, refl, sym, ap, ◌∙◌, subst, arith, ⊎_elim, append_assoc, append-nil}
+use Rattle.std.proofs.Common.{◌≡◌, ◌<◌, ◌≤◌, ◌-◌, ◌==◌, ℕ, Bool, true, false, cond, Some, Vec, List, [], ◌∷◌, ◌++◌, length, get_or, map, nat_eq, if◌then◌else◌, suc, zero, refl, sym, ap, ◌∙◌, subst, arith, ⊎_elim, append_assoc}
 use Rattle.std.proofs.lemmas.Bool.{cases_lt}
 use Rattle.std.proofs.lemmas.Bool.Decides.{nat_tests}
 use Rattle.std.proofs.lemmas.List.{get_or-map, length-map, get_or_past}
@@ -70,10 +70,6 @@ module _ {Y : Type 0} where
     parted = append_assoc before.done (kept ∷ []) rest ∙ before.parted;
     each = zip_push IsZoneOf before.done zones kept zone before.each is;
   }
-
-  pub all_zones : (all : List (OwnerKey × Vec DnskeyRecord Y)) (zones : List (Labels × List Dnskey)) → AreZonesBefore all [] zones → AllZip IsZoneOf all zones
-  all_zones all zones before =
-      subst (λ (list : List (OwnerKey × Vec DnskeyRecord Y)). AllZip IsZoneOf list zones) (sym (append-nil before.done) ∙ before.parted) before.each
 
   pub zones_found : (entries : List (OwnerKey × Vec DnskeyRecord Y)) (zones : List (Labels × List Dnskey)) (name : Labels) → AllZip IsZoneOf entries zones
       → AreKeysOf (option_map_or (λ kept. kept.items) (lookup (λ key. same_name name key.0) entries) []) (keys_among zones name)

@@ -141,15 +141,6 @@ module _ (meaning : Entry → Answer) (moment : ℕ) (rrset : ReceivedRrset) (rr
         subst (λ (octets : List ℕ). IsRrsig octets rrsig) rdata (signature_at rrset rrsigs i rrsig each within at []) in
         subst IsGoodAt (one_rrsig number.rdata number.rrsig rrsig number.is here) number.good
 
-    pub no_numbers : AreGoodNumbersTo meaning moment rrset keys 0 []
-    no_numbers = record {
-      rising = λ k below. absurd (omega (arith, below));
-      members = λ s. (
-        λ among. let below = among.1 in absurd (omega (arith, below)),
-        λ good. let at_least = good.0.signature.0 in let at_most = good.1 in absurd (omega (arith, at_least, at_most)),
-      );
-    }
-
     rising_push : (xs : List ℕ) (y : ℕ) → IsStrictlyIncreasing xs → ((s : ℕ) → Contains xs s → s < y) → IsStrictlyIncreasing (xs ++ y ∷ [])
     rising_push xs y rising below = λ k within.
         let size : length (xs ++ y ∷ []) ≡ length xs + 1 = length_push xs y in

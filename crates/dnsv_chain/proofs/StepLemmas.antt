@@ -65,12 +65,6 @@ one_rrset rrsets step a b first second =
 -- ---- how they are made
 
 module _ (rrsets : List ReceivedRrset) where
-  pub no_steps : AreStepsTo rrsets 0 []
-  no_steps = record {
-    each = λ step among. let below = among.1 in absurd (omega (arith, below));
-    every = λ place rrset below within at in_chain. absurd (omega (arith, below));
-  }
-
   module _ (i : ℕ) (rrset : ReceivedRrset) (steps : List Step) (within : i < length rrsets) (at : rrset ≡ get_or rrsets i rrset) (so_far : AreStepsTo rrsets i steps) where
     here : (other : ReceivedRrset) (place : ℕ) → place ≡ i → get_or rrsets place other ≡ other → other ≡ rrset
     here other place same there =

@@ -32,9 +32,6 @@ transitive a b c (first, second, a_is, b_is, p) (second', third, b_is', c_is, q)
     let later : IsStronger second third = subst P (some_only b_is' b_is) q in
     (first, third, a_is, c_is, omega (arith, p, later))
 
-pub none_leads : IsLeading [] None
-none_leads ds contains = absurd (omega (arith, contains.1))
-
 -- a record more, whose digest type takes over
 pub takes_lead : (xs : List Ds) (ds : Ds) (leading : Option DigestType) → IsLeading xs leading → TakesOver ds.digest_type.0 leading
     → IsLeading (xs ++ ds ∷ []) (Some ds.digest_type)
@@ -97,14 +94,11 @@ pub number_by : (number : ℕ) (first second third : Bool) (supported : Supporte
     → number ≡ number_of supported
 unfolding number_of
 number_by number true second third Sha1 one two four e = grind (arith, nat_tests)
-number_by number true second third Sha256 one two four e = cc
-number_by number true second third Sha384 one two four e = cc
-number_by number false true third Sha1 one two four e = cc
+number_by number true second third supported one two four e = cc
 number_by number false true third Sha256 one two four e = grind (arith, nat_tests)
-number_by number false true third Sha384 one two four e = cc
-number_by number false false true Sha1 one two four e = cc
-number_by number false false true Sha256 one two four e = cc
+number_by number false true third supported one two four e = cc
 number_by number false false true Sha384 one two four e = grind (arith, nat_tests)
+number_by number false false true supported one two four e = cc
 number_by number false false false supported one two four e = cc
 
 -- what holds of the number of a digest type holds of one of the three
@@ -124,13 +118,11 @@ one_number a b supported p q =
 pub compared : (s t : Supported) → IsStronger s t ⊎ (IsStronger t s ⊎ (s ≡ t))
 compared Sha1 Sha1 = inr (inr refl)
 compared Sha1 Sha256 = inr (inl (omega arith))
-compared Sha1 Sha384 = inr (inl (omega arith))
-compared Sha256 Sha1 = inl (omega arith)
 compared Sha256 Sha256 = inr (inr refl)
-compared Sha256 Sha384 = inr (inl (omega arith))
-compared Sha384 Sha1 = inl (omega arith)
+compared s Sha1 = inl (omega arith)
 compared Sha384 Sha256 = inl (omega arith)
 compared Sha384 Sha384 = inr (inr refl)
+compared s Sha384 = inr (inl (omega arith))
 
 -- a record with the digest type that leads is usable where its algorithm is supported
 pub usable_leader : (records : List Ds) (leading : ℕ) (ds : Ds) → Leads records leading → ds.digest_type.0 ≡ leading

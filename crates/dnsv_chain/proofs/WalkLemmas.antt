@@ -1,5 +1,5 @@
 -- One walk finds all trust.
-use Rattle.std.proofs.Common.{◌≡◌, ◌<◌, ◌≤◌, ◌+◌, ◌-◌, ℕ, List, [], ◌∷◌, ◌++◌, length, get_or, take, Some, refl, sym, ap, ◌∙◌, subst, arith, ◌⊎◌, inl, inr, ⊎_elim}
+use Rattle.std.proofs.Common.{◌≡◌, ◌<◌, ◌≤◌, ◌+◌, ◌-◌, ℕ, List, [], ◌∷◌, ◌++◌, length, get_or, take, Some, sym, ap, ◌∙◌, subst, arith, ◌⊎◌, inl, inr, ⊎_elim}
 use Rattle.std.proofs.lemmas.List.{take_more, take_all}
 use Rattle.std.proofs.lemmas.List.Elements.{Contains-push_cases}
 use Rattle.std.proofs.lemmas.Option.{slice_get_within, slice_get-get_or, get_or_from_slice_get}
@@ -206,20 +206,3 @@ module _ (m : Entry → Answer) (t : ℕ) (rs : List ReceivedRrset) (anchors : L
           walked.keys_all found.0 set done found.2 trusted rdata among;
       same = keys_same;
     }
-
-  -- at first nothing is
-  pub none_walked : (steps : List Step) (keys : Labels → List DnskeyRecord) (delegations : Labels → List ReceivedRrset)
-      → ((zone : Labels) → keys zone ≡ []) → ((zone : Labels) → delegations zone ≡ []) → IsWalked m t rs anchors (take 0 steps) keys delegations
-  none_walked steps keys delegations no_keys no_delegations = record {
-    keys_are = λ zone key among. absurd (nowhere key (subst (λ (list : List DnskeyRecord). Contains list key) (no_keys zone) among));
-    keys_all = λ step set done. absurd (nowhere step (subst (λ (list : List Step). Contains list step) (take_none steps) done));
-    delegations_are = λ zone ds among. absurd (nowhere ds (subst (λ (list : List ReceivedRrset). Contains list ds) (no_delegations zone) among));
-    delegations_all = λ step ds done. absurd (nowhere step (subst (λ (list : List Step). Contains list step) (take_none steps) done));
-  }
-    where
-      nowhere : {X : Type 0} (x : X) → Contains [] x → ⊥
-      nowhere x among = let below = among.1 in omega (arith, below)
-
-      take_none : (list : List Step) → take 0 list ≡ []
-      take_none [] = refl
-      take_none (s ∷ list) = refl

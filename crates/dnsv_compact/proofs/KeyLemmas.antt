@@ -1,17 +1,15 @@
 -- The keys of entries, in order.
-use Rattle.std.proofs.Common.{◌≡◌, ◌<◌, ◌&&◌, ℕ, List, [], ◌∷◌, true, false, nat_eq, length, get_or, slice_get, slice_index_or, take, ◌++◌, ◌+◌, Some, map, sym, ap, ◌∙◌, subst, arith, ⊎_elim}
-use Rattle.std.proofs.lemmas.Bool.{cases_order}
-use Rattle.std.proofs.lemmas.Bool.Decides.{nat_tests}
+use Rattle.std.proofs.Common.{◌≡◌, ◌<◌, ◌&&◌, ℕ, List, [], ◌∷◌, nat_eq, length, get_or, slice_get, slice_index_or, take, ◌++◌, ◌+◌, Some, map, sym, ap, ◌∙◌, subst, arith}
 use Rattle.std.proofs.lemmas.Cmp.{eq_by_cmp_equiv, nat_cmp_total, nat_list_cmp_total, on_total, then_total}
 use Rattle.std.proofs.lemmas.List.{map-append, take_more}
 use Rattle.std.proofs.lemmas.List.Kept.{Contains-dedup, Contains-from_dedup, IsStrictlySortedBy-dedup}
 use Rattle.std.proofs.lemmas.List.Sorted.{Contains-permutation, IsPermutation-sym}
-use Rattle.std.specs.Cmp.{IsTotalOrder, both_tied, nat_cmp_is}
+use Rattle.std.specs.Cmp.{IsTotalOrder, both_tied, unsigned_ties}
 use Rattle.std.specs.Cmp.Lexicographic.{pointwise, texts_ties}
 use Rattle.std.specs.List.{Contains, HoldsAt, dedup}
 use Rattle.std.specs.List.Sorted.{IsPermutation, IsSorted, IsStrictlySortedBy}
-use Rattle.std.specs.Ordering.{eq_by_cmp, is_eq, nat_cmp}
-use Rattle.std.specs.declared.cmp.Ordering.TheVariants.{Less, Equal, Greater}
+use Rattle.std.specs.Ordering.{eq_by_cmp, nat_cmp}
+use Rattle.std.specs.declared.cmp.Ordering.TheVariants.{Equal}
 use Rattle.dnsv_names.specs.Octets.{octets_cmp}
 use Rattle.dnsv_canonical.specs.Rrsets.{IsNumbered}
 use Rattle.dnsv_verifier.specs.EntryLaws.{octet_Equal, octets_Equal, then_Equal}
@@ -30,17 +28,8 @@ key_Equal a b e =
     let both = then_Equal (nat_cmp a.algorithm.0 b.algorithm.0) (octets_cmp a.key b.key) e in
     λ i. record { algorithm = record { 0 = octet_Equal a.algorithm.0 b.algorithm.0 both.0 i }; key = octets_Equal a.key b.key both.1 i }
 
-pub number_ties : (x y : ℕ) → nat_eq x y ≡ eq_by_cmp nat_cmp x y
-number_ties x y =
-    ⊎_elim
-    (λ (same : x ≡ y). let test : nat_eq x y ≡ true = grind (arith, nat_tests) in test ∙ ap is_eq (nat_cmp_is x y Equal same))
-    (⊎_elim
-    (λ (less : x < y). let test : nat_eq x y ≡ false = grind (arith, nat_tests) in test ∙ ap is_eq (nat_cmp_is x y Less less))
-    (λ (more : y < x). let test : nat_eq x y ≡ false = grind (arith, nat_tests) in test ∙ ap is_eq (nat_cmp_is x y Greater more)))
-    (cases_order x y)
-
 key_ties : (x y : ListedKey) → (nat_eq x.algorithm.0 y.algorithm.0 && pointwise nat_eq x.key y.key) ≡ eq_by_cmp key_cmp x y
-key_ties x y = both_tied _ _ _ _ (number_ties x.algorithm.0 y.algorithm.0) (texts_ties x.key y.key)
+key_ties x y = both_tied _ _ _ _ (unsigned_ties x.algorithm.0 y.algorithm.0) (texts_ties x.key y.key)
 
 -- sorted and without repeats they are the keys of the entries
 pub are_keys : (entries : List Entry) (all sorted kept : List ListedKey) → all ≡ map key_of_entry entries → IsPermutation all sorted → IsSorted key_cmp sorted

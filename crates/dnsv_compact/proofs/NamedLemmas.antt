@@ -5,7 +5,7 @@ use Rattle.std.proofs.lemmas.Cmp.{eq_by_cmp_equiv, nat_cmp_total, on_total, then
 use Rattle.std.proofs.lemmas.List.{map-id}
 use Rattle.std.proofs.lemmas.List.Kept.{Contains-dedup, Contains-from_dedup, IsStrictlySortedBy-dedup}
 use Rattle.std.proofs.lemmas.List.Sorted.{Contains-permutation, IsPermutation-sym}
-use Rattle.std.specs.Cmp.{IsTotalOrder, both_tied}
+use Rattle.std.specs.Cmp.{IsTotalOrder, both_tied, unsigned_ties}
 use Rattle.std.specs.List.{Contains, HoldsAt, dedup, list_any}
 use Rattle.std.specs.List.Sorted.{IsNonDecreasingBy, IsPartitionPoint, IsPermutation, IsSorted, IsStrictlySortedBy}
 use Rattle.std.specs.Ordering.{eq_by_cmp, nat_cmp, ordering_index}
@@ -20,7 +20,6 @@ use Rattle.dnsv_compact.specs.CompactList.{names_rrset, names_signature}
 use Rattle.dnsv_compact.specs.Named.{AreNamedBy, AreRrsetsOf, named_at, named_cmp}
 use Rattle.dnsv_compact.specs.declared.named.Named.{Named}
 use Rattle.dnsv_compact.specs.declared.place.Place.{Place}
-use Rattle.dnsv_compact.proofs.KeyLemmas.{number_ties}
 
 pub named_cmp_total : IsTotalOrder named_cmp
 named_cmp_total = then_total (on_total (λ (each : Named). each.rrset) nat_cmp_total) (on_total (λ (each : Named). each.signature) nat_cmp_total)
@@ -31,7 +30,7 @@ named_Equal a b e =
     λ i. record { rrset = octet_Equal a.rrset b.rrset both.0 i; signature = octet_Equal a.signature b.signature both.1 i }
 
 named_ties : (x y : Named) → (nat_eq x.rrset y.rrset && nat_eq x.signature y.signature) ≡ eq_by_cmp named_cmp x y
-named_ties x y = both_tied _ _ _ _ (number_ties x.rrset y.rrset) (number_ties x.signature y.signature)
+named_ties x y = both_tied _ _ _ _ (unsigned_ties x.rrset y.rrset) (unsigned_ties x.signature y.signature)
 
 -- sorted and without repeats a list has the members that it had
 members_kept : {K : Type 0} (cmp : K → K → Ordering) → IsTotalOrder cmp → ((a b : K) → cmp a b ≡ Equal → a ≡ b) → (all sorted kept : List K)
@@ -58,9 +57,9 @@ are_named places all sorted kept are moves ordered is =
 pub are_rrsets : (places : List Place) (all sorted kept : List ℕ) → all ≡ map (λ place. place.rrset) places → IsPermutation all sorted → IsSorted nat_cmp sorted
     → kept ≡ dedup nat_eq sorted → AreRrsetsOf places kept
 are_rrsets places all sorted kept are moves ordered is =
-    let by_cmp : kept ≡ dedup (eq_by_cmp nat_cmp) sorted = is ∙ (λ i. dedup (λ x y. number_ties x y i) sorted) in
+    let by_cmp : kept ≡ dedup (eq_by_cmp nat_cmp) sorted = is ∙ (λ i. dedup (λ x y. unsigned_ties x y i) sorted) in
     record {
-      rising = subst (IsStrictlySortedBy nat_cmp) (sym is) (IsStrictlySortedBy-dedup nat_cmp_total number_ties sorted ordered);
+      rising = subst (IsStrictlySortedBy nat_cmp) (sym is) (IsStrictlySortedBy-dedup nat_cmp_total unsigned_ties sorted ordered);
       members = λ each. let same = members_kept nat_cmp nat_cmp_total octet_Equal all sorted kept moves by_cmp each in (
         λ found. subst (λ (xs : List ℕ). Contains xs each) are (same.0 found),
         λ found. same.1 (subst (λ (xs : List ℕ). Contains xs each) (sym are) found),

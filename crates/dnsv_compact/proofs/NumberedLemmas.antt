@@ -30,9 +30,6 @@ numbered_at xs i x is = (omega arith, subst (λ (j : ℕ). slice_get xs j ≡ So
 pub numbered_from_contains : {X : Type 0} (xs : List X) (x : X) → Contains xs x → (number : ℕ) × IsNumbered xs number x
 numbered_from_contains xs x (i, within, is) = (i + 1, numbered_at xs i x (slice_get_at xs i x within (sym is)))
 
-pub contains_from_numbered : {X : Type 0} (xs : List X) (number : ℕ) (x : X) → IsNumbered xs number x → Contains xs x
-contains_from_numbered xs number x is = (number - 1, within_at xs (number - 1) x is.1, read_at xs (number - 1) x is.1)
-
 -- ---- a loop that adds what comes of each element by its number
 
 module _ {Y X : Type 0} (P : ℕ → Y → X → Type 0) (ys : List Y) where

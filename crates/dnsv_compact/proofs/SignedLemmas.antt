@@ -15,11 +15,12 @@ use Rattle.dnsv_records.specs.declared.rrsig.Rrsig.{Rrsig}
 use Rattle.dnsv_records.proofs.OneRecord.{one_rrsig}
 use Rattle.dnsv_canonical.specs.Rrsets.{IsNumbered, ReceivedRrset}
 use Rattle.dnsv_canonical.proofs.SignedLemmas.{signed_data_unique}
+use Rattle.dnsv_canonical.proofs.OrderLemmas.{zip_length}
 use Rattle.dnsv_verifier.specs.Asking.{AddsJust}
 use Rattle.dnsv_verifier.specs.Numbers.{signature_cmp}
 use Rattle.dnsv_verifier.specs.declared.entry.Entry.{Entry}
 use Rattle.dnsv_verifier.specs.declared.entry.parts.SignaturePart.{SignaturePart}
-use Rattle.dnsv_verifier.proofs.AskLemmas.{adds_same, zip_at, zip_length}
+use Rattle.dnsv_verifier.proofs.AskLemmas.{adds_same, zip_at}
 use Rattle.dnsv_verifier.proofs.NumberLemmas.{signature_cmp_total}
 use Rattle.dnsv_compact.specs.Signed.{ComesOfFirst, IsFirstSigned, IsSignedAmong, IsSignedBy, IsSignedIn, part_cmp, signed_cmp}
 use Rattle.dnsv_compact.specs.declared.signed.Signed.{Signed}
@@ -106,8 +107,7 @@ asked_part entry = record { signed_data = entry.signed_data; signature = entry.s
 
 less_first : (p q : Ordering) → is_lt (ordering_then p q) ≡ false → is_lt p ≡ false
 less_first Less q e = e
-less_first Equal q e = refl
-less_first Greater q e = refl
+less_first p q e = refl
 
 less_both : (o m q : Ordering) → is_lt (ordering_then o (ordering_then m q)) ≡ false → is_lt (ordering_then o m) ≡ false
 less_both Less m q e = e
@@ -123,12 +123,9 @@ sorted_parts all sorted k d low within =
 
 lt_before : (a b : Ordering) → ordering_index a ≤ ordering_index b → is_lt b ≡ true → is_lt a ≡ true
 lt_before Less b below lt = refl
-lt_before Equal Less below lt = absurd (omega (arith, below))
-lt_before Equal Equal below lt = cc
-lt_before Equal Greater below lt = cc
-lt_before Greater Less below lt = absurd (omega (arith, below))
-lt_before Greater Equal below lt = cc
-lt_before Greater Greater below lt = cc
+lt_before a Less below lt = absurd (omega (arith, below))
+lt_before a Equal below lt = cc
+lt_before a Greater below lt = cc
 
 between : (a : Ordering) → is_lt a ≡ false → ordering_index a ≤ ordering_index Equal → a ≡ Equal
 between Less fails below = cc
@@ -136,9 +133,8 @@ between Equal fails below = refl
 between Greater fails below = absurd (omega (arith, below))
 
 not_greater : (a : Ordering) → ordering_index a ≤ ordering_index Equal → is_gt a ≡ false
-not_greater Less below = refl
-not_greater Equal below = refl
 not_greater Greater below = absurd (omega (arith, below))
+not_greater a below = refl
 
 module _ (all : List Signed) (sorted : IsSorted signed_cmp all) (entry : Entry) where
   rises : IsNonDecreasingBy (λ x. ordering_index (part_cmp x entry)) all

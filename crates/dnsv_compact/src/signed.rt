@@ -12,7 +12,7 @@ use dnsv_canonical::{Rrset, SigningRoom, make_signed_data};
 use dnsv_names::compare_octets;
 use dnsv_records::{Octets, Rrsig};
 use dnsv_timeline::Range;
-use dnsv_verifier::{Entry, is_verifiable_within};
+use dnsv_verifier::{Entry, SignedData, is_verifiable_within};
 use std::alloc::{AllocError, Global};
 use std::cmp::Ordering;
 
@@ -32,8 +32,10 @@ impl Signed<'_> {
         ensures { result ≡ part_cmp self.now entry.now }
     {
         let (octets, made) = (self.octets.as_slice(), self.made.as_slice());
-        let (signed_data, signature) = (entry.signed_data.as_slice(), entry.signature.as_slice());
-        compare_octets(octets, signed_data).then_with(|| compare_octets(made, signature))
+        let signature = entry.signature.as_slice();
+        SignedData::of(octets)
+            .cmp(&entry.signed_data)
+            .then_with(|| compare_octets(made, signature))
     }
 }
 

@@ -1,8 +1,7 @@
 -- Members of a list.
-use Rattle.std.proofs.Common.{◌≡◌, ◌⊎◌, ◌≤◌, inl, inr, ℕ, suc, Bool, true, false, List, [], ◌∷◌, ◌++◌, Some, refl, sym, ap, subst, ◌∙◌, arith}
+use Rattle.std.proofs.Common.{◌≡◌, ◌⊎◌, ◌≤◌, inl, inr, ℕ, suc, Bool, true, false, List, [], ◌∷◌, ◌++◌, refl, sym, ap, subst, ◌∙◌, arith}
 use Rattle.std.specs.List.{Contains, list_any}
 use Rattle.std.proofs.lemmas.List.Elements.{Contains-append_cases, Contains-append_right}
-use Rattle.dnsv_canonical.specs.Rrsets.{IsNumbered}
 use Rattle.dnsv_canonical.proofs.CanonicalLemmas.{IsMember, IsMember-from_contains}
 
 pub contains_here : {X : Type 0} (x : X) (xs : List X) → Contains (x ∷ xs) x
@@ -35,10 +34,6 @@ member_passes test (y ∷ xs) x (inr later) passes =
 -- a test that an element passes
 pub any_true : {X : Type 0} (test : X → Bool) (xs : List X) (x : X) → Contains xs x → test x ≡ true → list_any test xs ≡ true
 any_true test xs x there passes = member_passes test xs x (IsMember-from_contains xs x there) passes
-
--- one element has a number
-pub one_numbered : {X : Type 0} (xs : List X) (number : ℕ) (x y : X) → IsNumbered xs number x → IsNumbered xs number y → x ≡ y
-one_numbered xs number x y is_x is_y = let e : Some x ≡ Some y = sym is_x.1 ∙ is_y.1 in cc
 
 -- ---- a list in two parts, whose members have numbers
 

@@ -8,7 +8,8 @@ use Rattle.dnsv_compact.specs.CompactList.{IsCompactList, IsListedIf, IsListedRr
 use Rattle.dnsv_compact.specs.ReadBack.{SayEach, Says, octets_behind}
 use Rattle.dnsv_compact.specs.declared.key.ListedKey.{ListedKey}
 use Rattle.dnsv_compact.specs.declared.place.Place.{Place}
-use Rattle.dnsv_compact_laws.proofs.ListLemmas.{contains_none, contains_only, in_part, number_from, one_numbered, one_of_number}
+use Rattle.dnsv_compact_laws.proofs.ListLemmas.{contains_none, contains_only, in_part, number_from, one_of_number}
+use Rattle.dnsv_canonical.proofs.NumberLemmas.{one_numbered}
 use Rattle.dnsv_compact_laws.proofs.ReadLemmas.{reads_back}
 
 -- ---- signatures of one number

@@ -2,12 +2,12 @@
 use Rattle.std.proofs.Common.{◌≡◌, ◌+◌, ◌-◌, ◌&&◌, ℕ, Bool, true, false, cond, List, [], ◌∷◌, length, drop, map, refl, ap, ap₂, ◌∙◌, arith}
 use Rattle.std.proofs.lemmas.Bool.Decides.{nat_tests}
 use Rattle.std.proofs.lemmas.List.{drop-map, length-map}
-use Rattle.std.proofs.lemmas.Str.Ascii.{lowercase-lowercase}
 use Rattle.std.specs.Char.{to_ascii_lowercase}
 use Rattle.std.specs.Prelude.{if◌then◌else◌, nat_eq, nat_lt}
 use Rattle.std.specs.Str.{bytes_eq}
 use Rattle.dnsv_names.specs.Name.{Labels, lower_case, rightmost}
 use Rattle.dnsv_names.specs.Tree.{asterisk, is_wildcard, wildcard_of}
+use Rattle.dnsv_names.proofs.LowerLemmas.{lower_twice}
 use Rattle.dnsv_canonical.specs.SignedData.{signed_label_count, signed_owner}
 
 -- ---- the label `*`
@@ -37,14 +37,6 @@ count_lower name =
 
 -- ---- lower case of lower case
 
-label_twice : (label : List ℕ) → map to_ascii_lowercase (map to_ascii_lowercase label) ≡ map to_ascii_lowercase label
-label_twice [] = refl
-label_twice (octet ∷ label) = ap₂ (λ o l. o ∷ l) (lowercase-lowercase octet) (label_twice label)
-
-twice : (name : Labels) → lower_case (lower_case name) ≡ lower_case name
-twice [] = refl
-twice (label ∷ name) = ap₂ (λ l n. l ∷ n) (label_twice label) (twice name)
-
 rightmost_lower : (name : Labels) (n : ℕ) → rightmost (lower_case name) n ≡ lower_case (rightmost name n)
 rightmost_lower name n =
     ap (λ (k : ℕ). drop (k - n) (lower_case name)) (length-map name (λ label. map to_ascii_lowercase label))
@@ -57,8 +49,8 @@ picked : (owner : Labels) (labels : ℕ) (b : Bool)
     ≡ lower_case (if b then wildcard_of (rightmost owner labels) else owner)
 picked owner labels true =
     ap (λ (name : Labels). lower_case (wildcard_of name)) (rightmost_lower owner labels)
-    ∙ ap wildcard_of (twice (rightmost owner labels))
-picked owner labels false = twice owner
+    ∙ ap wildcard_of (lower_twice (rightmost owner labels))
+picked owner labels false = lower_twice owner
 
 pub owner_lower : (owner : Labels) (labels : ℕ) → signed_owner (lower_case owner) labels ≡ signed_owner owner labels
 owner_lower owner labels =

@@ -1,7 +1,6 @@
 -- What proofs of functions and laws rest on.
 pub mod AnswerLemmas
 pub mod IndexLemmas
-pub mod NumberLemmas
 pub mod NumberedLemmas
 pub mod PlaceLemmas
 pub mod RisingLemmas

@@ -9,7 +9,7 @@ ghost use Rattle.dnsv_derivations.specs.Rising.{AreRising};
 
 use dnsv_canonical::{Rrset, signed_data};
 use dnsv_records::Rrsig;
-use dnsv_verifier::{Entries, Entry, KeyRecord, entry_over};
+use dnsv_verifier::{Entries, Entry, KeyRecord, SignedData, entry_over};
 use std::alloc::{AllocError, Global};
 use std::cmp::Ordering;
 
@@ -111,6 +111,6 @@ fn is_entry(entry: &Entry<'_>, rrsig: &Rrsig<'_>, octets: &[u8], key: &KeyRecord
 {
     entry.algorithm.0 == rrsig.algorithm.0
         && entry.key.as_slice() == key.dnskey().key.as_slice()
-        && entry.signed_data.as_slice() == octets
+        && entry.signed_data == SignedData::of(octets)
         && entry.signature.as_slice() == rrsig.signature.as_slice()
 }

@@ -13,7 +13,7 @@ use Rattle.std.specs.declared.cmp.Ordering.TheVariants.{Less}
 use Rattle.dnsv_derivations.specs.Following.{IsDsMatch, IsGoodUnder, IsNamed}
 use Rattle.dnsv_derivations.specs.derivations.WaySearch.{AreKeysInOrder, signature_of}
 use Rattle.dnsv_explain.specs.Listing.{AreOfNumbered, AreWhere}
-use Rattle.dnsv_derivations.specs.unsigned_cuts.UnsignedCuts.{record_of}
+use Rattle.dnsv_derivations.specs.derivations.Ways.{record_at}
 use Rattle.dnsv_lines.specs.declared.line.Line.{Line}
 use Rattle.dnsv_lines.specs.declared.line.Line.TheVariants as line
 use Rattle.dnsv_lines.specs.declared.line.fault.Reason.{Reason}
@@ -93,7 +93,7 @@ IsLowestDs setting key (Some number) =
 pub record IsShownKey (setting : Setting) (k place : ℕ) (set : ReceivedRrset) (key : DnskeyRecord) (shown : ShownKey)
     : Type 0 where
   pub zone : shown.zone ≡ set.owner
-  pub number : shown.number ≡ record_of k place
+  pub number : shown.number ≡ record_at k place
   pub named : IsNamed key shown.key
   pub flags : shown.flags.0 ≡ key.dnskey.flags.0
   pub signature : IsLowestOf (λ s. IsGoodUnder setting (signature_of k s) set key) shown.signature

@@ -11,7 +11,7 @@ ghost use Rattle.dnsv_derivations.specs.Following.{IsGoodUnder};
 ghost use Rattle.dnsv_derivations.specs.derivations.WaySearch.{AreKeysInOrder, signature_of};
 ghost use Rattle.dnsv_explain.specs.KeyLines.{AreLinesOfKeysAsked, AreLinesOfSet, HasMatch, IsKeyLine, IsLowestDs, IsLowestOf, IsMatchedByAnchor, IsMatchedByDs, IsShownKey};
 ghost use Rattle.dnsv_explain.specs.Listing.{AddsThose, AreOfNumbered};
-ghost use Rattle.dnsv_derivations.specs.unsigned_cuts.UnsignedCuts.{record_of};
+ghost use Rattle.dnsv_derivations.specs.derivations.Ways.{record_at};
 
 use crate::keys_in_question::zones::is_in_question;
 use dnsv_canonical::{RecordNumber, Rrset, in_canonical_order};
@@ -198,7 +198,7 @@ fn lowest_match(
     key: &DigestedKey<'_>,
 ) -> Result<Option<usize>, AllocError>
     requires { IsNumbered evidence.now.rrsets number ds.now }
-    ensures { IfOk result (IsLowestOf (λ place. IsMatchedByDs (setting_in evidence.now) key.now (record_of number place))) }
+    ensures { IfOk result (IsLowestOf (λ place. IsMatchedByDs (setting_in evidence.now) key.now (record_at number place))) }
 {
     let values = ds.ds_records();
     if !has_match(values, ds.owner(), key) {
@@ -224,7 +224,7 @@ fn lowest_in(
     key: &DigestedKey<'_>,
 ) -> Result<Option<usize>, AllocError>
     requires { IsNumbered evidence.now.rrsets number ds.now }
-    ensures { IfOk result (IsLowestOf (λ place. IsMatchedByDs (setting_in evidence.now) key.now (record_of number place))) }
+    ensures { IfOk result (IsLowestOf (λ place. IsMatchedByDs (setting_in evidence.now) key.now (record_at number place))) }
 {
     if ds.rtype() != RecordType::DS {
         return Ok(None);

@@ -85,18 +85,6 @@ one_fact basis number facts are = record {
   alone n k (zero, within, at) = at
   alone n k (suc m, within, at) = absurd (omega (arith, within))
 
--- some record is such just where facts are there
-pub some_facts : (basis : Basis) (Such : RecordNumber → Type 0) (facts : List RrsetFacts) → AreFactsOf basis Such facts → (f : RrsetFacts)
-    → Contains facts f → (n : RecordNumber) × Such n
-some_facts basis Such facts are f there =
-    let has = (are.members f.number).0 (contains_map (λ (each : RrsetFacts). each.number) facts f there) in (has.0, has.2)
-
-pub no_facts : (basis : Basis) (Such : RecordNumber → Type 0) (facts : List RrsetFacts) → AreFactsOf basis Such facts → facts ≡ []
-    → (n : RecordNumber) → ¬ Such n
-no_facts basis Such [] are none n such =
-    let there = (are.members n.rrset).1 (n, refl, such) in let within = there.1 in absurd (omega (arith, within))
-no_facts basis Such (f ∷ facts) are none n such = cc
-
 -- ---- sorted, and each once
 
 pub moved_members : (ks sorted : List ℕ) → IsPermutation ks sorted → (k : ℕ) → Contains sorted k ↔ Contains ks k

@@ -16,6 +16,7 @@ use Rattle.dnsv_records.specs.OctetLaws.{recursion-append}
 use Rattle.dnsv_denial.proofs.lemmas.words.AlikeLemmas.{before_less, in_order}
 use Rattle.dnsv_denial.specs.proving.Numbers.{number_at}
 use Rattle.dnsv_denial.specs.words.EvidenceWords.{number_cmp}
+use Rattle.dnsv_denial.proofs.lemmas.proving.ZoneChainLemmas.{there_or}
 
 pub rising_push : {K : Type 0} (c : K → K → Ordering) (xs : List K) (z : K) → IsStrictlySortedBy c xs
     → ((y : K) → Contains xs y → c y z ≡ Less) → IsStrictlySortedBy c (xs ++ z ∷ [])
@@ -33,11 +34,6 @@ pub less_nat : (a b : ℕ) → nat_cmp a b ≡ Less → a < b
 less_nat a b less = ranked a b Less (sym less)
 
 -- ---- the numbers at rising places
-
-there_or : {X : Type 0} (xs : List X) (other : X) (k : ℕ) → k < length xs → slice_get xs k ≡ Some (get_or xs k other)
-there_or [] other k small = absurd (omega (arith, small))
-there_or (x ∷ xs) other zero small = refl
-there_or (x ∷ xs) other (suc k) small = there_or xs other k (omega (arith, small))
 
 pub number_there : (numbers : List RecordNumber) (k : ℕ) → k < length numbers → slice_get numbers k ≡ Some (number_at numbers k)
 number_there numbers k small = there_or numbers (record { rrset = 0; place = 0 }) k small

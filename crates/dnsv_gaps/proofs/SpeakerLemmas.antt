@@ -9,10 +9,10 @@ use Rattle.std.specs.Ordering.{nat_cmp}
 use Rattle.std.specs.Prelude.{Contains}
 use Rattle.dnsv_names.specs.Name.{Labels, rightmost}
 use Rattle.dnsv_records.specs.OctetLaws.{recursion-append}
+use Rattle.dnsv_canonical.proofs.GroupLemmas.{placed-push}
 use Rattle.dnsv_chain.proofs.ZipLemmas.{zip_push}
 use Rattle.dnsv_denial.proofs.lemmas.gathering.GatherLemmas.{mapped_length}
 use Rattle.dnsv_denial.specs.words.EvidenceWords.{Chain}
-use Rattle.dnsv_zone_keys.proofs.lemmas.OnceLemmas.{placed-push}
 use Rattle.dnsv_faults.specs.KnownZones.{IsKnownZone}
 use Rattle.dnsv_remedies.specs.declared.facts.denial.SourceCase.{SourceCase}
 use Rattle.dnsv_remedies.specs.declared.facts.denial.SourceFacts.{SourceFacts}

@@ -1,6 +1,6 @@
 -- NSEC3 records that can't be used: why, and those of some RRsets.
 use Rattle.std.specs.FinSet as set
-use Rattle.std.proofs.Common.{◌≡◌, ◌≢◌, ◌↔◌, ◌⊎◌, ◌<◌, ◌≤◌, ◌+◌, ◌++◌, ◌==◌, ℕ, Bool, true, false, IsTrue, List, [], ◌∷◌, Option, Some, None, length, map, inl, inr, refl, sym, ap, ◌∙◌, subst, arith, ⊎_elim}
+use Rattle.std.proofs.Common.{◌≡◌, ◌≢◌, ◌↔◌, ◌⊎◌, ◌<◌, ◌≤◌, ◌+◌, ◌++◌, ◌==◌, ℕ, Bool, true, false, IsTrue, List, [], ◌∷◌, Option, Some, None, length, inl, inr, refl, sym, ap, ◌∙◌, subst, arith, ⊎_elim}
 use Rattle.std.proofs.lemmas.Bool.{cases_lt, false≢true}
 use Rattle.std.proofs.lemmas.Option.{get_or_from_slice_get, slice_get_within}
 use Rattle.std.specs.List.{AllByRecursion}
@@ -15,21 +15,22 @@ use Rattle.dnsv_zones.specs.chains.Nsec3Chain.{Nsec3Record}
 use Rattle.dnsv_zones.specs.chains.Rdata.{parameters_of}
 use Rattle.dnsv_canonical.proofs.OrderLemmas.{each_of}
 use Rattle.dnsv_canonical.specs.Canonical.{IsCanonical}
-use Rattle.dnsv_canonical.specs.CanonicalRdata.{canonical_form}
 use Rattle.dnsv_canonical.specs.Rrsets.{IsNumbered, ReceivedRrset}
 use Rattle.dnsv_canonical.specs.declared.number.RecordNumber.{RecordNumber}
-use Rattle.dnsv_denial.proofs.lemmas.gathering.EvidenceLemmas.{nsec3_forms, one_numbered, one_record}
+use Rattle.dnsv_denial.proofs.lemmas.gathering.EvidenceLemmas.{one_record}
+use Rattle.dnsv_canonical.proofs.NumberLemmas.{one_numbered}
 use Rattle.dnsv_denial.proofs.lemmas.gathering.Gathering.{Grown, UpTo, grown_all, grown_none, grown_not, grown_one, none_in}
 use Rattle.dnsv_denial.proofs.lemmas.gathering.NsecGather.{place_within, record_at}
 use Rattle.dnsv_denial.proofs.lemmas.words.AlikeLemmas.{any_place}
 use Rattle.dnsv_denial.specs.gathering.Evidence.{IsHashedOwner, IsNsec3Of, IsRecordAt}
+use Rattle.dnsv_denial.proofs.lemmas.gathering.Nsec3Gather.{forms_of}
 use Rattle.dnsv_lines.specs.declared.line.fault.denial.WhyNsec3.{WhyNsec3}
 use Rattle.dnsv_lines.specs.declared.line.fault.denial.WhyNsec3.TheVariants as why
 use Rattle.dnsv_remedies.specs.declared.facts.name.UnusableFacts.{UnusableFacts}
 use Rattle.dnsv_gaps.specs.Asking.{Asking}
 use Rattle.dnsv_gaps.specs.Denials.{HasSigner, IsDenialNumber}
 use Rattle.dnsv_gaps.specs.Sources.{IsSourceNsec3}
-use Rattle.dnsv_gaps.specs.Unusable.{AreUnusable, HasUnknownFields, IsHashLabel, IsOfItsParent, IsUnusable, IsUnusableOf, IsWhy}
+use Rattle.dnsv_gaps.specs.Unusable.{AreUnusable, IsOfItsParent, IsUnusable, IsUnusableOf, IsWhy}
 use Rattle.dnsv_gaps.specs.Unusable.IsWhy.{iterations, unusable}
 use Rattle.dnsv_gaps.specs.UnusableSearch.{AreUnused, IsInFront, IsUnusedAt, IsWhyUnused}
 
@@ -48,13 +49,6 @@ pub no_why : (rrset : ReceivedRrset) (fields : Nsec3) → ¬ (500 < fields.param
     → ¬ IsWhy rrset fields x
 no_why rrset fields few usable x (iterations many) = few many
 no_why rrset fields few usable x (unusable most is) = usable is
-
--- only the signer is left
-pub no_other : (rrset : ReceivedRrset) (fields : Nsec3) → ¬ HasUnknownFields fields → IsHashLabel rrset.owner → IsUnusable rrset fields
-    → ¬ IsOfItsParent rrset rrset.owner
-no_other rrset fields known spells (inl unknown) = absurd (known unknown)
-no_other rrset fields known spells (inr (inl never)) = absurd (never spells)
-no_other rrset fields known spells (inr (inr never)) = never
 
 module _ (rrset : ReceivedRrset) (owner : Labels) (its : owner ≡ rrset.owner) where
   pub no_parent : owner ≡ [] → ¬ IsOfItsParent rrset rrset.owner
@@ -75,12 +69,6 @@ module _ (rrset : ReceivedRrset) (owner : Labels) (its : owner ≡ rrset.owner) 
       )
 
 -- ---- those of an RRset
-
-forms_of : (rrset : ReceivedRrset) (canonical : List (List ℕ)) → rrset.rtype ≡ 50 → IsCanonical rrset.rdata canonical
-    → IsCanonical (map (canonical_form rrset.rtype) rrset.rdata) canonical
-forms_of rrset canonical rtype is =
-    subst (λ t. IsCanonical (map (canonical_form t) rrset.rdata) canonical) (sym rtype)
-    (subst (λ r. IsCanonical r canonical) (sym (nsec3_forms rrset.rdata)) is)
 
 -- what is so of the record with the number
 record Told (rrsets : List ReceivedRrset) (zone : Labels) (rrset : ReceivedRrset) (fields : Nsec3) (x : WhyNsec3) : Type 0 where

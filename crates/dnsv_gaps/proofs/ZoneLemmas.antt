@@ -80,9 +80,6 @@ goes_push chains next goes before i j first other at_i at_j less =
 
 -- ---- which sources have records
 
-contains_at : {X : Type 0} (xs : List X) (i : ℕ) (x : X) → slice_get xs i ≡ Some x → Contains xs x
-contains_at xs i x at = (i, slice_get_within xs i x at, get_or_from_slice_get xs i x x at)
-
 module _ (question : AskedQuestion) (zone : ZoneDenials) (are : AreZoneDenials question zone) where
   abbrev a : Asking
   a = asking question

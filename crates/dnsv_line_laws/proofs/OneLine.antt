@@ -63,12 +63,10 @@ types_of (field ∷ fields) are = (are.0, types_of fields are.1)
 
 -- of a word or nothing no more is known
 word_type : (x : Said) → of_kind AWord x ≡ true → IsOfItsType x
-word_type (Name name) is = cc
-word_type (Number number) is = cc
-word_type (Rrset number) is = cc
 word_type (Word word) is = tt
 word_type (Salt salt) is = tt
 word_type Nothing is = tt
+word_type x is = cc
 
 -- small numbers have at most 64 bits
 less : (n : ℕ) → nat_lt n 64 ≡ true → n < 2 ^ 64
@@ -79,9 +77,7 @@ number_type : (x : Said) → of_kind ANumber x ≡ true → is_small x ≡ true 
 number_type (Name name) is small = cc
 number_type (Number number) is small = less number small
 number_type (Rrset number) is small = cc
-number_type (Word word) is small = tt
-number_type (Salt salt) is small = tt
-number_type Nothing is small = tt
+number_type x is small = tt
 
 -- what the error and the word of a line are
 heads_of_types : (form : Form) (s : SaidSentence) → fits form s ≡ true → IsOfItsType s.error × IsOfItsType s.word

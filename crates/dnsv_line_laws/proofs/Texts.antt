@@ -1,12 +1,11 @@
 -- Lines that are the same have one text, and one object of JSON.
 use Rattle.std.proofs.Common.{◌≡◌, ℕ, List, [], ◌∷◌, ◌++◌, Option, Some, None, codes, map, refl, sym, ap, ap₂, ◌∙◌}
-use Rattle.std.proofs.lemmas.Str.Ascii.{lowercase-lowercase}
-use Rattle.std.specs.Char.{to_ascii_lowercase}
 use Rattle.std.specs.List.{flat_map}
-use Rattle.dnsv_names.specs.Name.{Labels, lower_case}
+use Rattle.dnsv_names.specs.Name.{Labels}
+use Rattle.dnsv_names.proofs.LowerLemmas.{lower_twice}
 use Rattle.dnsv_lines.specs.Json.{member, object, quoted}
 use Rattle.dnsv_lines.specs.Rows.{line_json, line_text, sentence_of}
-use Rattle.dnsv_lines.specs.Sentence.{Said, Name, Number, Rrset, Word, Salt, Nothing, SaidField, SaidSentence, field_members, field_text, json_of_sentence, keyed_members, labelled_text, plain, text_of_sentence}
+use Rattle.dnsv_lines.specs.Sentence.{Said, Name, Rrset, SaidField, SaidSentence, field_members, field_text, json_of_sentence, keyed_members, labelled_text, plain, text_of_sentence}
 use Rattle.dnsv_lines.specs.declared.line.Line.{Line}
 use Rattle.dnsv_lines.specs.declared.line.Line.TheVariants as line
 use Rattle.dnsv_lines.specs.declared.line.denial.Part.{Part}
@@ -19,27 +18,12 @@ use Rattle.dnsv_lines.specs.declared.line.fault.denial.MissingAnswer.{MissingAns
 use Rattle.dnsv_line_laws.specs.Lower.{SameLine, lower_line}
 use Rattle.dnsv_line_laws.proofs.Reading.{lower_field, lower_said, lower_sentence}
 
--- ---- names
-
-label_twice : (label : List ℕ) → map to_ascii_lowercase (map to_ascii_lowercase label) ≡ map to_ascii_lowercase label
-label_twice [] = refl
-label_twice (octet ∷ label) = ap₂ (λ o l. o ∷ l) (lowercase-lowercase octet) (label_twice label)
-
--- lower case is the same in lower case
-twice : (name : Labels) → lower_case (lower_case name) ≡ lower_case name
-twice [] = refl
-twice (label ∷ name) = ap₂ (λ l n. l ∷ n) (label_twice label) (twice name)
-
 -- ---- texts don't tell the case of letters
 
 -- of a field
 said_text : (label : Option (List ℕ)) (said : Said) → labelled_text label (lower_said said) ≡ labelled_text label said
-said_text label (Name name) = rw (twice name)
-said_text label (Number number) = refl
-said_text label (Rrset number) = refl
-said_text label (Word word) = refl
-said_text label (Salt salt) = refl
-said_text label Nothing = refl
+said_text label (Name name) = rw (lower_twice name)
+said_text label said = refl
 
 -- of fields
 fields_text : (fields : List SaidField) → flat_map field_text (map lower_field fields) ≡ flat_map field_text fields
@@ -52,12 +36,8 @@ sentence_text s = ap (λ t. s.line ++ t) (fields_text (plain (codes "ede") s.err
 
 -- in JSON of a field
 said_json : (key : List ℕ) (said : Said) → keyed_members key (lower_said said) ≡ keyed_members key said
-said_json key (Name name) = rw (twice name)
-said_json key (Number number) = refl
-said_json key (Rrset number) = refl
-said_json key (Word word) = refl
-said_json key (Salt salt) = refl
-said_json key Nothing = refl
+said_json key (Name name) = rw (lower_twice name)
+said_json key said = refl
 
 -- of fields
 fields_json : (fields : List SaidField) → flat_map field_members (map lower_field fields) ≡ flat_map field_members fields
@@ -78,51 +58,50 @@ IsLowered x = lower_sentence (sentence_of (lower_line x)) ≡ lower_sentence (se
 
 -- of lines that may have another name
 proof_lowered : (x : Proof) (given : Option Labels) → IsLowered (line.Proof (record x { encloser = given }))
-proof_lowered x None = rw (twice x.zone)
-proof_lowered x (Some name) = rw (twice x.zone, twice name)
+proof_lowered x None = rw (lower_twice x.zone)
+proof_lowered x (Some name) = rw (lower_twice x.zone, lower_twice name)
 
 part_lowered : (x : Part) (given : Option RecordPlace) → IsLowered (line.Part (record x { by = given }))
-part_lowered x None = rw (twice x.name)
-part_lowered x (Some place) = rw (twice x.name, twice place.owner)
+part_lowered x None = rw (lower_twice x.name)
+part_lowered x (Some place) = rw (lower_twice x.name, lower_twice place.owner)
 
 case_lowered : (x : Cut) (given : Option Labels) → IsLowered (line.Case (record x { zone = given }))
-case_lowered x None = rw (twice x.name)
-case_lowered x (Some name) = rw (twice x.name, twice name)
+case_lowered x None = rw (lower_twice x.name)
+case_lowered x (Some name) = rw (lower_twice x.name, lower_twice name)
 
 answer_lowered : (x : MissingAnswer) (given : Option Labels) → IsLowered (line.Reason (why.AnswerMissing (record x { zone = given })))
-answer_lowered x None = rw (twice x.name)
-answer_lowered x (Some name) = rw (twice x.name, twice name)
+answer_lowered x None = rw (lower_twice x.name)
+answer_lowered x (Some name) = rw (lower_twice x.name, lower_twice name)
 
 -- of what fails
 reason_lowered : (x : Reason) → IsLowered (line.Reason x)
-reason_lowered (why.Zone x) = rw (twice x.zone)
-reason_lowered (why.Entry x) = rw (twice x.entry.zone)
-reason_lowered (why.NotSelfSigned x) = rw (twice x.zone)
-reason_lowered (why.Unsigned x) = rw (twice x.owner)
-reason_lowered (why.Signature x) = rw (twice x.signature.owner, twice x.signature.signer)
-reason_lowered (why.NoCloser x) = rw (twice x.signature.owner, twice x.signature.signer, twice x.name)
-reason_lowered (why.Dname x) = rw (twice x.name)
-reason_lowered (why.Nsec3 x) = rw (twice x.owner)
-reason_lowered (why.Source x) = rw (twice x.source.zone, twice x.name)
+reason_lowered (why.Zone x) = rw (lower_twice x.zone)
+reason_lowered (why.Entry x) = rw (lower_twice x.entry.zone)
+reason_lowered (why.NotSelfSigned x) = rw (lower_twice x.zone)
+reason_lowered (why.Unsigned x) = rw (lower_twice x.owner)
+reason_lowered (why.Signature x) = rw (lower_twice x.signature.owner, lower_twice x.signature.signer)
+reason_lowered (why.NoCloser x) = rw (lower_twice x.signature.owner, lower_twice x.signature.signer, lower_twice x.name)
+reason_lowered (why.Dname x) = rw (lower_twice x.name)
+reason_lowered (why.Nsec3 x) = rw (lower_twice x.owner)
+reason_lowered (why.Source x) = rw (lower_twice x.source.zone, lower_twice x.name)
 reason_lowered (why.AnswerMissing x) = answer_lowered x x.zone
-reason_lowered (why.DenialUnproved x) = rw (twice x.name, twice x.zone)
-reason_lowered (why.NotVouched x) = rw (twice x.zone)
-reason_lowered (why.DsUnproved x) = rw (twice x.name, twice x.zone)
+reason_lowered (why.DenialUnproved x) = rw (lower_twice x.name, lower_twice x.zone)
+reason_lowered (why.NotVouched x) = rw (lower_twice x.zone)
+reason_lowered (why.DsUnproved x) = rw (lower_twice x.name, lower_twice x.zone)
 
 -- of each line
 lowered : (x : Line) → IsLowered x
-lowered (line.Trusted x) = rw (twice x.zone)
-lowered (line.Signed x) = rw (twice x.owner, twice x.zone)
+lowered (line.Trusted x) = rw (lower_twice x.zone)
+lowered (line.Signed x) = rw (lower_twice x.owner, lower_twice x.zone)
 lowered (line.Proof x) = proof_lowered x x.encloser
 lowered (line.Part x) = part_lowered x x.by
 lowered (line.Case x) = case_lowered x x.zone
-lowered (line.Unusable x) = rw (twice x.owner)
-lowered (line.Hope x) = refl
-lowered (line.Holds x) = refl
+lowered (line.Unusable x) = rw (lower_twice x.owner)
 lowered (line.Reason x) = reason_lowered x
-lowered (line.Follows x) = rw (twice x.signature.owner, twice x.signature.signer)
-lowered (line.Key x) = rw (twice x.zone)
-lowered (line.Rrset x) = rw (twice x.owner)
+lowered (line.Follows x) = rw (lower_twice x.signature.owner, lower_twice x.signature.signer)
+lowered (line.Key x) = rw (lower_twice x.zone)
+lowered (line.Rrset x) = rw (lower_twice x.owner)
+lowered x = refl
 
 -- what is written of a line is what is written of it with names in lower case
 lower_line_text : (x : Line) → line_text (lower_line x) ≡ line_text x

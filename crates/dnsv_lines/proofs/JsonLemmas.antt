@@ -52,9 +52,6 @@ pub record Parted {X : Type 0} (values : X → List (List ℕ)) (xs : List X) (d
   pub text : before ++ parted start (flat_map values xs) ≡ now ++ parted first (flat_map values (drop done xs))
   pub still : still_first start (flat_map values xs) ≡ still_first first (flat_map values (drop done xs))
 
-pub Parted-start : {X : Type 0} (values : X → List (List ℕ)) (xs : List X) (start : Bool) (before : List ℕ) → Parted values xs 0 start before start before
-Parted-start values xs start before = record { text = refl; still = refl }
-
 pub Parted-next : {X : Type 0} {values : X → List (List ℕ)} {xs : List X} {done : ℕ} {start : Bool} {before : List ℕ} {first : Bool} {now : List ℕ}
     → Parted values xs done start before first now
     → (x : X) (firstly : Bool) (after : List ℕ) → done < length xs → ((d : X) → get_or xs done d ≡ x)
@@ -83,9 +80,6 @@ Parted-all {X} {values} {xs} {done} {start} {before} {first} {now} written all =
 -- what was written and what is left are the whole
 pub record Joined {X : Type 0} (text : X → List ℕ) (xs : List X) (done : ℕ) (before now : List ℕ) : Type 0 where
   pub whole : before ++ flat_map text xs ≡ now ++ flat_map text (drop done xs)
-
-pub Joined-start : {X : Type 0} (text : X → List ℕ) (xs : List X) (before : List ℕ) → Joined text xs 0 before before
-Joined-start text xs before = record { whole = refl }
 
 pub Joined-next : {X : Type 0} {text : X → List ℕ} {xs : List X} {done : ℕ} {before now : List ℕ} → Joined text xs done before now
     → (x : X) (after : List ℕ) → done < length xs → ((d : X) → get_or xs done d ≡ x) → after ≡ now ++ text x → Joined text xs (done + 1) before after

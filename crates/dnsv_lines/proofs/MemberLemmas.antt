@@ -50,9 +50,6 @@ line_written s s1 s2 s3 k w members is1 adds is3 =
 pub record Members {X : Type 0} (members : X → List (List ℕ)) (xs : List X) (done : ℕ) (before now : List ℕ) : Type 0 where
   pub whole : before ++ parted false (flat_map members xs) ≡ now ++ parted false (flat_map members (drop done xs))
 
-pub Members-start : {X : Type 0} (members : X → List (List ℕ)) (xs : List X) (before : List ℕ) → Members members xs 0 before before
-Members-start members xs before = record { whole = refl }
-
 pub Members-next : {X : Type 0} {members : X → List (List ℕ)} {xs : List X} {done : ℕ} {before now : List ℕ} → Members members xs done before now
     → (x : X) (after : List ℕ) → done < length xs → ((d : X) → get_or xs done d ≡ x) → AddsMembers (members x) now after
     → Members members xs (done + 1) before after

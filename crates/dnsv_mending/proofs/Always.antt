@@ -26,9 +26,9 @@ use Rattle.dnsv_mending.specs.declared.facts.zone.DsFacts.{DsFacts}
 use Rattle.dnsv_mending.specs.declared.facts.zone.ZoneFacts.{ZoneFacts}
 use Rattle.dnsv_mending.specs.declared.facts.zone.ZoneKey.{ZoneKey}
 use Rattle.dnsv_mending.specs.declared.told.Told.TheVariants as told
-use Rattle.dnsv_mending.proofs.SomeWays.{There, at_within, both_parts, either_false, either_true, first_of, mapped_among, passing, place_of, some_after, some_flat, some_if, some_joined, some_kept, some_left, some_mapped, some_right, there}
+use Rattle.dnsv_mending.proofs.SomeWays.{There, at_within, either_false, either_true, first_of, mapped_among, passing, place_of, some_after, some_flat, some_if, some_joined, some_kept, some_left, some_mapped, some_right, there}
 use Rattle.dnsv_mending.proofs.AllWays.{among_at, at_end, at_seam}
-use Rattle.dnsv_mending.proofs.Reasons.{same_zone}
+use Rattle.dnsv_mending.proofs.Reasons.{both_true, same_zone}
 
 -- ---- DNSKEY RRsets
 
@@ -68,12 +68,12 @@ counted_case r chain group v k false c e among key fit =
     some_flat (voucher_ways chain (is_served group (signings r)) (signings r)) group v among
     (counted_some r chain (is_served group (signings r)) v k c e key fit)
 counted_case r chain group v k true c e among key fit =
-    let served = (both_parts (is_missing_by v.why) (is_served group (signings r)) e).1 in
+    let served = (both_true (is_missing_by v.why) (is_served group (signings r)) e).1 in
     let w = passing (λ (each : VoucherFacts). is_near_by each.why && list_any (λ (s : Signing). s.is_named && fits each s) (signings r)) group served in
-    let near = both_parts (is_near_by w.x.why) (list_any (λ (s : Signing). s.is_named && fits w.x s) (signings r)) w.passes in
+    let near = both_true (is_near_by w.x.why) (list_any (λ (s : Signing). s.is_named && fits w.x s) (signings r)) w.passes in
     let s = passing (λ (each : Signing). each.is_named && fits w.x each) (signings r) near.1 in
     let h = mapped_among (signing r) r.keys.items s.x s.among in
-    let fit = subst (λ (each : Signing). fits w.x each ≡ true) h.is ((both_parts s.x.is_named (fits w.x s.x) s.passes).1) in
+    let fit = subst (λ (each : Signing). fits w.x each ≡ true) h.is ((both_true s.x.is_named (fits w.x s.x) s.passes).1) in
     some_flat (voucher_ways chain (is_served group (signings r)) (signings r)) group w.x w.among
     (counted_some r chain (is_served group (signings r)) w.x h.x c (ap (λ b. b && is_served group (signings r)) (near_counts w.x.why near.0)) h.among fit)
 

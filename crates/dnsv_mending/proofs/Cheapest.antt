@@ -22,8 +22,7 @@ price_total = then_total (on_total (λ (p : Price). p.missing) nat_cmp_total) (t
 
 is_Less : (o : Ordering) → is_lt o ≡ true → o ≡ Less
 is_Less Less h = refl
-is_Less Equal h = absurd (false≢true h)
-is_Less Greater h = absurd (false≢true h)
+is_Less o h = absurd (false≢true h)
 
 pub cheaper_than : (p q r : Price) → is_cheaper p q ≡ true → is_cheaper q r ≡ true → is_cheaper p r ≡ true
 cheaper_than p q r a b = ap is_lt (price_total.trans p q r (is_Less (price_cmp p q) a) (is_Less (price_cmp q r) b))

@@ -173,9 +173,5 @@ pub entry_dear : (w : WhyEntry) (n : EntryNumber) → Dear (told.Entry w n)
 entry_dear entry_why.Algorithm n = dear_fault class.Stripped (told.Entry entry_why.Algorithm n) refl refl
 entry_dear entry_why.DigestType n = dear_fault class.Stripped (told.Entry entry_why.DigestType n) refl refl
 entry_dear entry_why.DigestIgnored n = dear_fault class.Stripped (told.Entry entry_why.DigestIgnored n) refl refl
-entry_dear entry_why.KeyMissing (number.Anchor a) = dear_fault class.Lacking (told.Entry entry_why.KeyMissing (number.Anchor a)) refl refl
-entry_dear entry_why.KeyMissing (number.Ds r) = dear_fault class.NotFitting (told.Entry entry_why.KeyMissing (number.Ds r)) refl refl
-entry_dear entry_why.KeyAlgorithm (number.Anchor a) = dear_fault class.Lacking (told.Entry entry_why.KeyAlgorithm (number.Anchor a)) refl refl
-entry_dear entry_why.KeyAlgorithm (number.Ds r) = dear_fault class.NotFitting (told.Entry entry_why.KeyAlgorithm (number.Ds r)) refl refl
-entry_dear entry_why.DigestDiffers (number.Anchor a) = dear_fault class.Lacking (told.Entry entry_why.DigestDiffers (number.Anchor a)) refl refl
-entry_dear entry_why.DigestDiffers (number.Ds r) = dear_fault class.NotFitting (told.Entry entry_why.DigestDiffers (number.Ds r)) refl refl
+entry_dear w (number.Anchor a) = dear_fault class.Lacking (told.Entry w (number.Anchor a)) refl refl
+entry_dear w (number.Ds r) = dear_fault class.NotFitting (told.Entry w (number.Ds r)) refl refl

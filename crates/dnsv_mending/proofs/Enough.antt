@@ -28,6 +28,7 @@ use Rattle.dnsv_mending.specs.declared.told.Told.TheVariants as told
 use Rattle.dnsv_mending.proofs.AllWays.{among_at}
 use Rattle.dnsv_mending.proofs.EachWay.{rrset_way, zone_way}
 use Rattle.dnsv_mending.proofs.Reasons.{both_true, none_among, same_zone, signer_first, trusted_by}
+use Rattle.dnsv_mending.proofs.DearLines.{no_lines}
 
 all_left : {A : Type 0} (P : A → Type 0) (xs ys : List A) → AllByRecursion P (xs ++ ys) → AllByRecursion P xs
 all_left P [] ys all = tt
@@ -140,10 +141,6 @@ none_granted : (lines : List Told) → AreGranted [] lines → lines ≡ []
 none_granted [] all = refl
 none_granted (line ∷ lines) all = absurd all.0
 
-no_else : (lines others : List Told) → or_else lines others ≡ [] → (lines ≡ []) × (others ≡ [])
-no_else [] others h = (refl, h)
-no_else (line ∷ lines) others h = cc
-
 no_fault : (why : Option WhyEntry) (n : EntryNumber) → IsFaultGranted [] (option_map (λ w. told.Entry w n) why) → why ≡ None
 no_fault None n h = refl
 no_fault (Some w) n h = absurd h
@@ -188,7 +185,7 @@ has zones c T (good_by_zone s is all) = λ closed. absurd (signer_first s is (no
 has zones c T (good_unnamed s z at none all by) = λ closed.
     absurd (false≢true (sym (closed.unnamed z at none (none_granted (signature_lines s) all)) ∙ has zones c (zone s.signer) by z at))
 has zones c T (good_under s z k key h r at among keyat holds stands all by) = λ closed.
-    let free = no_else (signature_lines s) (answer_lines s.number k.answer) (none_granted (or_else (signature_lines s) (answer_lines s.number k.answer)) all) in
+    let free = no_lines (signature_lines s) (answer_lines s.number k.answer) (none_granted (or_else (signature_lines s) (answer_lines s.number k.answer)) all) in
     closed.named z k key at among keyat
     (c.held s.signer z k.key h key r at keyat holds stands (has zones c (dnskey s.signer r) by z at (among_at z.dnskeys.items h r stands))) free.0 free.1
 has zones c T (good_anew s z k at among all by) = λ closed.

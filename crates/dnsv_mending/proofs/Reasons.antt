@@ -63,10 +63,6 @@ fault_of : (why : Option WhyEntry) (n : EntryNumber) (m : Mended) → ((why ≡ 
 fault_of None n m = inl (refl, refl)
 fault_of (Some w) n m = inr (told_first (fault (told.Entry w n)) m (told_fault (told.Entry w n) (entry_dear w n)))
 
-told_with : (t : Option Told) (m : Mended) → ((line : Told) → t ≡ Some line → Dear line) → IsTold m → IsTold (with_fault t m)
-told_with None m dear h = h
-told_with (Some line) m dear h = told_first (fault line) m (told_fault line (dear line refl))
-
 -- by an anchor or a DS record: it has no fault and the key signs, or something is told
 by_voucher : (v : VoucherFacts) (k : HeldKey) (c m : Mended) → IsSelfSigned k ⊎ IsTold m
     → ((v.why ≡ None) × IsSelfSigned k) ⊎ IsTold (following c (with_fault (voucher_fault v) m))
@@ -81,7 +77,7 @@ unsigned_told : (r : DnskeyFacts) (k : HeldKey) (t : Bool) → IsTold (if t then
 unsigned_told r k true = told_fault (told.NotSelfSigned k.number) (dear_fault class.NotSigning (told.NotSelfSigned k.number) refl refl)
 unsigned_told r k false = told_fault (told.Unsigned r.number) (dear_fault class.Stripped (told.Unsigned r.number) refl refl)
 
-dear_self : (k : HeldKey) (s : SelfSignature) → AllByRecursion Dear (self_lines k s)
+pub dear_self : (k : HeldKey) (s : SelfSignature) → AllByRecursion Dear (self_lines k s)
 dear_self k s =
     dear_else (fault_lines s.number s.faults ++ when (not k.is_zone_key) (told.Signature signature_why.NotZoneKey s.number)) (answer_lines s.number s.answer)
     (all_append Dear (fault_lines s.number s.faults) (when (not k.is_zone_key) (told.Signature signature_why.NotZoneKey s.number)) (dear_faults s.number s.faults)

@@ -108,10 +108,6 @@ place_of (y ∷ ys) x among = ⊎_elim
     (λ (e : x ≡ y). record { i = zero; is = ap Some (sym e) })
     (λ (rest : IsAmong x ys). let p = place_of ys x rest in record { i = suc p.i; is = p.is }) among
 
-pub both_parts : (a b : Bool) → (a && b) ≡ true → (a ≡ true) × (b ≡ true)
-both_parts true b h = (refl, h)
-both_parts false b h = absurd (false≢true h)
-
 pub either_false : (a b : Bool) → (a && b) ≡ false → (a ≡ false) ⊎ (b ≡ false)
 either_false true b h = inr h
 either_false false b h = inl refl

@@ -82,22 +82,6 @@ open_frame high (suc n) message short = λ other more framed same.
     let rest : message ≡ other ++ more = cc in
     omega (arith, short (omega arith), same_number (suc n) (length other) first second, ap length rest, length-append other more)
 
--- nor does it begin with the length 0
-pub open_not_zero : (high : Option ℕ) (announced : ℕ) (message : List ℕ) → ¬ IsZero (octets_of high announced message)
-open_not_zero None zero message zero_rest = absurd (cc zero_rest.1)
-open_not_zero (Some first) zero message zero_rest = absurd (cc zero_rest.1)
-open_not_zero high (suc n) message zero_rest =
-    let first : suc n / 256 ≡ 0 = cc (zero_rest.1) in
-    let second : suc n % 256 ≡ 0 = cc (zero_rest.1) in
-    omega arith
-
--- the octets of a frame whose length has come
-pub octets_of-announced : (high : Option ℕ) (announced : ℕ) (message : List ℕ) → 0 < announced
-    → octets_of high announced message ≡ announced / 256 ∷ (announced % 256 ∷ message)
-octets_of-announced high zero message positive = absurd (omega arith)
-octets_of-announced None (suc n) message positive = refl
-octets_of-announced (Some first) (suc n) message positive = refl
-
 -- a frame takes more octets and stays open
 pub Gains-none : (messages : List (List ℕ)) (stream rest : List ℕ) → stream ≡ rest → BeginsNoFrame rest → Gains messages messages stream rest
 Gains-none messages stream rest same no_more = record {
@@ -136,18 +120,6 @@ message_open out high announced message piece octets grown same two grows short 
     ∙ ap (octets_of high announced) (sym grows))
     (open_frame high announced grown (λ _. short))
 
--- a message takes a piece and is whole
-pub message_whole : (old new : List (List ℕ)) (high : Option ℕ) (announced : ℕ) (message piece octets grown : List ℕ)
-    → octets_of high announced message ≡ octets → 2 ≤ length octets → grown ≡ message ++ piece → length grown ≡ announced → announced ≤ 65535
-    → new ≡ old ++ grown ∷ [] → Gains old new (octets ++ piece) []
-message_whole old new high announced message piece octets grown same two grows size fits gained =
-    let positive : 0 < announced = announced_from_two high announced message octets same two in
-    let whole : octets ++ piece ≡ frame grown =
-    ap (λ xs. xs ++ piece) (sym same) ∙ octets_grow high announced message piece positive ∙ ap (octets_of high announced) (sym grows)
-    ∙ octets_of-announced high announced grown positive ∙ ap (λ n. n / 256 ∷ (n % 256 ∷ grown)) (sym size) in
-    let one : Frames (frame grown) (grown ∷ []) [] = Frames-one grown (record { not_empty = omega (arith, size, positive); at_most_65535 = omega (arith, size, fits) }) in
-    record { messages = grown ∷ []; gained = gained; frames = record { whole = whole ∙ one.whole; each = one.each; no_more = one.no_more } }
-
 pub zero_begins_no_frame : (more : List ℕ) → BeginsNoFrame (0 ∷ (0 ∷ more))
 zero_begins_no_frame more = λ message rest framed same.
     let high : 0 ≡ length message / 256 = cc in
@@ -162,7 +134,7 @@ zero_length out octets (octet ∷ more) some zero_octets =
     let same : octets ++ (octet ∷ more) ≡ 0 ∷ (0 ∷ more) = sym (append_assoc octets (octet ∷ []) more) ∙ ap (λ xs. xs ++ more) zero_octets in
     (0 ∷ (0 ∷ more), (more, refl), Gains-none out (octets ++ (octet ∷ more)) (0 ∷ (0 ∷ more)) same (zero_begins_no_frame more))
 
-take_nil : (n : ℕ) → take {A = ℕ} n [] ≡ []
+pub take_nil : (n : ℕ) → take {A = ℕ} n [] ≡ []
 take_nil zero = refl
 take_nil (suc n) = refl
 
@@ -204,14 +176,6 @@ Gains-given_up old mid new before piece held place x same =
         each = x.frames.each;
       };
     }
-
--- how many octets an open frame has at most
-pub octets_of-bound : (high : Option ℕ) (announced : ℕ) (message : List ℕ) → announced ≤ 65535 → (0 < announced → length message < announced)
-    → length (octets_of high announced message) ≤ 65536
-octets_of-bound None zero message fits short = omega arith
-octets_of-bound (Some first) zero message fits short = omega arith
-octets_of-bound None (suc n) message fits short = omega (arith, short (omega arith))
-octets_of-bound (Some first) (suc n) message fits short = omega (arith, short (omega arith))
 
 -- a reading of the stream
 pub record Reading (stream : List ℕ) : Type 0 where

@@ -19,10 +19,7 @@ not_trailing is = cc
 
 not_a_name's : (fault : NameFault) → decode.OutOfMemory ≡ decode_error_of fault → ⊥
 not_a_name's name.Short is = cc
-not_a_name's name.BadLabel is = cc
-not_a_name's name.BadPointer is = cc
-not_a_name's name.TooManyPointers is = cc
-not_a_name's name.LongName is = cc
+not_a_name's fault is = cc
 
 not_cut : (octets : List ℕ) (place more : ℕ) → CutShort octets place more decode.OutOfMemory → ⊥
 not_cut octets place more (inl name) = not_a_name's name.0 name.2

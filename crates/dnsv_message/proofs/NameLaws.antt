@@ -88,17 +88,15 @@ module _ (octets : List ℕ) where
       here_not_root : (fault : NameFault) → NumberAt octets place 1 0 → FaultHere octets place run pointers size fault → ⊥
       here_not_root Short at fault = not_short (λ some small. absurd (omega (arith, octet_of_number place 0 at))) (λ big. absurd (omega (arith, octet_of_number place 0 at))) (omega arith) fault
       here_not_root BadLabel at fault = omega (arith, octet_of_number place 0 at, octet_of_number place fault.0 fault.1)
-      here_not_root BadPointer at fault = omega (arith, octet_of_number place 0 at, octet_of_pointer place fault.0 fault.1)
-      here_not_root TooManyPointers at fault = omega (arith, octet_of_number place 0 at, octet_of_pointer place fault.0 fault.1)
       here_not_root LongName at fault = omega (arith, octet_of_number place 0 at, octet_of_label place fault.0 fault.1, fault.1.0.not_empty)
+      here_not_root other at fault = omega (arith, octet_of_number place 0 at, octet_of_pointer place fault.0 fault.1)
 
       here_not_label : (fault : NameFault) (first : List ℕ) → LabelAt octets place first → size + (1 + length first) + 1 ≤ 255 → FaultHere octets place run pointers size fault → ⊥
       here_not_label Short first at small fault =
           not_short (λ some less. omega (arith, octet_of_label place first at, label_within place first at)) (λ big. absurd (omega (arith, octet_of_label place first at, at.0.at_most_63))) (omega (arith, label_within place first at)) fault
       here_not_label BadLabel first at small fault = omega (arith, octet_of_label place first at, at.0.at_most_63, octet_of_number place fault.0 fault.1)
-      here_not_label BadPointer first at small fault = omega (arith, octet_of_label place first at, at.0.at_most_63, octet_of_pointer place fault.0 fault.1)
-      here_not_label TooManyPointers first at small fault = omega (arith, octet_of_label place first at, at.0.at_most_63, octet_of_pointer place fault.0 fault.1)
       here_not_label LongName first at small fault = omega (arith, octet_of_label place first at, octet_of_label place fault.0 fault.1, fault.2)
+      here_not_label other first at small fault = omega (arith, octet_of_label place first at, at.0.at_most_63, octet_of_pointer place fault.0 fault.1)
 
       here_not_pointer : (fault : NameFault) (target : ℕ) → PointerAt octets place target → target < run → 0 < pointers → FaultHere octets place run pointers size fault → ⊥
       here_not_pointer Short target at back left fault =
@@ -113,35 +111,26 @@ module _ (octets : List ℕ) where
       short_alone Short short fault = refl
       short_alone BadLabel short fault =
           absurd (not_short (λ some less. absurd (omega (arith, octet_of_number place fault.0 fault.1))) (λ big. absurd (omega (arith, octet_of_number place fault.0 fault.1))) (omega (arith, fault.1.0)) short)
-      short_alone BadPointer short fault =
-          absurd (not_short (λ some less. absurd (omega (arith, octet_of_pointer place fault.0 fault.1))) (λ big. fault.1.1.0) (omega (arith, fault.1.1.0)) short)
-      short_alone TooManyPointers short fault =
-          absurd (not_short (λ some less. absurd (omega (arith, octet_of_pointer place fault.0 fault.1))) (λ big. fault.1.1.0) (omega (arith, fault.1.1.0)) short)
       short_alone LongName short fault =
           absurd (not_short (λ some less. omega (arith, octet_of_label place fault.0 fault.1, label_within place fault.0 fault.1)) (λ big. absurd (omega (arith, octet_of_label place fault.0 fault.1, fault.1.0.at_most_63))) (omega (arith, label_within place fault.0 fault.1)) short)
+      short_alone other short fault =
+          absurd (not_short (λ some less. absurd (omega (arith, octet_of_pointer place fault.0 fault.1))) (λ big. fault.1.1.0) (omega (arith, fault.1.1.0)) short)
 
       here_same : (fault other : NameFault) → FaultHere octets place run pointers size fault → FaultHere octets place run pointers size other → fault ≡ other
       here_same Short other at also = sym (short_alone other at also)
-      here_same BadLabel Short at also = short_alone BadLabel also at
       here_same BadLabel BadLabel at also = refl
-      here_same BadLabel BadPointer at also = absurd (omega (arith, octet_of_number place at.0 at.1, octet_of_pointer place also.0 also.1))
-      here_same BadLabel TooManyPointers at also = absurd (omega (arith, octet_of_number place at.0 at.1, octet_of_pointer place also.0 also.1))
       here_same BadLabel LongName at also = absurd (omega (arith, octet_of_number place at.0 at.1, octet_of_label place also.0 also.1, also.1.0.at_most_63))
-      here_same BadPointer Short at also = short_alone BadPointer also at
-      here_same BadPointer BadLabel at also = absurd (omega (arith, octet_of_number place also.0 also.1, octet_of_pointer place at.0 at.1))
       here_same BadPointer BadPointer at also = refl
       here_same BadPointer TooManyPointers at also = absurd (omega (arith, target_same place at.0 also.0 at.1 also.1, at.2, also.2))
-      here_same BadPointer LongName at also = absurd (omega (arith, octet_of_pointer place at.0 at.1, octet_of_label place also.0 also.1, also.1.0.at_most_63))
-      here_same TooManyPointers Short at also = short_alone TooManyPointers also at
-      here_same TooManyPointers BadLabel at also = absurd (omega (arith, octet_of_number place also.0 also.1, octet_of_pointer place at.0 at.1))
       here_same TooManyPointers BadPointer at also = absurd (omega (arith, target_same place at.0 also.0 at.1 also.1, at.2, also.2))
       here_same TooManyPointers TooManyPointers at also = refl
-      here_same TooManyPointers LongName at also = absurd (omega (arith, octet_of_pointer place at.0 at.1, octet_of_label place also.0 also.1, also.1.0.at_most_63))
-      here_same LongName Short at also = short_alone LongName also at
+      here_same fault Short at also = short_alone fault also at
       here_same LongName BadLabel at also = absurd (omega (arith, octet_of_number place also.0 also.1, octet_of_label place at.0 at.1, at.1.0.at_most_63))
-      here_same LongName BadPointer at also = absurd (omega (arith, octet_of_pointer place also.0 also.1, octet_of_label place at.0 at.1, at.1.0.at_most_63))
-      here_same LongName TooManyPointers at also = absurd (omega (arith, octet_of_pointer place also.0 also.1, octet_of_label place at.0 at.1, at.1.0.at_most_63))
+      here_same fault BadLabel at also = absurd (omega (arith, octet_of_number place also.0 also.1, octet_of_pointer place at.0 at.1))
       here_same LongName LongName at also = refl
+      here_same fault LongName at also = absurd (omega (arith, octet_of_pointer place at.0 at.1, octet_of_label place also.0 also.1, also.1.0.at_most_63))
+      here_same LongName other at also = absurd (omega (arith, octet_of_pointer place also.0 also.1, octet_of_label place at.0 at.1, at.1.0.at_most_63))
+      here_same BadLabel other at also = absurd (omega (arith, octet_of_number place at.0 at.1, octet_of_pointer place also.0 also.1))
 
     -- the cases of a fault, by where it is
     data FaultCases (place run pointers size : ℕ) (fault : NameFault) : Type 0 where

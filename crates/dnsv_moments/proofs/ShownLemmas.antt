@@ -1,15 +1,13 @@
 -- Which signatures lines show, in order.
-use Rattle.std.proofs.Common.{◌≡◌, ◌<◌, ◌&&◌, ℕ, true, false, List, [], ◌∷◌, Some, nat_eq, map, sym, ap, ◌∙◌, subst, arith, ⊎_elim}
-use Rattle.std.proofs.lemmas.Bool.{cases_order}
-use Rattle.std.proofs.lemmas.Bool.Decides.{nat_tests}
+use Rattle.std.proofs.Common.{◌≡◌, ◌&&◌, List, [], ◌∷◌, Some, nat_eq, map, sym, ap, ◌∙◌, subst, arith, ⊎_elim}
 use Rattle.std.proofs.lemmas.Cmp.{eq_by_cmp_equiv, nat_cmp_total, on_total, then_total}
 use Rattle.std.proofs.lemmas.List.Kept.{Contains-dedup, Contains-from_dedup, IsStrictlySortedBy-dedup}
 use Rattle.std.proofs.lemmas.List.Sorted.{Contains-permutation, IsPermutation-sym}
-use Rattle.std.specs.Cmp.{IsTotalOrder, both_tied, nat_cmp_is}
+use Rattle.std.specs.Cmp.{IsTotalOrder, both_tied, unsigned_ties}
 use Rattle.std.specs.List.{AllByRecursion, Contains, dedup}
 use Rattle.std.specs.List.Sorted.{IsPermutation, IsSorted, IsStrictlySortedBy}
-use Rattle.std.specs.Ordering.{eq_by_cmp, is_eq, nat_cmp}
-use Rattle.std.specs.declared.cmp.Ordering.TheVariants.{Less, Equal, Greater}
+use Rattle.std.specs.Ordering.{eq_by_cmp, nat_cmp}
+use Rattle.std.specs.declared.cmp.Ordering.TheVariants.{Less, Equal}
 use Rattle.dnsv_canonical.specs.declared.number.SignatureNumber.{SignatureNumber}
 use Rattle.dnsv_derivations.specs.intervals.Holding.{signature_shown}
 use Rattle.dnsv_lines.specs.declared.line.Line.{Line}
@@ -29,17 +27,8 @@ shown_Equal a b e =
     let both = then_Equal (nat_cmp a.rrset b.rrset) (nat_cmp a.signature b.signature) e in
     λ i. record { rrset = octet_Equal a.rrset b.rrset both.0 i; signature = octet_Equal a.signature b.signature both.1 i }
 
-number_ties : (x y : ℕ) → nat_eq x y ≡ eq_by_cmp nat_cmp x y
-number_ties x y =
-    ⊎_elim
-    (λ (same : x ≡ y). let test : nat_eq x y ≡ true = grind (arith, nat_tests) in test ∙ ap is_eq (nat_cmp_is x y Equal same))
-    (⊎_elim
-    (λ (less : x < y). let test : nat_eq x y ≡ false = grind (arith, nat_tests) in test ∙ ap is_eq (nat_cmp_is x y Less less))
-    (λ (more : y < x). let test : nat_eq x y ≡ false = grind (arith, nat_tests) in test ∙ ap is_eq (nat_cmp_is x y Greater more)))
-    (cases_order x y)
-
 shown_ties : (x y : Shown) → (nat_eq x.rrset y.rrset && nat_eq x.signature y.signature) ≡ eq_by_cmp shown_cmp x y
-shown_ties x y = both_tied _ _ _ _ (number_ties x.rrset y.rrset) (number_ties x.signature y.signature)
+shown_ties x y = both_tied _ _ _ _ (unsigned_ties x.rrset y.rrset) (unsigned_ties x.signature y.signature)
 
 -- a list of numbers rises as what they are made of
 below_map : (x : Shown) (xs : List Shown) → AllByRecursion (λ y. shown_cmp x y ≡ Less) xs

@@ -27,9 +27,6 @@ pub record Apart (alike : ℕ) (a_rest b_rest : List ℕ) (a_label b_label : Opt
   pub second : IfSome b_label (λ b. (length a_rest ≤ length b.now) × (length a_rest ≡ length b.now → alike < length b.now))
   pub both : IfSome a_label (λ a. IfSome b_label (λ b. length a.now ≡ length b.now → alike < length a.now))
 
-pub WalkedTo-start : (octets : List ℕ) (reach : ℕ) → SpellsName octets → Walked octets octets None
-WalkedTo-start octets reach spells = record { k = 0; within = omega arith; form = spells.whole; before = tt }
-
 -- walks to what is alike begin so
 pub Apart-start : (alike : ℕ) (a b a_rest b_rest : List ℕ) (a_label b_label : Option (Bor (List ℕ))) → WalkedTo a alike a_rest a_label → WalkedTo b alike b_rest b_label → Apart alike a_rest b_rest a_label b_label
 Apart-start alike a b a_rest b_rest None None left right = record { first = tt; second = tt; both = tt }
@@ -133,9 +130,6 @@ lower_end octets rest k spells form =
     ap (map to_ascii_lowercase) (end_is octets rest k spells form ∙ form) ∙ lower_case-wire (drop k (labels_of octets)) (IsName-drop k (labels_of octets) spells.name).each
 
 module _ (a b : List ℕ) (a_spells : SpellsName a) (b_spells : SpellsName b) (a_rest b_rest : List ℕ) (j k : ℕ) (a_form : a_rest ≡ wire (drop j (labels_of a))) (b_form : b_rest ≡ wire (drop k (labels_of b))) (size : length a_rest ≡ length b_rest) where
-  ends_with : List ℕ → ℕ → List ℕ
-  ends_with octets n = map to_ascii_lowercase (drop (length octets - n) octets)
-
   -- rests of one length that lie within what is alike are the same labels
   pub alike_tails : EndAlike a b (length a_rest) → lower_case (drop j (labels_of a)) ≡ lower_case (drop k (labels_of b))
   alike_tails alike =
@@ -164,10 +158,9 @@ last_first labels k more =
     ∙ ap reverse (map-append (λ label. map to_ascii_lowercase label) (take k labels) (get_or labels k [] ∷ []))
     ∙ reverse-append (lower_case (take k labels)) (map to_ascii_lowercase (get_or labels k []) ∷ [])
 
-then_assoc : (o p q : Ordering) → ordering_then (ordering_then o p) q ≡ ordering_then o (ordering_then p q)
+pub then_assoc : (o p q : Ordering) → ordering_then (ordering_then o p) q ≡ ordering_then o (ordering_then p q)
 then_assoc Less p q = refl
-then_assoc Equal p q = refl
-then_assoc Greater p q = refl
+then_assoc o p q = refl
 
 -- of two lists cut at one place, what stands in front decides first
 cmp_append : (p q s t : Labels) → length p ≡ length q → slice_cmp label_cmp (p ++ s) (q ++ t) ≡ ordering_then (slice_cmp label_cmp p q) (slice_cmp label_cmp s t)

@@ -1,8 +1,8 @@
 -- Octets that are alike from the right.
-use Rattle.std.proofs.Common.{◌≡◌, ℕ, ◌+◌, ◌-◌, ◌<◌, ◌≤◌, List, ◌∷◌, length, get_or, drop, map, sym, ap, ◌∙◌, arith, length-drop, Bool, false, ⊎_elim}
+use Rattle.std.proofs.Common.{◌≡◌, ℕ, ◌+◌, ◌-◌, ◌<◌, ◌≤◌, List, length, get_or, drop, map, sym, ap, ◌∙◌, arith, length-drop, Bool, false, ⊎_elim}
 use Rattle.std.proofs.lemmas.Bool.{cases_lt}
 use Rattle.std.specs.Bool.{Decides}
-use Rattle.std.proofs.lemmas.List.{drop_more, drop_all, drop-drop, drop-map, get_or-drop, get_or-map}
+use Rattle.std.proofs.lemmas.List.{drop-drop, drop-map, get_or-drop, get_or-map}
 use Rattle.std.specs.Char.{to_ascii_lowercase}
 use Rattle.dnsv_names.specs.Order.Ends.{EndAlike}
 
@@ -11,24 +11,6 @@ lower octets = map to_ascii_lowercase octets
 
 abbrev end_of : List ℕ → ℕ → List ℕ
 end_of octets n = drop (length octets - n) octets
-
-one_more : (octets : List ℕ) (n : ℕ) → n < length octets → end_of octets (n + 1) ≡ get_or octets (length octets - 1 - n) 0 ∷ end_of octets n
-one_more octets n more =
-    let place : length octets - (n + 1) ≡ length octets - 1 - n = omega arith in
-    let next : length octets - 1 - n + 1 ≡ length octets - n = omega arith in
-    ap (λ i. drop i octets) place ∙ drop_more octets (length octets - 1 - n) 0 (omega arith)
-    ∙ ap (λ i. get_or octets (length octets - 1 - n) 0 ∷ drop i octets) next
-
-pub end_none : (a b : List ℕ) → EndAlike a b 0
-end_none a b = (omega arith, omega arith, ap lower (drop_all (length a - 0) a (omega arith) ∙ sym (drop_all (length b - 0) b (omega arith))))
-
--- octets before ends that are alike
-pub end_more : (a b : List ℕ) (n : ℕ) → EndAlike a b n → n < length a → n < length b → to_ascii_lowercase (get_or a (length a - 1 - n) 0) ≡ to_ascii_lowercase (get_or b (length b - 1 - n) 0) → EndAlike a b (n + 1)
-end_more a b n alike in_a in_b same = (
-  omega arith,
-  omega arith,
-  ap lower (one_more a n in_a) ∙ (λ i. same i ∷ alike.2 i) ∙ ap lower (sym (one_more b n in_b)),
-)
 
 octet_of_end : (octets : List ℕ) (n m : ℕ) → n < m → m ≤ length octets → get_or (lower (end_of octets m)) (m - 1 - n) 0 ≡ to_ascii_lowercase (get_or octets (length octets - 1 - n) 0)
 octet_of_end octets n m less within =

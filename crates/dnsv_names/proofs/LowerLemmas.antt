@@ -1,11 +1,13 @@
--- The order of octets in lower case, octet by octet.
-use Rattle.std.proofs.Common.{◌≡◌, ◌≢◌, ℕ, ◌+◌, ◌-◌, ◌<◌, List, [], ◌∷◌, min, length-drop, length, get_or, drop, map, refl, sym, ap, ◌∙◌, arith, Bool, true, false, not, ◌==◌}
+-- Octets in lower case, and their order, octet by octet.
+use Rattle.std.proofs.Common.{◌≡◌, ◌≢◌, ℕ, ◌+◌, ◌-◌, ◌<◌, List, [], ◌∷◌, min, length-drop, length, get_or, drop, map, refl, sym, ap, ap₂, ◌∙◌, arith, Bool, true, false, not, ◌==◌}
 use Rattle.std.proofs.lemmas.Bool.Decides.{nat_tests}
 use Rattle.std.proofs.lemmas.List.{drop_more, get_or-map, length-map}
+use Rattle.std.proofs.lemmas.Str.Ascii.{lowercase-lowercase}
 use Rattle.std.specs.Char.{to_ascii_lowercase}
 use Rattle.std.specs.Ordering.{ordering_then, ordering_index, nat_cmp}
 use Rattle.std.specs.declared.cmp.Ordering.{Ordering}
-use Rattle.std.specs.declared.cmp.Ordering.TheVariants.{Less, Equal, Greater}
+use Rattle.std.specs.declared.cmp.Ordering.TheVariants.{Equal}
+use Rattle.dnsv_names.specs.Name.{Labels, lower_case}
 use Rattle.dnsv_names.specs.Octets.{octets_cmp}
 
 abbrev lower : List ℕ → List ℕ
@@ -18,9 +20,8 @@ from_here octets i within =
 
 -- what isn't tied decides
 pub untied : (o rest : Ordering) → o ≢ Equal → ordering_then o rest ≡ o
-untied Less rest other = refl
 untied Equal rest other = absurd (other refl)
-untied Greater rest other = refl
+untied o rest other = refl
 
 module _ (a b : List ℕ) (i : ℕ) (in_a : i < length a) (in_b : i < length b) (so_far : octets_cmp (lower a) (lower b) ≡ octets_cmp (drop i (lower a)) (drop i (lower b))) (order : Ordering) (is : order ≡ nat_cmp (to_ascii_lowercase (get_or a i 0)) (to_ascii_lowercase (get_or b i 0))) where
   decided_here : octets_cmp (lower a) (lower b) ≡ ordering_then order (octets_cmp (drop (i + 1) (lower a)) (drop (i + 1) (lower b)))
@@ -50,11 +51,20 @@ ended a b i is =
 
 -- what the test of two orderings tells
 pub tied_by_test : (o : Ordering) (test : Bool) → test ≡ not (ordering_index o == 1) → test ≡ false → o ≡ Equal
-tied_by_test Less test is answer = absurd (cc)
 tied_by_test Equal test is answer = refl
-tied_by_test Greater test is answer = absurd (cc)
+tied_by_test o test is answer = absurd (cc)
 
 pub untied_by_test : (o : Ordering) (test : Bool) → test ≡ not (ordering_index o == 1) → test ≡ true → o ≢ Equal
-untied_by_test Less test is answer = λ same. cc
 untied_by_test Equal test is answer = absurd (cc)
-untied_by_test Greater test is answer = λ same. cc
+untied_by_test o test is answer = λ same. cc
+
+-- ---- names
+
+label_twice : (label : List ℕ) → lower (lower label) ≡ lower label
+label_twice [] = refl
+label_twice (octet ∷ label) = ap₂ (λ o l. o ∷ l) (lowercase-lowercase octet) (label_twice label)
+
+-- lower case is the same in lower case
+pub lower_twice : (name : Labels) → lower_case (lower_case name) ≡ lower_case name
+lower_twice [] = refl
+lower_twice (label ∷ name) = ap₂ (λ l n. l ∷ n) (label_twice label) (lower_twice name)

@@ -101,9 +101,6 @@ SpellsLabel-push (first ∷ label) front piece octet spells more = (
   SpellsLabel-push label spells.1 piece octet spells.4 more,
 )
 
-pub SpelledSoFar-start : (text : List ℕ) → SpelledSoFar text [] text
-SpelledSoFar-start text = record { front = []; form = refl; spells = refl }
-
 pub SpelledSoFar-next : (text label rest : List ℕ) (octet : ℕ) (behind : List ℕ) → SpelledSoFar text label rest → octet_of rest ≡ Some (octet, behind) → SpelledSoFar text (label ++ octet ∷ []) behind
 SpelledSoFar-next text label rest octet behind so_far found =
     let next : OctetThen rest octet behind = octet_found rest octet behind found in

@@ -17,15 +17,6 @@ pub record Writes (labels : Labels) (text : List ℕ) (size : ℕ) (rest : List 
   pub written : text ≡ flat_map (λ each. label_text each ++ 46 ∷ []) (take k labels)
   pub room : size + 4 * length rest ≤ 1020
 
-pub Writes-start : (labels : Labels) (text octets : List ℕ) (size : ℕ) → IsName labels → octets ≡ wire labels → text ≡ [] → size ≡ 0 → Writes labels text size octets
-Writes-start labels text octets size name form empty none = record {
-  k = 0;
-  within = omega arith;
-  form = form;
-  written = empty;
-  room = omega (arith, ap length form, name.at_most_255);
-}
-
 pub some_rest : {labels : Labels} {text : List ℕ} {size : ℕ} {rest : List ℕ} → Writes labels text size rest → 0 < length rest
 some_rest {labels} so_far = omega (arith, ap length so_far.form, wire_not_empty (drop so_far.k labels))
 

@@ -34,10 +34,6 @@ pub record LabelsSoFar (text octets rest : List ℕ) : Type 0 where
   pub spells : SpellsLabels front whole
   pub octets_of : octets ≡ unrooted whole
 
-pub LabelsSoFar-start : (text : List ℕ) → LabelsSoFar text [] text
-LabelsSoFar-start text =
-    record { whole = []; front = []; name = record { each = tt; at_most_255 = omega arith }; form = refl; spells = refl; octets_of = refl }
-
 SpellsLabels-push : (labels : Labels) (front piece label : List ℕ) → SpellsLabels front labels → SpellsLabel piece label → SpellsLabels (front ++ piece ++ 46 ∷ []) (labels ++ label ∷ [])
 SpellsLabels-push [] front piece label spells more =
     (piece, [], ap (λ text. text ++ piece ++ 46 ∷ []) spells, more, refl)

@@ -17,8 +17,7 @@ use Rattle.dnsv_names.specs.Octets.OctetLaws.{number_at-big_from}
 
 then_assoc : (p q r : Ordering) → ordering_then p (ordering_then q r) ≡ ordering_then (ordering_then p q) r
 then_assoc Less q r = refl
-then_assoc Equal q r = refl
-then_assoc Greater q r = refl
+then_assoc p q r = refl
 
 -- a lower digit has the lower number, whatever is behind it
 lower_digit : (power x y front behind : ℕ) → front < power → x < y → x * power + front < y * power + behind

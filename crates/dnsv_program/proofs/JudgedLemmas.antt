@@ -40,40 +40,25 @@ use Rattle.dnsv_program.specs.declared.work.given.Said.{Said}
 
 -- it tells no failed read
 verdict_fault_reads : (error : VerdictError) (file : InputFile) → IsOther file (verdict_fault error)
-verdict_fault_reads error.OutOfMemory file = λ is. cc
-verdict_fault_reads error.BadQuestion file = λ is. cc
 verdict_fault_reads error.AliasLoop file = λ is. cc
-verdict_fault_reads error.TooManyLinks file = λ is. cc
-verdict_fault_reads error.AliasTargets file = λ is. cc
+verdict_fault_reads other file = λ is. cc
 
 verdict_fault_opens : (error : VerdictError) (file : InputFile) → verdict_fault error ≡ fault.OpenFailed file → ⊥
-verdict_fault_opens error.OutOfMemory file = λ is. cc
-verdict_fault_opens error.BadQuestion file = λ is. cc
 verdict_fault_opens error.AliasLoop file = λ is. cc
-verdict_fault_opens error.TooManyLinks file = λ is. cc
-verdict_fault_opens error.AliasTargets file = λ is. cc
+verdict_fault_opens other file = λ is. cc
 
 -- what is so of it is so of what the octets tell
 verdict_fault_octets : (P : Fault → Type 0) (error : VerdictError) → P (verdict_fault error) → OfOctets P (verdict_fault error)
 verdict_fault_octets P error.OutOfMemory holds = tt
-verdict_fault_octets P error.BadQuestion holds = holds
-verdict_fault_octets P error.AliasLoop holds = holds
-verdict_fault_octets P error.TooManyLinks holds = holds
-verdict_fault_octets P error.AliasTargets holds = holds
+verdict_fault_octets P other holds = holds
 
 verdict_fault_read : (Of : InputFile → Type 0) (error : VerdictError) → OfFailedRead Of (verdict_fault error)
-verdict_fault_read Of error.OutOfMemory = tt
-verdict_fault_read Of error.BadQuestion = tt
 verdict_fault_read Of error.AliasLoop = tt
-verdict_fault_read Of error.TooManyLinks = tt
-verdict_fault_read Of error.AliasTargets = tt
+verdict_fault_read Of other = tt
 
 verdict_fault_writes : (error : VerdictError) → verdict_fault error ≡ fault.WriteFailed → ⊥
-verdict_fault_writes error.OutOfMemory = λ is. cc
-verdict_fault_writes error.BadQuestion = λ is. cc
 verdict_fault_writes error.AliasLoop = λ is. cc
-verdict_fault_writes error.TooManyLinks = λ is. cc
-verdict_fault_writes error.AliasTargets = λ is. cc
+verdict_fault_writes other = λ is. cc
 
 -- the want of memory, or the refusal of a question that is such
 abbrev pub IsUnjudged : (VerdictError → Type 0) → Fault → Type 0
@@ -167,14 +152,8 @@ asked_well name rtype told =
 
 -- no verdict ends as a question that is refused
 pub verdict_unrefused : (verdict : Verdict) → verdict_status verdict ≡ status.Refused → ⊥
-verdict_unrefused (verdicts.SecureAnswer rrset signature) same = cc
-verdict_unrefused (verdicts.SecureAlias rrset signature) same = cc
-verdict_unrefused (verdicts.SecureNoName proof) same = cc
-verdict_unrefused (verdicts.SecureNoData proof) same = cc
-verdict_unrefused (verdicts.Insecure cut) same = cc
-verdict_unrefused (verdicts.Pending entries) same = cc
 verdict_unrefused verdicts.Bogus same = cc
-verdict_unrefused verdicts.Indeterminate same = cc
+verdict_unrefused verdict same = cc
 
 pub judged_unrefused : {E : Type 0} (format : Format) (why : Bool) (name : Labels) (rtype moment : ℕ) (rrsets : List ReceivedRrset) (anchors : List Anchor) (said : Said)
     (result : Result Outcome E)

@@ -8,7 +8,7 @@ use Rattle.std.specs.Io.KnownBytes.{Appends}
 use Rattle.dnsv_message.specs.Streams.Counted.{AppendsBeginning}
 use Rattle.dnsv_commands.specs.declared.request.Request.{Request}
 use Rattle.dnsv_files.specs.declared.status.Status.{Status}
-use Rattle.dnsv_files.specs.declared.status.Status.TheVariants.{Done, Insecure, Pending, Bogus, Indeterminate, Refused}
+use Rattle.dnsv_files.specs.declared.status.Status.TheVariants.{Done, Refused}
 use Rattle.dnsv_files.specs.declared.status.Fault.{Fault}
 use Rattle.dnsv_files.specs.declared.status.Fault.TheVariants as fault
 use Rattle.dnsv_files.specs.declared.status.Place.{Place}
@@ -40,12 +40,8 @@ told_err P (Some told) words (Err error) same holds = subst (λ w. P w error) sa
 
 -- a fault ends with 1 or 7
 one_of : (told : Fault) (code : ℕ) → fault_code told ≡ code → (code ≡ 1) ⊎ (code ≡ 7)
-one_of fault.OutOfMemory code is = inl (sym is)
-one_of (fault.ReadFailed file) code is = inl (sym is)
-one_of (fault.TooLong file) code is = inl (sym is)
-one_of (fault.OpenFailed file) code is = inl (sym is)
-one_of fault.WriteFailed code is = inl (sym is)
 one_of (fault.Refused why place) code is = inr (sym is)
+one_of told code is = inl (sym is)
 
 neither : (code : ℕ) → (code ≡ 1) ⊎ (code ≡ 7) → IsEnd code → ⊥
 neither code (inl is_1) (inl is_0) = omega (arith, is_1, is_0)
@@ -64,20 +60,12 @@ ended_well (Err failed) code is ends holds = absurd (no_end failed code is ends)
 
 pub no_1 : (status : Status) → status_code status ≡ 1 → ⊥
 no_1 Done is_1 = omega (arith, is_1)
-no_1 Insecure is_1 = omega (arith, is_1)
-no_1 Pending is_1 = omega (arith, is_1)
-no_1 Bogus is_1 = omega (arith, is_1)
-no_1 Indeterminate is_1 = omega (arith, is_1)
-no_1 Refused is_1 = omega (arith, is_1)
+no_1 status is_1 = omega (arith, is_1)
 
 -- of the ends of a whole text 7 is that of a refused question alone
 pub refused_alone : (status : Status) → status_code status ≡ 7 → status ≡ Refused
-refused_alone Done is_7 = absurd (omega (arith, is_7))
-refused_alone Insecure is_7 = absurd (omega (arith, is_7))
-refused_alone Pending is_7 = absurd (omega (arith, is_7))
-refused_alone Bogus is_7 = absurd (omega (arith, is_7))
-refused_alone Indeterminate is_7 = absurd (omega (arith, is_7))
 refused_alone Refused is_7 = refl
+refused_alone status is_7 = absurd (omega (arith, is_7))
 
 -- 7 is the exit status of a refusal: of a question among many, or of all
 pub ended_refused : (outcome : Result Status Fault) → outcome_code outcome ≡ 7
@@ -268,8 +256,4 @@ which_unopened {T} first (fault.OpenFailed other) file is opening = (
   λ e. let same : other ≡ file = cc in is ∙ ap (λ (f : InputFile). Some f) same,
   λ e. let two : Some other ≡ Some file = sym is ∙ e in let same : other ≡ file = cc in ap (λ (f : InputFile). Err (fault.OpenFailed f)) same,
 )
-which_unopened first fault.OutOfMemory file is opening = absurd opening
-which_unopened first (fault.ReadFailed other) file is opening = absurd opening
-which_unopened first (fault.TooLong other) file is opening = absurd opening
-which_unopened first fault.WriteFailed file is opening = absurd opening
-which_unopened first (fault.Refused why place) file is opening = absurd opening
+which_unopened first told file is opening = absurd opening

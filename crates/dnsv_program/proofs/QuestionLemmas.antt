@@ -20,11 +20,7 @@ by_refusals : (asked : List ℕ) (rtype : ℕ) (Holds : Fault → Type 0)
     → ((why : Refusal) (place : Place) → IsQuestionRefused asked rtype why place → Holds (fault.Refused why place))
     → (told : Fault) → IsFaultOfQuestion asked rtype told → Holds told
 by_refusals asked rtype Holds all (fault.Refused why place) is = all why place is
-by_refusals asked rtype Holds all fault.OutOfMemory is = absurd is
-by_refusals asked rtype Holds all (fault.ReadFailed file) is = absurd is
-by_refusals asked rtype Holds all (fault.TooLong file) is = absurd is
-by_refusals asked rtype Holds all (fault.OpenFailed file) is = absurd is
-by_refusals asked rtype Holds all fault.WriteFailed is = absurd is
+by_refusals asked rtype Holds all told is = absurd is
 
 module _ (asked : List ℕ) (rtype : ℕ) (parsed : Result Labels NameError)
     (every : (labels : Labels) → IsName labels → IsTextOf asked labels → parsed ≡ Ok labels)

@@ -4,7 +4,7 @@ use Rattle.std.specs.Prelude.{List, Option, Some, None, Result, Ok, Err, IfErr}
 use Rattle.dnsv_files.specs.declared.status.Fault.{Fault}
 use Rattle.dnsv_files.specs.declared.status.Fault.TheVariants as fault
 use Rattle.dnsv_files.specs.declared.status.InputFile.{InputFile}
-use Rattle.dnsv_files.specs.declared.status.InputFile.TheVariants.{Anchors, Answers, Capture, Keys, Macs, Questions, Statements}
+use Rattle.dnsv_files.specs.declared.status.InputFile.TheVariants.{Answers, Keys, Macs, Statements}
 use Rattle.dnsv_files.specs.declared.status.Place.{Place}
 use Rattle.dnsv_files.specs.declared.status.Refusal.{Refusal}
 use Rattle.dnsv_files.specs.declared.opening.Opening.{Opening}
@@ -18,29 +18,19 @@ use Rattle.dnsv_program.specs.Work.Known.{IsKnownReached}
 use Rattle.dnsv_files.specs.Files.Faults.{IsAbout, OfFailedRead}
 use Rattle.dnsv_message.specs.Streams.Counted.{inner_of}
 use Rattle.dnsv_message.specs.declared.streams.counted.Counted.{Counted}
-use Rattle.dnsv_canonical.specs.Question.{Asked}
 use Rattle.dnsv_files.specs.Files.{Files, IsGiven, IsToldBy, octets_or_none}
-use Rattle.dnsv_files.specs.Files.Questions.{HasQuestions}
-use Rattle.dnsv_program.specs.Run.{HasEvidence, IsReachedByEach, IsReachedOfFiles}
+use Rattle.dnsv_program.specs.Run.{HasEvidence, IsReachedOfFiles}
 
 -- where a fault is about one file, what holds of that file is enough
 pub reached_by : (Holds : InputFile → Type 0) (file : InputFile) (told : Fault) → IsAbout file told → Holds file → OfFailedRead Holds told
 reached_by Holds file (fault.ReadFailed other) about holds = subst Holds (sym about) holds
-reached_by Holds file fault.OutOfMemory about holds = tt
-reached_by Holds file (fault.Refused why place) about holds = tt
-reached_by Holds file (fault.TooLong other) about holds = tt
-reached_by Holds file (fault.OpenFailed other) about holds = tt
-reached_by Holds file fault.WriteFailed about holds = tt
+reached_by Holds file told about holds = tt
 
 -- and where it has to be given, what holds of it then
 pub reached_given : (Given : Type 0) (Holds : InputFile → Type 0) (file : InputFile) (told : Fault) → IsAbout file told → OfFailedRead (λ _. Given) told
     → (Given → Holds file) → OfFailedRead Holds told
 reached_given Given Holds file (fault.ReadFailed other) about given holds = subst Holds (sym about) (holds given)
-reached_given Given Holds file fault.OutOfMemory about given holds = tt
-reached_given Given Holds file (fault.Refused why place) about given holds = tt
-reached_given Given Holds file (fault.TooLong other) about given holds = tt
-reached_given Given Holds file (fault.OpenFailed other) about given holds = tt
-reached_given Given Holds file fault.WriteFailed about given holds = tt
+reached_given Given Holds file told about given holds = tt
 
 -- a reader that is there reads a file that is given
 pub given_file : {R : Type 0} (remaining : R → Option (List ℕ)) (reader : Option (Counted R)) (octets : Option (List ℕ)) → IsToldBy remaining reader octets
@@ -51,11 +41,7 @@ given_file remaining (Some reader) (Some octets) told given = λ none. cc
 
 weaker_told : (P Q : InputFile → Type 0) (told : Fault) → ((file : InputFile) → P file → Q file) → OfFailedRead P told → OfFailedRead Q told
 weaker_told P Q (fault.ReadFailed file) weaker holds = weaker file holds
-weaker_told P Q fault.OutOfMemory weaker holds = tt
-weaker_told P Q (fault.Refused why place) weaker holds = tt
-weaker_told P Q (fault.TooLong other) weaker holds = tt
-weaker_told P Q (fault.OpenFailed other) weaker holds = tt
-weaker_told P Q fault.WriteFailed weaker holds = tt
+weaker_told P Q told weaker holds = tt
 
 -- what comes before a file of some of the work comes before it in all of it
 pub reached_in : {T : Type 0} (P Q : InputFile → Type 0) (result : Result T Fault) → ((file : InputFile) → P file → Q file) → IfErr result (OfFailedRead P)
@@ -66,27 +52,8 @@ reached_in P Q (Err told) weaker holds = weaker_told P Q told weaker holds
 in_files : (moments : Moments) (files : Files) (file : InputFile) → IsOpeningReachedAt files.keys files.macs moments file → IsReachedOfFiles moments files file
 in_files moments files Keys holds = holds
 in_files moments files Macs holds = holds
-in_files (At moment) files Capture holds = absurd holds
-in_files (At moment) files Anchors holds = absurd holds
-in_files (At moment) files Statements holds = absurd holds
-in_files (At moment) files Answers holds = absurd holds
-in_files (At moment) files Questions holds = absurd holds
-in_files (Between from to) files Capture holds = absurd holds
-in_files (Between from to) files Anchors holds = absurd holds
-in_files (Between from to) files Statements holds = absurd holds
-in_files (Between from to) files Answers holds = absurd holds
-in_files (Between from to) files Questions holds = absurd holds
-
--- the files that questions are judged by are read behind the questions
-behind_questions : (moment : ℕ) (files : Files) → (asked : List Asked) × HasQuestions (octets_or_none files.questions) asked
-    → (file : InputFile) → IsReachedOfFiles (At moment) files file → IsReachedByEach moment files file
-behind_questions moment files has Keys holds = (has, holds)
-behind_questions moment files has Macs holds = (has, holds)
-behind_questions moment files has Capture holds = (has, holds)
-behind_questions moment files has Anchors holds = (has, holds)
-behind_questions moment files has Statements holds = (has, holds)
-behind_questions moment files has Answers holds = (has, holds)
-behind_questions moment files has Questions holds = absurd holds
+in_files (At moment) files file holds = absurd holds
+in_files (Between from to) files file holds = absurd holds
 
 -- the keys and the MACs are read first
 pub reached_sealed : (moments : Moments) (files : Files) (told : Fault) → OfFailedRead (IsOpeningReachedAt files.keys files.macs moments) told → OfFailedRead (IsReachedOfFiles moments files) told
@@ -98,11 +65,7 @@ known_in : (moments : Moments) (files : Files) → (opening : Opening) × IsOpen
     → (file : InputFile) → IsKnownReached files.statements files.answers file → IsReachedOfFiles moments files file
 known_in moments files before Statements holds = (before.0, before.1, before.2, before.3, holds)
 known_in moments files before Answers holds = (before.0, before.1, before.2, before.3, holds)
-known_in moments files before Capture holds = absurd holds
-known_in moments files before Anchors holds = absurd holds
-known_in moments files before Keys holds = absurd holds
-known_in moments files before Macs holds = absurd holds
-known_in moments files before Questions holds = absurd holds
+known_in moments files before file holds = absurd holds
 
 pub reached_known : (moments : Moments) (files : Files) → (opening : Opening) × IsOpeningAt files.keys files.macs moments opening × HasEvidence opening files.capture
     × ((anchors : List Anchor) × HasAnchors (octets_or_none files.anchors) anchors)
@@ -111,12 +74,8 @@ reached_known moments files before told = weaker_told (IsKnownReached files.stat
 
 -- where what was read is refused no failed read is told
 pub refused_reached : (P : Refusal → Place → Type 0) (Holds : InputFile → Type 0) (told : Fault) → IsFaultOf P told → OfFailedRead Holds told
-refused_reached P Holds (fault.Refused why place) is = tt
-refused_reached P Holds fault.OutOfMemory is = tt
 refused_reached P Holds (fault.ReadFailed file) is = absurd is
-refused_reached P Holds (fault.TooLong file) is = tt
-refused_reached P Holds (fault.OpenFailed file) is = tt
-refused_reached P Holds fault.WriteFailed is = tt
+refused_reached P Holds told is = tt
 
 -- and no failed write
 pub refused_unwritten : (P : Refusal → Place → Type 0) (told : Fault) → IsFaultOf P told → told ≡ fault.WriteFailed → ⊥

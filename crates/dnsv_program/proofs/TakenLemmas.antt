@@ -28,10 +28,7 @@ before_known : (capture : List ℕ) (moments : Moments) (rrsets : List ReceivedR
 before_known capture moments rrsets stated None told holds = holds
 before_known capture moments rrsets stated (Some text) (fault.Refused why place) holds = (holds.0, inl holds.1)
 before_known capture moments rrsets stated (Some text) (fault.TooLong file) holds = holds
-before_known capture moments rrsets stated (Some text) fault.OutOfMemory holds = absurd holds
-before_known capture moments rrsets stated (Some text) (fault.ReadFailed file) holds = absurd holds
-before_known capture moments rrsets stated (Some text) (fault.OpenFailed file) holds = absurd holds
-before_known capture moments rrsets stated (Some text) fault.WriteFailed holds = absurd holds
+before_known capture moments rrsets stated (Some text) told holds = absurd holds
 
 -- want of memory is no fault of a file
 not_read : {U : Type 0} (result : Result U Fault) (file : InputFile) → IfErr result (λ told. told ≡ fault.OutOfMemory) → IfErr result (IsOther file)

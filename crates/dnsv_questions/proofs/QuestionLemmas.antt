@@ -15,9 +15,6 @@ pub record AreSoMany (lines : List NumberedLine) (count : ℕ) : Type 0 where
   pub say : SayTogether IsAskedLine AreFew lines questions
   pub count_is : length questions ≡ count
 
-pub none_read : AreSoMany [] 0
-none_read = record { questions = []; say = record { each = tt; may_stand = omega arith }; count_is = refl }
-
 -- one line more
 pub one_more : {lines : List NumberedLine} {count : ℕ} (line : NumberedLine) → AreSoMany lines count
     → ((asked : Asked) × IsAskedLine line.octets asked) × (count < 1048576) → AreSoMany (lines ++ line ∷ []) (count + 1)

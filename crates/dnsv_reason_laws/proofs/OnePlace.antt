@@ -1,7 +1,6 @@
 -- What numbers name is one thing.
-use Rattle.std.proofs.Common.{◌≡◌, ◌<◌, ◌⊎◌, ℕ, zero, suc, inl, inr, ⊎_elim, List, [], ◌∷◌, Option, Some, None, refl, sym, ap, ap₂, subst, ◌∙◌, arith}
+use Rattle.std.proofs.Common.{◌≡◌, ℕ, List, Option, Some, None, sym, ap, ap₂, subst, ◌∙◌}
 use Rattle.std.specs.List.{slice_get}
-use Rattle.std.specs.Prelude.{Contains}
 use Rattle.dnsv_names.specs.Name.{Labels}
 use Rattle.dnsv_records.specs.Dnskey.{IsDnskey}
 use Rattle.dnsv_records.specs.Dnskey.KeyTag.{key_tag_of}
@@ -18,10 +17,9 @@ use Rattle.dnsv_canonical.specs.Rrsets.{IsNumbered, ReceivedRrset}
 use Rattle.dnsv_canonical.specs.declared.number.SignatureNumber.{SignatureNumber}
 use Rattle.dnsv_canonical.proofs.CanonicalLemmas.{canonical_unique}
 use Rattle.dnsv_chain.specs.declared.anchor.Anchor.{Anchor}
-use Rattle.dnsv_denial.specs.words.EvidenceWords.{Chain, GoesBefore}
+use Rattle.dnsv_denial.specs.words.EvidenceWords.{Chain}
 use Rattle.dnsv_denial.specs.words.EvidenceWords.Chain.{ByNsec, ByNsec3}
-use Rattle.dnsv_denial.proofs.lemmas.gathering.EvidenceLemmas.{one_numbered}
-use Rattle.dnsv_denial.proofs.lemmas.proving.ZoneChainLemmas.{no_circle}
+use Rattle.dnsv_canonical.proofs.NumberLemmas.{one_numbered}
 use Rattle.dnsv_lines.specs.declared.line.derivation.KeyName.{KeyName}
 use Rattle.dnsv_lines.specs.declared.line.fault.denial.Source.{Source}
 use Rattle.dnsv_lines.specs.declared.line.fault.signature.ShownSignature.{ShownSignature}
@@ -35,6 +33,7 @@ use Rattle.dnsv_remedies.specs.declared.facts.name.AskedName.TheVariants.{At, Wi
 use Rattle.dnsv_remedies.specs.declared.facts.name.SourceNumber.{SourceNumber}
 use Rattle.dnsv_reasons.specs.Places.{IsAbove, IsAnchorEntry, IsEntry, IsKeyAt, IsPlaced, IsShown, anchor_entry, ds_entry, shown_of}
 use Rattle.dnsv_reasons.specs.Sources.{IsAskedName, IsParametersOf, IsSource}
+use Rattle.dnsv_reasons.proofs.SourceLemmas.{one_list}
 
 -- ---- names and records
 
@@ -91,67 +90,6 @@ one_key set place x y first second =
     let tag : x.tag.0 ≡ y.tag.0 = first.tag ∙ ap key_tag_of rdata ∙ sym second.tag in
     let algorithm : x.algorithm ≡ y.algorithm = first.algorithm ∙ ap (λ (key : Dnskey). key.algorithm) read ∙ sym second.algorithm in
     λ i. record { tag = record { 0 = tag i }; algorithm = algorithm i }
-
--- ---- the sources of a zone
-
-abbrev pub IsOrdered : List Chain → Type 0
-IsOrdered xs = (i j : ℕ) (first other : Chain) → slice_get xs i ≡ Some first → slice_get xs j ≡ Some other → i < j
-    → GoesBefore first other
-
-pub no_self : (x : Chain) → GoesBefore x x → ⊥
-no_self x before = no_circle x x x x before before refl refl
-
-at_place : (xs : List Chain) (k : ℕ) (x : Chain) → Contains xs x → (i : ℕ) × (slice_get xs i ≡ Some x)
-at_place [] k x member = absurd (omega (arith, member.1))
-at_place (y ∷ ys) k x (zero, within, is) = (zero, ap (λ z. Some z) is)
-at_place (y ∷ ys) k x (suc i, within, is) = let found = at_place ys k x (i, omega (arith, within), is) in (suc found.0, found.1)
-
--- what stands in a list is its first, or comes behind that
-first_or_behind : (y x : Chain) (ys : List Chain) → IsOrdered (y ∷ ys) → (i : ℕ) → slice_get (y ∷ ys) i ≡ Some x → (y ≡ x) ⊎ GoesBefore y x
-first_or_behind y x ys order zero at = inl cc
-first_or_behind y x ys order (suc k) at = inr (order 0 (suc k) y x refl at (omega arith))
-
-in_front : (x : Chain) (xs : List Chain) → Contains (x ∷ xs) x
-in_front x xs = (0, omega arith, refl)
-
-behind : (x y : Chain) (xs : List Chain) → Contains xs y → Contains (x ∷ xs) y
-behind x y xs (k, within, is) = (suc k, omega (arith, within), is)
-
--- the same members, without the first of both
-without : (x y c : Chain) (xs ys : List Chain) → x ≡ y → IsOrdered (x ∷ xs) → Contains xs c → Contains (y ∷ ys) c → Contains ys c
-without x y c xs ys same order member (zero, inside, first) =
-    let place = at_place xs 0 c member in
-    let itself : x ≡ c = same ∙ first in
-    let before : GoesBefore x c = order 0 (suc place.0) x c refl place.1 (omega arith) in
-    absurd (no_self c (subst (λ (each : Chain). GoesBefore each c) itself before))
-without x y c xs ys same order member (suc k, inside, is) = (k, omega (arith, inside), is)
-
-pub tail : (x : Chain) (xs : List Chain) → IsOrdered (x ∷ xs) → IsOrdered xs
-tail x xs order i j first other at_i at_j less = order (suc i) (suc j) first other at_i at_j (omega (arith, less))
-
-one_order : (xs ys : List Chain) → IsOrdered xs → IsOrdered ys → ((c : Chain) → Contains xs c → Contains ys c)
-    → ((c : Chain) → Contains ys c → Contains xs c) → xs ≡ ys
-one_order [] [] first second to from = refl
-one_order [] (y ∷ ys) first second to from = let member = from y (in_front y ys) in absurd (omega (arith, member.1))
-one_order (x ∷ xs) [] first second to from = let member = to x (in_front x xs) in absurd (omega (arith, member.1))
-one_order (x ∷ xs) (y ∷ ys) first second to from =
-    let place_x = at_place (y ∷ ys) 0 x (to x (in_front x xs)) in
-    let place_y = at_place (x ∷ xs) 0 y (from y (in_front y ys)) in
-    let same : x ≡ y =
-    ⊎_elim (λ (is : y ≡ x). sym is) (λ (yx : GoesBefore y x).
-    ⊎_elim (λ (is : x ≡ y). is) (λ (xy : GoesBefore x y). absurd (no_circle y x x y yx xy refl refl))
-    (first_or_behind x y xs first place_y.0 place_y.1))
-    (first_or_behind y x ys second place_x.0 place_x.1) in
-    let rest : xs ≡ ys =
-    one_order xs ys (tail x xs first) (tail y ys second)
-    (λ c member. without x y c xs ys same first member (to c (behind x c xs member)))
-    (λ c member. without y x c ys xs (sym same) second member (from c (behind y c ys member))) in
-    λ i. same i ∷ rest i
-
-pub one_list : (a : Asking) (zone : Labels) (xs ys : List Chain) → AreSources a zone xs → AreSources a zone ys → xs ≡ ys
-one_list a zone xs ys first second =
-    one_order xs ys first.order second.order (λ c member. (second.members c).1 ((first.members c).0 member))
-    (λ c member. (first.members c).1 ((second.members c).0 member))
 
 -- ---- sources
 

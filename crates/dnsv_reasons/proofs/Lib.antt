@@ -1,4 +1,4 @@
 mod EachLemmas
 mod LineLemmas
 mod PlaceLemmas
-mod SourceLemmas
+pub mod SourceLemmas

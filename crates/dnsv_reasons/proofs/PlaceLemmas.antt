@@ -1,6 +1,6 @@
 -- What stands at a place of the evidence, and that nothing stands at another.
-use Rattle.std.proofs.Common.{◌≡◌, ◌-◌, ℕ, zero, suc, List, ◌∷◌, [], Some, map, refl, subst}
-use Rattle.std.specs.List.{AllByRecursion, AllZip, slice_get}
+use Rattle.std.proofs.Common.{◌≡◌, ◌-◌, ℕ, List, map, refl, subst}
+use Rattle.std.specs.List.{AllByRecursion, AllZip}
 use Rattle.dnsv_records.specs.Rrsig.{IsRrsig}
 use Rattle.dnsv_records.specs.declared.rrsig.Rrsig.{Rrsig}
 use Rattle.dnsv_canonical.specs.Canonical.{IsCanonical}
@@ -8,8 +8,9 @@ use Rattle.dnsv_canonical.specs.Rrsets.{IsNumbered, ReceivedRrset}
 use Rattle.dnsv_canonical.specs.declared.canonical_order.ReadRecord.{ReadRecord}
 use Rattle.dnsv_canonical.specs.declared.number.SignatureNumber.{SignatureNumber}
 use Rattle.dnsv_canonical.proofs.CanonicalLemmas.{canonical_unique}
-use Rattle.dnsv_denial.proofs.lemmas.gathering.EvidenceLemmas.{one_numbered}
+use Rattle.dnsv_canonical.proofs.NumberLemmas.{one_numbered}
 use Rattle.dnsv_denial.proofs.lemmas.gathering.GatherLemmas.{mapped_at}
+use Rattle.dnsv_denial.proofs.lemmas.proving.ZoneChainLemmas.{unmapped_at}
 use Rattle.dnsv_verdict.proofs.SearchLemmas.{rdata_at, rrsig_at}
 use Rattle.dnsv_lines.specs.declared.line.fault.signature.ShownSignature.{ShownSignature}
 use Rattle.dnsv_reasons.specs.Places.{IsPlaced, IsShown, shown_of}
@@ -41,13 +42,6 @@ module _ (rrsets : List ReceivedRrset) (number : SignatureNumber) (rrset : Recei
 
 -- ---- records in canonical order
 
--- what stands in a mapped list comes of what stands there
-pub unmapped : {X Y : Type 0} (f : X → Y) (xs : List X) (k : ℕ) (y : Y) → slice_get (map f xs) k ≡ Some y
-    → (x : X) × (slice_get xs k ≡ Some x) × (f x ≡ y)
-unmapped f [] k y at = cc
-unmapped f (x ∷ xs) zero y at = let is : f x ≡ y = cc in (x, refl, is)
-unmapped f (x ∷ xs) (suc k) y at = unmapped f xs k y at
-
 module _ {T : Type 0} (rrset : ReceivedRrset) (records : List (ReadRecord T)) (place : ℕ)
     (order : IsCanonical rrset.rdata (map (λ (each : ReadRecord T). each.rdata.now) records)) where
   pub some_placed : (found : ReadRecord T) → IsNumbered records place found → IsPlaced rrset place found.rdata.now
@@ -62,5 +56,5 @@ module _ {T : Type 0} (rrset : ReceivedRrset) (records : List (ReadRecord T)) (p
       let all : List (List ℕ) = map (λ (each : ReadRecord T). each.rdata.now) records in
       let lists : placed.canonical ≡ all = canonical_unique rrset.rdata placed.canonical all placed.in_order order in
       let at : IsNumbered all place rdata = subst (λ (each : List (List ℕ)). IsNumbered each place rdata) lists placed.numbered in
-      let there = unmapped (λ (each : ReadRecord T). each.rdata.now) records (place - 1) rdata at.1 in
+      let there = unmapped_at (λ (each : ReadRecord T). each.rdata.now) records (place - 1) rdata at.1 in
       none there.0 (at.0, there.1)

@@ -9,7 +9,7 @@ use Rattle.dnsv_gaps.specs.Asking.{Asking}
 use Rattle.dnsv_gaps.specs.Sources.{AreSources}
 use Rattle.dnsv_reasons.proofs.EachLemmas.{at_place}
 
-abbrev IsOrdered : List Chain → Type 0
+abbrev pub IsOrdered : List Chain → Type 0
 IsOrdered xs = (i j : ℕ) (first other : Chain) → slice_get xs i ≡ Some first → slice_get xs j ≡ Some other → i < j
     → GoesBefore first other
 
@@ -25,7 +25,7 @@ in_front x xs = (0, omega arith, refl)
 behind : (x y : Chain) (xs : List Chain) → Contains xs y → Contains (x ∷ xs) y
 behind x y xs (k, within, is) = (suc k, omega (arith, within), is)
 
-no_self : (x : Chain) → GoesBefore x x → ⊥
+pub no_self : (x : Chain) → GoesBefore x x → ⊥
 no_self x before = no_circle x x x x before before refl refl
 
 -- the same members, without the first of both
@@ -36,7 +36,7 @@ without x y c xs ys same order (k, within, is) (zero, inside, first) =
     absurd (no_self c (subst (λ (each : Chain). GoesBefore each c) itself before))
 without x y c xs ys same order here (suc k, inside, is) = (k, omega (arith, inside), is)
 
-tail : (x : Chain) (xs : List Chain) → IsOrdered (x ∷ xs) → IsOrdered xs
+pub tail : (x : Chain) (xs : List Chain) → IsOrdered (x ∷ xs) → IsOrdered xs
 tail x xs order i j first other at_i at_j less = order (suc i) (suc j) first other at_i at_j (omega (arith, less))
 
 one_order : (xs ys : List Chain) → IsOrdered xs → IsOrdered ys → ((c : Chain) → Contains xs c → Contains ys c)

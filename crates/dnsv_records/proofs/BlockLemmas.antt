@@ -31,9 +31,6 @@ AreBlocks-from least octets blocks written rising each =
       each = subst (AllByRecursion IsGoodBlock) (sym same) each;
     }
 
-pub AreBlocks-nil : (least : ℕ) → AreBlocks least []
-AreBlocks-nil least = record { written = refl; rising = tt; each = tt }
-
 pub AreBlocks-back : (least size : ℕ) (octets : List ℕ) (front : BlockAtFront octets least size) → AreBlocks (front.block.window + 1) front.rest → AreBlocks least octets
 AreBlocks-back least size octets front behind =
     AreBlocks-from least octets (front.block ∷ blocks_of front.rest)

@@ -51,28 +51,21 @@ pub same_error : {T U : Type 0} (a b : RecordError) → ◌≡◌ {A = Result T 
 same_error a b same = let told : a ≡ b = cc in ap Err told
 
 pub no_bitmap_fault : (octets : List ℕ) → IsBitmap octets → (field : Field) → BitmapFault octets field → ⊥
-no_bitmap_fault octets is Head bad = bad
-no_bitmap_fault octets is Name bad = bad
-no_bitmap_fault octets is Salt bad = bad
-no_bitmap_fault octets is Hash bad = bad
 no_bitmap_fault octets is BitmapField bad = bad is
+no_bitmap_fault octets is field bad = bad
 
 pub no_rrsig_fault : (rdata : List ℕ) → 18 ≤ length rdata → BeginsWithName (drop 18 rdata) → (field : Field) → RrsigFault rdata field → ⊥
 no_rrsig_fault rdata head name Head bad = omega (arith, head, bad)
 no_rrsig_fault rdata head name Name bad = bad.1 name
-no_rrsig_fault rdata head name Salt bad = bad
-no_rrsig_fault rdata head name Hash bad = bad
-no_rrsig_fault rdata head name BitmapField bad = bad
+no_rrsig_fault rdata head name field bad = bad
 
 -- behind a name that was read, the bitmap alone can be at fault
 pub nsec_fault_behind : (rdata : List ℕ) (found : Labels) (n : ℕ) → IsName found → take n rdata ≡ wire found → ((name : Labels) (rest : List ℕ) → IsName name → rdata ≡ wire name ++ rest → ◌≡◌ {A = Option (Labels × ℕ)} (Some (found, n)) (Some (name, length (wire name)))) → (field : Field) → NsecFault rdata field → BitmapFault (drop n rdata) field
-nsec_fault_behind rdata found n is spelled every Head bad = bad
 nsec_fault_behind rdata found n is spelled every Name bad =
     absurd (bad (found, drop n rdata, is, sym (take-append-drop n rdata) ∙ ap (λ xs. xs ++ drop n rdata) spelled))
-nsec_fault_behind rdata found n is spelled every Salt bad = bad
-nsec_fault_behind rdata found n is spelled every Hash bad = bad
 nsec_fault_behind rdata found n is spelled every BitmapField (next, bits, is_name, form, bad) =
     subst (λ xs. IsBitmap xs → ⊥) (sym (behind_name rdata bits found next n (every next bits is_name form) form).1) bad
+nsec_fault_behind rdata found n is spelled every field bad = bad
 
 -- where the salt is there and the hash is not, the hash is at fault
 pub nsec3_fault_at_hash : (rdata salt rest : List ℕ) → 4 ≤ length rdata → IsCounted (drop 4 rdata) salt rest → (BeginsWithCounted rest → ⊥) → (field : Field) → Nsec3Fault rdata field → Hash ≡ field

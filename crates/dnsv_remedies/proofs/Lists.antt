@@ -1,18 +1,13 @@
 -- Lists of ways, and loops over them.
-use Rattle.std.proofs.Common.{◌≡◌, ℕ, ◌+◌, ◌<◌, ◌==◌, ◌++◌, ◌||◌, Bool, true, false, List, [], ◌∷◌, Option, Some, drop, take, map, length, get_or, refl, sym, ap, ◌∙◌, arith, add-one, flat_map}
+use Rattle.std.proofs.Common.{◌≡◌, ℕ, ◌+◌, ◌<◌, ◌++◌, ◌||◌, Bool, true, false, List, [], ◌∷◌, Option, Some, drop, take, map, length, get_or, refl, sym, ap, ◌∙◌, add-one, flat_map}
 use Rattle.std.proofs.Math.Seq.{drop-cons}
-use Rattle.std.proofs.lemmas.Bool.Decides.{nat_tests}
 use Rattle.std.proofs.lemmas.List.{map-append, take_more}
 use Rattle.std.specs.List.{list_any}
-use Rattle.dnsv_mending.specs.Mend.{Mended, cheapest_from, is_none}
+use Rattle.dnsv_mending.specs.Mend.{Mended, cheapest_from}
 use Rattle.dnsv_mending.proofs.Lists as mending
 use Rattle.dnsv_remedies.specs.Question.{once_from, reasons_from, with_line, with_reason}
 use Rattle.dnsv_remedies.specs.Remedy.{Remedied, better, least_from}
 use Rattle.dnsv_remedies.specs.declared.said.Said.{Said}
-
-pub none_by_length : {X : Type 0} (xs : List X) → (length xs == 0) ≡ is_none xs
-none_by_length [] = refl
-none_by_length (x ∷ xs) = grind (arith, nat_tests)
 
 -- one list of ways after the other
 pub least-append : (xs ys : List Remedied) (best : Option Remedied) → least_from best (xs ++ ys) ≡ least_from (least_from best xs) ys

@@ -157,7 +157,7 @@ unfolding dname_line
 dname_reason [] h = absurd (false≢true (sym h))
 dname_reason (d ∷ ds) h = refl
 
-not_false : (b : Bool) → not b ≡ true → b ≡ false
+pub not_false : (b : Bool) → not b ≡ true → b ≡ false
 not_false true h = absurd (false≢true h)
 not_false false h = refl
 

@@ -17,8 +17,7 @@ use Rattle.dnsv_mending.specs.declared.told.Told.TheVariants as told
 use Rattle.dnsv_mending.proofs.AllWays.{all_append, all_flat, all_if, mapped_some, none_some}
 use Rattle.dnsv_mending.proofs.Cheapest.{none_second}
 use Rattle.dnsv_mending.proofs.DearLines.{IsTold, one_dear}
-use Rattle.dnsv_mending.proofs.Reasons.{untrusted_told}
-use Rattle.dnsv_mending.proofs.SomeWays.{both_parts}
+use Rattle.dnsv_mending.proofs.Reasons.{both_true, untrusted_told}
 use Rattle.dnsv_remedies.specs.Answers.{answer_ways, closer_remedy, goal_ways, stripped}
 use Rattle.dnsv_remedies.specs.Cuts.{cut_after, cut_least, cut_source_ways, cut_ways, is_way, number_of, parent_ways, source_remedy}
 use Rattle.dnsv_remedies.specs.Denials.{denial, denial_ways, lacking, other_ways, speaker_ways}
@@ -115,7 +114,7 @@ module _ (zones : List ZoneFacts) (closed : IsClosed zones) (q : QuestionFacts) 
   goal_all g above goal =
       all_if Good (is_none g.signatures.items) (after above (stripped (is_below_dname q) g)) (flat_map (answer_ways levels above) g.signatures.items)
       (λ none. all_after Good above (stripped (is_below_dname q) g) (λ a is. inr (stripped_case g a (is_below_dname q && g.is_cname)
-      (λ h. (both_parts (is_below_dname q) g.is_cname h).0))))
+      (λ h. (both_true (is_below_dname q) g.is_cname h).0))))
       (λ some. all_flat Good (answer_ways levels above) g.signatures.items (λ s by. answer_all g s above goal by))
 
   -- ---- denials

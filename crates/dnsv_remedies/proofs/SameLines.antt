@@ -22,7 +22,7 @@ use Rattle.dnsv_names.specs.declared.number.RecordType.{RecordType}
 use Rattle.dnsv_records.specs.declared.nsec3.Iterations.{Iterations}
 use Rattle.dnsv_mending.specs.declared.told.Told.{Told}
 use Rattle.dnsv_mending.specs.declared.told.Told.TheVariants as told
-use Rattle.dnsv_mending.proofs.SomeWays.{both_parts}
+use Rattle.dnsv_mending.proofs.Reasons.{both_true as both_parts}
 use Rattle.dnsv_remedies.specs.Same.{is_same, is_same_cut, is_same_dname, is_same_entry, is_same_fault, is_same_name, is_same_nsec3, is_same_number, is_same_record, is_same_role, is_same_signature, is_same_source, is_same_speaker, is_same_times, is_same_told, is_same_why, is_same_zone}
 use Rattle.dnsv_remedies.specs.declared.facts.name.AskedName.{AskedName}
 use Rattle.dnsv_remedies.specs.declared.facts.name.AskedName.TheVariants as name
@@ -69,47 +69,30 @@ times_itself a = both_true (nat_eq a.inception.0 a.inception.0) (nat_eq a.expira
 
 zone_itself : (a : WhyZone) → is_same_zone a a ≡ true
 zone_itself zone.NoAnchor = refl
-zone_itself zone.DnskeyMissing = refl
-zone_itself zone.DsMissing = refl
+zone_itself a = refl
 
 why_itself : (a : WhyEntry) → is_same_why a a ≡ true
 why_itself entry.Algorithm = refl
-why_itself entry.DigestType = refl
-why_itself entry.DigestIgnored = refl
-why_itself entry.KeyMissing = refl
-why_itself entry.KeyAlgorithm = refl
-why_itself entry.DigestDiffers = refl
+why_itself a = refl
 
 fault_itself : (a : WhySignature) → is_same_fault a a ≡ true
-fault_itself signature.Labels = refl
-fault_itself signature.Signer = refl
-fault_itself signature.Expanded = refl
-fault_itself signature.Algorithm = refl
 fault_itself (signature.NotYet a) = times_itself a
 fault_itself (signature.Expired a) = times_itself a
-fault_itself signature.KeyMissing = refl
-fault_itself signature.NotZoneKey = refl
-fault_itself signature.Bad = refl
-fault_itself signature.Unanswered = refl
-fault_itself signature.KeyUntrusted = refl
+fault_itself a = refl
 
 nsec3_itself : (a : WhyNsec3) → is_same_nsec3 a a ≡ true
 nsec3_itself (nsec3.Iterations a) = number_itself a.0
 nsec3_itself nsec3.Unusable = refl
 
 role_itself : (a : Role) → is_same_role a a ≡ true
-role_itself role.ClosestEncloser = refl
-role_itself role.NextCloser = refl
-role_itself role.Wildcard = refl
-role_itself role.Name = refl
 role_itself role.Cut = refl
+role_itself a = refl
 
 lacked_itself : (a : WhySource) → is_same_source a a ≡ true
 lacked_itself (source.Delegation a) = record_itself a
 lacked_itself (source.TypeHeld a t) = both_true (is_same_record a a) (nat_eq t.0 t.0) (record_itself a) (number_itself t.0)
-lacked_itself source.MatchMissing = refl
-lacked_itself source.EncloserMissing = refl
 lacked_itself (source.CoverMissing a) = role_itself a
+lacked_itself a = refl
 
 told_itself : (a : Told) → is_same_told a a ≡ true
 told_itself (told.Zone v a) = both_true (is_same_zone v v) (nat_eq a a) (zone_itself v) (number_itself a)

@@ -19,8 +19,7 @@ use Rattle.dnsv_mending.specs.declared.told.Told.{Told}
 use Rattle.dnsv_mending.specs.declared.told.Told.TheVariants as told
 use Rattle.dnsv_mending.proofs.AllWays.{all_flat, all_if, all_ways_of, of_cheapest}
 use Rattle.dnsv_mending.proofs.DearLines.{Dear, IsTold, dear_answer, dear_else, dear_signature, no_lines, one_dear, some_lines}
-use Rattle.dnsv_mending.proofs.Reasons.{signer_first}
-use Rattle.dnsv_mending.proofs.SomeWays.{both_parts}
+use Rattle.dnsv_mending.proofs.Reasons.{both_true, signer_first}
 use Rattle.dnsv_remedies.specs.Parts.{or_missing, part, within_kept}
 use Rattle.dnsv_remedies.specs.Reasons.{AreOf, IsOf, IsPart, IsTrusted}
 use Rattle.dnsv_remedies.specs.Remedy.{missing}
@@ -111,7 +110,7 @@ by_zone_case : (levels : List Leveled) (zone : ℕ) (r : RrsetFacts) (s : Signat
     → is_signer_trusted (slice_get levels zone) ≡ true → AllByRecursion (Found levels zone r) (if t then own_way levels s ∷ [] else [])
 by_zone_case levels zone r s false e h = tt
 by_zone_case levels zone r s true e h =
-    let same : s.signer ≡ zone = eqb-true s.signer zone ((both_parts (not s.faults.signer) (nat_eq s.signer zone) e).1) in
+    let same : s.signer ≡ zone = eqb-true s.signer zone ((both_true (not s.faults.signer) (nat_eq s.signer zone) e).1) in
     (inr (trusted_owns levels s (ap (λ n. is_signer_trusted (slice_get levels n)) same ∙ h)), tt)
 
 by_zone : (levels : List Leveled) (zone : ℕ) (r : RrsetFacts) (s : SignatureFacts) → is_signer_trusted (slice_get levels zone) ≡ true

@@ -10,8 +10,8 @@ use dnsv_records::{Algorithm, Octets};
 use dnsv_statements::{Statements, StatementsError};
 use dnsv_timeline::Range;
 use dnsv_verifier::{
-    Answer, Entry, KeyRecord, Panel, Table, Verifier, ask_all, ask_within, is_admissible,
-    is_verifiable, may_have_made,
+    Answer, Entry, KeyRecord, Panel, SignedData, Table, Verifier, ask_all, ask_within,
+    is_admissible, is_verifiable, may_have_made,
 };
 use std::alloc::Global;
 
@@ -117,7 +117,10 @@ fn unknown_in(alloc: Global, table: &Table<'_>) -> Result<String, RowError> {
 fn text_of(alloc: Global, entry: &Entry<'_>) -> Result<String, RowError> {
     let algorithm = entry.algorithm.0;
     let key = printed::octets(alloc, entry.key.as_slice())?;
-    let signed_data = printed::octets(alloc, entry.signed_data.as_slice())?;
+    let (front, records) = entry.signed_data.pieces();
+    let mut octets = Vec::from_slice(alloc, front)?;
+    octets.extend_from_slice(records)?;
+    let signed_data = printed::octets(alloc, octets.as_slice())?;
     let signature = printed::octets(alloc, entry.signature.as_slice())?;
     Ok(format!(in alloc; "{algorithm}:{key}:{signed_data}:{signature}")?)
 }
@@ -226,7 +229,7 @@ fn entry<'b>(row: &Row, place: usize, bump: &'b Bump) -> Result<Entry<'b>, RowEr
     Ok(Entry {
         algorithm: Algorithm(algorithm),
         key: placed(row, place.saturating_add(1), bump)?,
-        signed_data: placed(row, place.saturating_add(2), bump)?,
+        signed_data: SignedData::of(placed(row, place.saturating_add(2), bump)?.as_slice()),
         signature: placed(row, place.saturating_add(3), bump)?,
     })
 }

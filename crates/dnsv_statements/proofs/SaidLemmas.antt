@@ -1,15 +1,15 @@
 -- What statements say, kept in a list that rises and in a tree.
-use Rattle.std.proofs.Common.{◌≡◌, ℕ, ◌+◌, ◌-◌, ◌<◌, inl, inr, List, [], ◌∷◌, ◌++◌, length, get_or, map, refl, sym, ap, ◌∙◌, subst, arith, Bool, true, false, cond, Option, Some, None}
+use Rattle.std.proofs.Common.{◌≡◌, ℕ, ◌+◌, ◌-◌, inl, inr, List, [], ◌∷◌, ◌++◌, length, get_or, map, refl, sym, ap, ◌∙◌, subst, arith, Bool, true, false, cond, Option, Some, None}
 use Rattle.std.proofs.lemmas.Bool.{cases_lt}
 use Rattle.std.proofs.lemmas.Cmp.{tied_itself}
-use Rattle.std.proofs.lemmas.List.{append-nil, append_assoc, get_or_append_left, get_or_push, length-append, length_push, map-append}
+use Rattle.std.proofs.lemmas.List.{append-nil, append_assoc, get_or_append_left, get_or_push, length_push, map-append}
 use Rattle.std.proofs.lemmas.Map.Keys.{Less-from_sorted, sorted_from_all_adjacent}
 use Rattle.std.proofs.lemmas.Map.Views.{All-before_last}
 use Rattle.std.specs.List.{Contains}
 use Rattle.std.specs.List.Sorted.{IsStrictlySortedBy}
 use Rattle.std.specs.Ordering.{is_eq, ordering_reverse}
 use Rattle.std.specs.declared.cmp.Ordering.{Ordering}
-use Rattle.std.specs.declared.cmp.Ordering.TheVariants.{Less, Equal, Greater}
+use Rattle.std.specs.declared.cmp.Ordering.TheVariants.{Less, Equal}
 use Rattle.dnsv_verifier.specs.Entry.{entry_cmp}
 use Rattle.dnsv_verifier.specs.EntryLaws.{entry_cmp_total, entry_Equal}
 use Rattle.dnsv_statements.specs.Statements.{other_word}
@@ -17,6 +17,7 @@ use Rattle.dnsv_statements.specs.StatementsReading.{IsBehind, Lists, said_in}
 use Rattle.dnsv_verifier.specs.declared.entry.Entry.{Entry}
 use Rattle.dnsv_statements.specs.declared.statements.statement.Word.{Word}
 use Rattle.dnsv_statements.specs.declared.statements.statement.Word.TheVariants.{Good, Bad}
+use Rattle.dnsv_statements.proofs.StatementsLemmas.{is_eq_is}
 use Rattle.dnsv_verifier.proofs.SearchLemmas.{not_listed, pairs_again}
 
 abbrev pub entries_of : List (Entry × Word) → List Entry
@@ -24,16 +25,10 @@ entries_of said = map (λ each. each.0) said
 
 is_eq-reverse : (o : Ordering) → is_eq (ordering_reverse o) ≡ is_eq o
 is_eq-reverse Less = refl
-is_eq-reverse Equal = refl
-is_eq-reverse Greater = refl
+is_eq-reverse o = refl
 
 tied_back : (a b : Entry) → is_eq (entry_cmp a b) ≡ is_eq (entry_cmp b a)
 tied_back a b = ap is_eq (entry_cmp_total.antisymm a b) ∙ is_eq-reverse (entry_cmp b a)
-
-is_eq-is : (o : Ordering) → is_eq o ≡ true → o ≡ Equal
-is_eq-is Equal e = refl
-is_eq-is Less e = cc
-is_eq-is Greater e = cc
 
 -- the same is said behind the same front
 said_behind : (front xs ys : List (Entry × Word)) (each : Entry) → said_in xs each ≡ said_in ys each
@@ -112,7 +107,7 @@ none_more entry word each apart = ap (λ b. cond b (Some word) None) (sym (tied_
 said_push : (said : List (Entry × Word)) (entry : Entry) (word : Word) → said_in said entry ≡ None → (each : Entry) (b : Bool)
     → is_eq (entry_cmp entry each) ≡ b → said_in (said ++ (entry, word) ∷ []) each ≡ cond b (Some word) (said_in said each)
 said_push said entry word none each true tied =
-    let same : entry ≡ each = entry_Equal entry each (is_eq-is (entry_cmp entry each) tied) in
+    let same : entry ≡ each = entry_Equal entry each (is_eq_is (entry_cmp entry each) tied) in
     subst (λ e. said_in (said ++ (entry, word) ∷ []) e ≡ Some word) same (none_before said ((entry, word) ∷ []) entry none ∙ one_said entry word)
 said_push said entry word none each false apart =
     said_behind said ((entry, word) ∷ []) [] each (none_more entry word each apart)
@@ -162,7 +157,7 @@ words_apart Bad e = cc
 again : (said : List (Entry × Word)) (entry : Entry) (word : Word) (each : Entry) (b : Bool) → said_in said entry ≡ Some word
     → is_eq (entry_cmp entry each) ≡ b → said_in said each ≡ cond b (Some word) (said_in said each)
 again said entry word each true found tied =
-    subst (λ e. said_in said e ≡ Some word) (entry_Equal entry each (is_eq-is (entry_cmp entry each) tied)) found
+    subst (λ e. said_in said e ≡ Some word) (entry_Equal entry each (is_eq_is (entry_cmp entry each) tied)) found
 again said entry word each false found apart = refl
 
 same_of_two : (said word : Word) → (said ≡ other_word word → ⊥) → said ≡ word
@@ -186,7 +181,7 @@ in_tree : (said tree new : List (Entry × Word)) (entry : Entry) (word : Word) �
     → is_eq (entry_cmp entry each) ≡ b → said_in new each ≡ cond b (Some word) (said_in tree each)
     → said_in (said ++ new) each ≡ cond b (Some word) (said_in (said ++ tree) each)
 in_tree said tree new entry word none each true tied updates =
-    let same : entry ≡ each = entry_Equal entry each (is_eq-is (entry_cmp entry each) tied) in
+    let same : entry ≡ each = entry_Equal entry each (is_eq_is (entry_cmp entry each) tied) in
     none_before said new each (subst (λ e. said_in said e ≡ None) same none) ∙ updates
 in_tree said tree new entry word none each false apart updates = said_behind said new tree each updates
 
@@ -235,11 +230,6 @@ without_tree said (first ∷ tree) none each = absurd (omega (arith, none))
 pub none_in_tree : (tree listed : List (Entry × Word)) → listed ≡ [] → length tree ≡ 0 → listed ≡ tree
 none_in_tree [] listed none empty = none
 none_in_tree (first ∷ tree) listed none empty = absurd (omega (arith, empty))
-
--- where the tree says something, something is said
-pub some_said : (said tree : List (Entry × Word)) → (length tree ≡ 0 → ⊥) → 0 < length (said ++ tree)
-some_said said [] some = absurd (some refl)
-some_said said (first ∷ tree) some = let size = length-append said (first ∷ tree) in omega (arith, size)
 
 pub empty_list : (said : List (Entry × Word)) → length said ≡ 0 → said ≡ []
 empty_list [] empty = refl

@@ -6,7 +6,7 @@ use Rattle.std.specs.List.{Contains}
 use Rattle.std.specs.Map.{lookup}
 use Rattle.std.specs.Ordering.{is_eq}
 use Rattle.std.specs.declared.cmp.Ordering.{Ordering}
-use Rattle.std.specs.declared.cmp.Ordering.TheVariants.{Less, Equal, Greater}
+use Rattle.std.specs.declared.cmp.Ordering.TheVariants.{Equal}
 use Rattle.dnsv_names.proofs.LineFileLemmas.{SaysOrFails, begins, each_more, values_or_fault}
 use Rattle.dnsv_names.specs.Lines.LineFile.{SayEach}
 use Rattle.dnsv_names.specs.Lines.{HasLines, NumberedLine}
@@ -51,10 +51,9 @@ says_none said empty =
       empty = λ same. empty;
     }
 
-is_eq_is : (o : Ordering) → is_eq o ≡ true → o ≡ Equal
+pub is_eq_is : (o : Ordering) → is_eq o ≡ true → o ≡ Equal
 is_eq_is Equal e = refl
-is_eq_is Less e = cc
-is_eq_is Greater e = cc
+is_eq_is o e = cc
 
 same_word : (a b : Word) → (a ≡ other_word b → ⊥) → a ≡ b
 same_word Good Good apart = refl
@@ -162,8 +161,7 @@ pub memory_wanted : (text : List ℕ) (before : List NumberedLine) (line : Numbe
     → HasLines text (before ++ line ∷ after) → SaysSoFar before said → RefusesLine error line said → error ≡ OutOfMemory → BeginsWithStatement text
 memory_wanted text before line after said OutOfMemory has so_far refuses out =
     begins IsStatementOf text before line after so_far.statements has so_far.each ((refuses.entry, refuses.word), refuses.states)
-memory_wanted text before line after said (Syntax number) has so_far refuses out = absurd (cc)
-memory_wanted text before line after said (Contradiction number) has so_far refuses out = absurd (cc)
+memory_wanted text before line after said error has so_far refuses out = absurd (cc)
 
 first_says : (text : List ℕ) (lines : List NumberedLine) (statements : List (Entry × Word)) → HasLines text lines
     → SayEach IsStatementOf lines statements → (lines ≡ [] → ⊥) → BeginsWithStatement text

@@ -7,7 +7,7 @@ ghost use Rattle.hex.specs.Hex.{decode_of};
 ghost use Rattle.dnsv_verifier.specs.Entry.{entry_cmp};
 
 use dnsv_records::{Algorithm, Octets};
-use dnsv_verifier::{Entry, push_decoded};
+use dnsv_verifier::{Entry, SignedData, push_decoded};
 use std::alloc::{AllocError, Global};
 use std::cmp::Ordering;
 use std::marker::Model;
@@ -79,7 +79,7 @@ impl PackedEntry {
         Entry {
             algorithm: self.algorithm,
             key: Octets::of(&self.octets[..self.data_at]),
-            signed_data: Octets::of(&self.octets[self.data_at..self.signature_at]),
+            signed_data: SignedData::of(&self.octets[self.data_at..self.signature_at]),
             signature: Octets::of(&self.octets[self.signature_at..]),
         }
     }

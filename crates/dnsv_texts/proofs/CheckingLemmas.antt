@@ -11,14 +11,8 @@ use Rattle.dnsv_texts.specs.declared.format.Format.TheVariants.{Json}
 
 -- what is added in JSON for what carries the verdict are the members for it, behind others
 pub members_are : (rrsets : List ReceivedRrset) (verdict : Verdict) (whole : Bool) → reason_text Json rrsets verdict whole ≡ parted false (reason_members rrsets verdict whole)
-members_are rrsets (verdict.SecureAnswer k s) whole = refl
-members_are rrsets (verdict.SecureAlias k s) whole = refl
-members_are rrsets (verdict.SecureNoName proof) whole = refl
-members_are rrsets (verdict.SecureNoData proof) whole = refl
-members_are rrsets (verdict.Insecure cut) whole = refl
-members_are rrsets (verdict.Pending entries) whole = refl
 members_are rrsets verdict.Bogus whole = refl
-members_are rrsets verdict.Indeterminate whole = refl
+members_are rrsets other whole = refl
 
 -- what is seen in another way is there just as before
 pub still_some : {X Y : Type 0} (f : X → Y) (o : Option X) → is_some (option_map f o) ≡ is_some o

@@ -18,9 +18,6 @@ encode-append (x ∷ xs) ys = ap (λ rest. slice_index lower_digits (x / 16) ∷
 pub record HexSoFar (octets before : List ℕ) (rest now : List ℕ) : Type 0 where
   pub whole : before ++ encode_lower octets ≡ now ++ encode_lower rest
 
-pub HexSoFar-start : (octets before : List ℕ) → HexSoFar octets before octets before
-HexSoFar-start octets before = record { whole = refl }
-
 pub HexSoFar-next : {octets before rest now : List ℕ} → HexSoFar octets before rest now → (n : ℕ) (piece behind after : List ℕ) → piece ≡ take n rest → behind ≡ drop n rest
     → after ≡ now ++ encode_lower piece → HexSoFar octets before behind after
 HexSoFar-next {rest = rest} {now = now} so_far n piece behind after first left line = record {

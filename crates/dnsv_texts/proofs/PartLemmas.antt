@@ -67,10 +67,6 @@ pub record Listed {X Y : Type 0} (each : ℕ → X → List Y → Type 0) (line 
   pub adds : Adds line json format start before listed first now
   pub lists : (rest : List Y) → ListsEach each (done + 1) (drop done xs) rest → ListsEach each 1 xs (listed ++ rest)
 
-pub Listed-start : {X Y : Type 0} (each : ℕ → X → List Y → Type 0) (line json : Y → List ℕ) (format : Format) (xs : List X) (start : Bool) (before : List ℕ)
-    → Listed each line json format xs 0 start before start before
-Listed-start each line json format xs start before = record { listed = []; adds = Adds-none line json format start before; lists = λ rest lists. lists }
-
 -- one more, of which these are listed
 pub Listed-next : {X Y : Type 0} {each : ℕ → X → List Y → Type 0} {line json : Y → List ℕ} {format : Format} {xs : List X} {done : ℕ} {start : Bool} {before : List ℕ} {first : Bool} {now : List ℕ}
     → Listed each line json format xs done start before first now

@@ -1,6 +1,5 @@
 -- The text of the messages that are shown, line by line.
-use Rattle.std.proofs.Common.{◌≡◌, ℕ, suc, ◌+◌, ◌<◌, ◌≤◌, List, [], ◌∷◌, ◌++◌, length, get_or, drop, refl, sym, ap, ◌∙◌, arith, append_assoc, codes}
-use Rattle.std.proofs.lemmas.List.{drop_more, drop_all, append-nil}
+use Rattle.std.proofs.Common.{◌≡◌, ℕ, suc, ◌+◌, List, [], ◌∷◌, ◌++◌, length, drop, refl, sym, ap, ◌∙◌, arith, append_assoc, codes}
 use Rattle.std.specs.Fmt.{decimal}
 use Rattle.std.specs.List.{flat_map}
 use Rattle.dnsv_message.specs.Message.{Contents, records_of}
@@ -21,25 +20,6 @@ texts_from-append {X} text number (x ∷ xs) ys =
 -- what was written and what is left are the whole
 pub record Written {X : Type 0} (text : ℕ → X → List ℕ) (number : ℕ) (xs : List X) (done : ℕ) (before now : List ℕ) : Type 0 where
   pub whole : before ++ texts_from text number xs ≡ now ++ texts_from text (number + done) (drop done xs)
-
-pub Written-start : {X : Type 0} (text : ℕ → X → List ℕ) (number : ℕ) (xs : List X) (before : List ℕ) → Written text number xs 0 before before
-Written-start text number xs before = record { whole = ap (λ n. before ++ texts_from text n xs) (omega arith) }
-
-pub Written-next : {X : Type 0} {text : ℕ → X → List ℕ} {number : ℕ} {xs : List X} {done : ℕ} {before now : List ℕ} → Written text number xs done before now
-    → (x : X) (after : List ℕ) → done < length xs → ((d : X) → get_or xs done d ≡ x) → after ≡ now ++ text (number + done) x
-    → Written text number xs (done + 1) before after
-Written-next {X} {text} {number} {xs} {done} {before} {now} written x after within here line = record {
-  whole = written.whole
-      ∙ ap (λ left. now ++ texts_from text (number + done) left) (drop_more xs done x within ∙ ap (λ y. y ∷ drop (done + 1) xs) (here x))
-      ∙ sym (append_assoc now (text (number + done) x) (texts_from text (suc (number + done)) (drop (done + 1) xs)))
-      ∙ ap (λ t. t ++ texts_from text (suc (number + done)) (drop (done + 1) xs)) (sym line)
-      ∙ ap (λ n. after ++ texts_from text n (drop (done + 1) xs)) (omega arith);
-}
-
-pub Written-all : {X : Type 0} {text : ℕ → X → List ℕ} {number : ℕ} {xs : List X} {done : ℕ} {before now : List ℕ} → Written text number xs done before now
-    → length xs ≤ done → now ≡ before ++ texts_from text number xs
-Written-all {X} {text} {number} {xs} {done} {before} {now} written all =
-    sym (append-nil now) ∙ ap (λ left. now ++ texts_from text (number + done) left) (sym (drop_all done xs all)) ∙ sym written.whole
 
 -- ---- a message
 

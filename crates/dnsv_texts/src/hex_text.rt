@@ -3,6 +3,7 @@ ghost use Rattle.std.specs.Prelude.{◌≡◌, ◌++◌, ◌*◌, ◌<◌, ◌�
 ghost use Rattle.hex.specs.Hex.{encode_lower, lower_digits};
 ghost use Rattle.dnsv_texts.specs.Hex as specs;
 
+use dnsv_verifier::SignedData;
 use std::alloc::AllocError;
 use std::str;
 
@@ -21,6 +22,27 @@ pub fn push_hex_text(text: &mut String, octets: &[u8]) -> Result<(), AllocError>
     } else {
         push_hex(text, octets)
     }
+}
+
+/// Adds signed data in lower case hex, and `-` where it has no octets.
+pub fn push_signed_text(text: &mut String, signed: &SignedData<'_>) -> Result<(), AllocError>
+    ensures { OnOk result (string_bytes text.new ≡ string_bytes text.old ++ specs.hex_text signed.now) }
+{
+    if signed.is_empty() {
+        text.push_str("-")
+    } else {
+        push_signed_hex(text, signed)
+    }
+}
+
+/// Adds signed data in lower case hex, one piece behind the other.
+pub fn push_signed_hex(text: &mut String, signed: &SignedData<'_>) -> Result<(), AllocError>
+    ensures { OnOk result (string_bytes text.new ≡ string_bytes text.old ++ encode_lower signed.now) }
+{
+    let (front, records) = signed.pieces();
+    push_hex(text, front)?;
+    push_hex(text, records)?;
+    Ok(())
 }
 
 /// Adds the octets in lower case hex. They are written where they are to stand, so that no other memory is taken.

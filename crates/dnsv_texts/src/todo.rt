@@ -3,7 +3,7 @@ ghost use Rattle.std.specs.Prelude.{◌≡◌, ◌++◌, IfOk, OnOk, flat_map, s
 ghost use Rattle.dnsv_texts.specs.Todo as specs;
 
 use crate::format::Format;
-use crate::hex_text::push_hex_text;
+use crate::hex_text::{push_hex_text, push_signed_text};
 use crate::json::todo::todo_json;
 use dnsv_answers::Moments;
 use dnsv_verifier::{Entries, Entry};
@@ -52,7 +52,7 @@ fn push_entry(text: &mut String, entry: &Entry<'_>) -> Result<(), AllocError>
     write!(text, "todo {algorithm} ")?;
     push_hex_text(text, entry.key.as_slice())?;
     text.push_str(" ")?;
-    push_hex_text(text, entry.signed_data.as_slice())?;
+    push_signed_text(text, &entry.signed_data)?;
     text.push_str(" ")?;
     push_hex_text(text, entry.signature.as_slice())?;
     text.push_str("\n")

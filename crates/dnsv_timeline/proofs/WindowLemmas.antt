@@ -88,14 +88,6 @@ next_of n f moment large =
 abbrev Within : ℕ → ℕ → ℕ → Type 0
 Within start end number = (start ≤ number) × (number < end)
 
-within_or : (start end number : ℕ) → Within start end number ⊎ (Within start end number → ⊥)
-within_or start end number =
-    ⊎_elim (λ (before : number < start). inr (λ within. omega (arith, within.0, before)))
-    (λ (behind : start ≤ number). ⊎_elim (λ (inside : number < end). inl (behind, inside))
-    (λ (over : end ≤ number). inr (λ within. omega (arith, within.1, over)))
-    (cases_lt number end))
-    (cases_lt number start)
-
 -- the signature changes just where the window begins or is over
 pub changes_at : (times : Times) (start end before : ℕ) → IsWindow times start end
     → IsChange times (before + 1)

@@ -1,13 +1,11 @@
 -- What is said of a question is the same for verifiers that answer alike what is asked at the moment.
 use Rattle.std.proofs.Common.{◌≡◌, ◌∙◌, ℕ, List, [], ◌∷◌, inl, inr, sym, ap}
 use Rattle.dnsv_names.specs.Name.{Labels}
-use Rattle.dnsv_canonical.specs.Rrsets.{ReceivedRrset}
 use Rattle.dnsv_verifier.specs.Admissible.{IsAsked}
 use Rattle.dnsv_verifier.specs.Table.{hoped_answer}
 use Rattle.dnsv_verifier.specs.declared.answer.Answer.{Answer}
 use Rattle.dnsv_verifier.specs.declared.entry.Entry.{Entry}
 use Rattle.dnsv_chain.specs.Trusted.{IsSecured}
-use Rattle.dnsv_chain.specs.declared.anchor.Anchor.{Anchor}
 use Rattle.dnsv_verdict.proofs.SettledLemmas.{settled_as_to, settled_to}
 use Rattle.dnsv_verdict.specs.Verdict.{AreUnknown, Basis, IsSettledAsBy, IsSettledBy, IsVerdictAt, MayBeSettledBy, with_meaning}
 use Rattle.dnsv_verdict.specs.Way.{IsRefusal, IsRefusedFor, IsWay, LeadTo}
@@ -16,16 +14,11 @@ use Rattle.dnsv_verdict.specs.declared.link.Link.{Link}
 use Rattle.dnsv_verdict.specs.declared.verdict.Verdict.{Verdict}
 use Rattle.dnsv_verdict.specs.declared.verdict.Verdict.TheVariants.{SecureAlias, Pending, Bogus, Indeterminate}
 use Rattle.dnsv_texts.specs.declared.format.Format.{Format}
+use Rattle.dnsv_explain.proofs.lemmas.marks.MarkLemmas.{DependsOnAsked}
 use Rattle.dnsv_timeline_laws.proofs.WithinLemmas.{table_alike}
 use Rattle.dnsv_timeline_laws.specs.Alike.{AreAnsweredAlike}
 use Rattle.dnsv_timeline_laws.specs.Said.{IsSaid, Said}
 use Rattle.dnsv_timeline_laws.specs.Said.IsSaid.{a_refusal, a_verdict}
-
--- what is good depends on the verifier through what is asked alone
-abbrev pub DependsOnAsked : Type 0
-DependsOnAsked = (first second : Entry → Answer) (moment : ℕ) (rrsets : List ReceivedRrset) (anchors : List Anchor)
-    → ((entry : Entry) → IsAsked moment rrsets entry → first entry ≡ second entry)
-    → (k s : ℕ) → IsSecured first moment rrsets anchors k s → IsSecured second moment rrsets anchors k s
 
 module _ (depends : DependsOnAsked) (basis : Basis) (other : Entry → Answer) (alike : AreAnsweredAlike basis other) where
   abbrev hoped : (Entry → Answer) → Entry → Answer

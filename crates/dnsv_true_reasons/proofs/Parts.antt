@@ -21,13 +21,14 @@ use Rattle.dnsv_mending.specs.Within.{is_by}
 use Rattle.dnsv_mending.specs.declared.facts.signature.RrsetFacts.{RrsetFacts}
 use Rattle.dnsv_mending.specs.declared.facts.signature.SignatureFacts.{SignatureFacts}
 use Rattle.dnsv_mending.proofs.DearLines.{or_true, or_true_second}
-use Rattle.dnsv_mending.proofs.SomeWays.{both_parts}
+use Rattle.dnsv_mending.proofs.Reasons.{both_true}
 use Rattle.dnsv_remedies.specs.Reasons.{AreOf, IsOf, IsPart}
+use Rattle.dnsv_remedies.proofs.Once.{not_false}
 use Rattle.dnsv_faults.specs.Rrsets.{AreRrsetFacts}
 use Rattle.dnsv_faults.specs.Signatures.{AreSignatureFacts, IsSignatureAt}
 use Rattle.dnsv_faults.proofs.lemmas.zones.ClosedLemmas.{among_of, contains_of, not_true, off_by}
 use Rattle.dnsv_faults.proofs.lemmas.zones.TrustLemmas.{number_of, numbered_among, or_cases, signature_known, zip_left}
-use Rattle.dnsv_zone_keys.proofs.lemmas.ZoneKeyLemmas.{same_number}
+use Rattle.dnsv_canonical.proofs.NumberLemmas.{one_numbered}
 use Rattle.dnsv_gaps.specs.Asking.{Asking}
 use Rattle.dnsv_gaps.specs.Denials.{HasSigner, IsDenialNumber, IsDenialOf, IsStrayOf}
 use Rattle.dnsv_gaps.specs.Parts.{AreFactsOf}
@@ -53,16 +54,12 @@ by_test : (b : Bool) (m n : ℕ) → b ≡ false → m ≡ n → (not b && nat_e
 by_test true m n off same = absurd (false≢true (sym off))
 by_test false m n off same = grind (arith, nat_tests, same)
 
-not_off : (b : Bool) → not b ≡ true → b ≡ false
-not_off true h = absurd (false≢true h)
-not_off false h = refl
-
 -- ---- one signature
 
 -- a signature with a number is one
 pub one_signature : (rrset : ReceivedRrset) (s : ℕ) (x y : Rrsig) → IsSignatureAt rrset s x → IsSignatureAt rrset s y → x ≡ y
 one_signature rrset s x y first second =
-    let same = same_number rrset.signatures s first.rdata second.rdata first.numbered second.numbered in
+    let same = one_numbered rrset.signatures s first.rdata second.rdata first.numbered second.numbered in
     one_rrsig second.rdata x y (subst (λ (rdata : List ℕ). IsRrsig rdata x) same first.is) second.is
 
 -- one that is secured, as it is read here
@@ -71,7 +68,7 @@ pub secured_as : (basis : Basis) (k s : ℕ) (rrset : ReceivedRrset) (rrsig : Rr
     → IsGoodByTrust basis.meaning basis.moment basis.rrsets basis.anchors rrset rrsig
 secured_as basis k s rrset rrsig numbered its is =
     let Good = IsGoodByTrust basis.meaning basis.moment basis.rrsets basis.anchors in
-    let same = same_number basis.rrsets k is.rrset rrset is.numbered numbered in
+    let same = one_numbered basis.rrsets k is.rrset rrset is.numbered numbered in
     let at : IsSignatureAt is.rrset s is.rrsig = record { rdata = is.rdata; numbered = is.signature; is = is.is } in
     let here = subst (λ (r : ReceivedRrset). IsSignatureAt r s is.rrsig) same at in
     let one = one_signature rrset s is.rrsig rrsig here its in
@@ -96,7 +93,7 @@ module _ (a : Asking) where
   module _ (n : ℕ) (within : n ≤ length a.name) (r : RrsetFacts) (facts : AreRrsetFacts a.basis r.number r)
       (denial : IsDenialNumber a (rightmost a.name n) r.number) where
     same_rrset : denial.rrset ≡ facts.rrset
-    same_rrset = same_number a.basis.rrsets r.number denial.rrset facts.rrset denial.numbered facts.numbered
+    same_rrset = one_numbered a.basis.rrsets r.number denial.rrset facts.rrset denial.numbered facts.numbered
 
     is_denial : IsDenialOf a (rightmost a.name n) facts.rrset
     is_denial = subst (λ (x : ReceivedRrset). IsDenialOf a (rightmost a.name n) x) same_rrset denial.denial
@@ -150,9 +147,9 @@ module _ (a : Asking) where
         → IsSecuredBy (IsSecured a.basis.meaning a.basis.moment a.basis.rrsets a.basis.anchors) a.basis.rrsets (rightmost a.name n) r.number
     rrset_secured s among h =
         let zone : Labels = rightmost a.name n in
-        let parts = both_parts (is_by n s) s.is_signed h in
-        let by = both_parts (not s.faults.signer) (nat_eq s.signer n) parts.0 in
-        let off = not_off s.faults.signer by.0 in
+        let parts = both_true (is_by n s) s.is_signed h in
+        let by = both_true (not s.faults.signer) (nat_eq s.signer n) parts.0 in
+        let off = not_false s.faults.signer by.0 in
         let labels : s.signer ≡ n = eqb-true s.signer n by.1 in
         let one = zip_left (λ (signature : ℕ × Rrsig) known. AreSignatureFacts a.basis r.number facts.rrset signature.0 known) facts.order r.signatures.items s facts.each
         (contains_of s r.signatures.items among) in
@@ -183,8 +180,8 @@ module _ (a : Asking) where
         → (number : ℕ) × ((its : AreSignatureFacts a.basis r.number facts.rrset number s) × SameName its.rrsig.signer (rightmost a.name n))
     by_zone s among h =
         let zone : Labels = rightmost a.name n in
-        let by = both_parts (not s.faults.signer) (nat_eq s.signer n) h in
-        let off = not_off s.faults.signer by.0 in
+        let by = both_true (not s.faults.signer) (nat_eq s.signer n) h in
+        let off = not_false s.faults.signer by.0 in
         let labels : s.signer ≡ n = eqb-true s.signer n by.1 in
         let one = zip_left (λ (signature : ℕ × Rrsig) known. AreSignatureFacts a.basis r.number facts.rrset signature.0 known) facts.order r.signatures.items s facts.each
         (contains_of s r.signatures.items among) in

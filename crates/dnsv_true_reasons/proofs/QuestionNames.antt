@@ -48,7 +48,7 @@ use Rattle.dnsv_faults.specs.Signatures.{AreSignatureFacts}
 use Rattle.dnsv_faults.proofs.lemmas.zones.ClosedLemmas.{among_of, contains_of}
 use Rattle.dnsv_faults.proofs.lemmas.zones.PlaceLemmas.{contains_at}
 use Rattle.dnsv_faults.proofs.lemmas.zones.TrustLemmas.{zip_left}
-use Rattle.dnsv_zone_keys.proofs.lemmas.ZoneKeyLemmas.{same_number}
+use Rattle.dnsv_canonical.proofs.NumberLemmas.{one_numbered}
 use Rattle.dnsv_gaps.proofs.QuestionLemmas.CloserLemmas.{fewer_counted}
 use Rattle.dnsv_gaps.specs.Asking.{Asking}
 use Rattle.dnsv_gaps.specs.Cases.{AreRecordsAt, AreShowing, AreWildcardFacts, IsSourceCase}
@@ -220,9 +220,7 @@ module _ (a : Asking) where
       let above = is.first.closed.above in
       (omega (arith, above), says_facts _ (c.rrset ∷ []) is.rrset c.rrset (inl refl))
   says_case zone chain (case.At r) is = says_at zone chain a.name r is.2
-  says_case zone chain case.Apex is = tt
   says_case zone chain (case.NonTerminal rrsets) is = says_facts _ rrsets.items is.4
-  says_case zone chain case.NoEncloser is = tt
   says_case zone chain (case.Encloser e) is =
       let facts = is.1 in
       let above = facts.longest.above in
@@ -233,15 +231,14 @@ module _ (a : Asking) where
         says_facts _ e.covers.items facts.covers,
         says_wildcard zone chain (rightmost a.name e.next) (wildcard_of (rightmost a.name e.name)) e.wildcard facts.wildcard,
       )
+  says_case zone chain c is = tt
 
   says_cut : (zone : Labels) (chain : Chain) (HasOne : Type 0) (parent below : Labels) (c : CutCase)
       → IsCutCase a.basis (source_said a zone chain) HasOne parent below c → SaysCut (HasLines a) c
   says_cut zone chain HasOne parent below (cut.Delegation rrsets) is = says_facts _ rrsets.items is.1
-  says_cut zone chain HasOne parent below cut.NoCut is = tt
   says_cut zone chain HasOne parent below (cut.Signed s) is = says_rrset a s.number.rrset s.rrset is.2
   says_cut zone chain HasOne parent below (cut.OptOut o) is = (says_facts _ o.shown.items is.2, says_facts _ o.covers.items is.3)
-  says_cut zone chain HasOne parent below cut.Uncovered is = tt
-  says_cut zone chain HasOne parent below cut.Unmatched is = tt
+  says_cut zone chain HasOne parent below c is = tt
 
   -- ---- speakers and zones above unsigned delegations
 
@@ -314,7 +311,7 @@ module _ (a : Asking) where
       (mapped_among (λ (each : AnswerSignature). each.signature) g.signatures.items s among) in
       let one = zip_left (λ (signature : ℕ × Rrsig) facts. AreSignatureFacts a.basis g.number known.rrset signature.0 facts) known.order are.known.signatures.items
       s.signature known.each (contains_of s.signature are.known.signatures.items there) in
-      let same = same_number a.basis.rrsets g.number known.rrset are.rrset known.numbered are.numbered in
+      let same = one_numbered a.basis.rrsets g.number known.rrset are.rrset known.numbered are.numbered in
       record { number = one.0.0; its = subst (λ (r : ReceivedRrset). AreSignatureFacts a.basis g.number r one.0.0 s.signature) same one.2 }
 
   some_closer : (g : GoalFacts) (s : AnswerSignature) (c : CloserFacts) (rrset : ReceivedRrset) (rrsig : Rrsig) (o : Option CloserFacts) → s.closer ≡ o → o ≡ Some c
@@ -374,7 +371,7 @@ module _ (a : Asking) where
             let such = (are.goals.members g.number).0 (contains_of g.number (map (λ (each : GoalFacts). each.number) q.goals.items)
             (mapped_among (λ (each : GoalFacts). each.number) q.goals.items g among)) in
             says_goal g its (λ rrset numbered.
-            let same = same_number a.basis.rrsets g.number such.0 rrset such.1 numbered in
+            let same = one_numbered a.basis.rrsets g.number such.0 rrset such.1 numbered in
             subst (λ (r : ReceivedRrset). SameName r.owner a.name) same such.2.owner);
         dnames = λ d among.
             let there = subst (λ (all : List DnameFacts). IsAmong d all) are.dnames among in

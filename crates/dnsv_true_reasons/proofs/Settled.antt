@@ -68,13 +68,6 @@ module _ (a : Asking) where
         (λ number says. encloser_denial a (rightmost a.name n) chain name number says) part in
         (found.0, encloser_said a zone chain name found.0 found.2 found.1)
 
-    absent_part : (name : Labels) (facts : List RrsetFacts) → AreFactsOf a.basis ((source_said a (rightmost a.name n) chain).Absent name) facts → IsPart n facts
-        → (number : RecordNumber) × (evidence_said (Secured a) a.basis.rrsets (rightmost a.name n) chain).Absent name number
-    absent_part name facts are part =
-        let found = part_secured a n within ((source_said a (rightmost a.name n) chain).Absent name) facts are
-        (λ number says. absent_denial a (rightmost a.name n) chain name number says) part in
-        (found.0, absent_said a (rightmost a.name n) chain name found.0 found.2 found.1)
-
     empty_part : (name : Labels) (facts : List RrsetFacts) → AreFactsOf a.basis ((source_said a (rightmost a.name n) chain).EmptyNonTerminal name) facts → IsPart n facts
         → (number : RecordNumber) × (evidence_said (Secured a) a.basis.rrsets (rightmost a.name n) chain).EmptyNonTerminal name number
     empty_part name facts are part =
@@ -231,12 +224,10 @@ module _ (a : Asking) where
 
     denial_settles : (c : SourceCase) → IsSourceCase a.basis (source_said a (rightmost a.name n) chain) (rightmost a.name n) a.name a.rtype c → IsCaseDenial n c
         → IsSettledBy a.basis a.name a.rtype
-    denial_settles (case.Closed c) is denies = absurd denies
     denial_settles (case.At r) is denies = denied_at r is.2 denies
-    denial_settles case.Apex is denies = absurd denies
     denial_settles (case.NonTerminal rrsets) is denies = empty_at rrsets.items is.4 denies
-    denial_settles case.NoEncloser is denies = absurd denies
     denial_settles (case.Encloser e) is denies = encloser_settles e is.1 denies.0 denies.1.0 denies.1.1
+    denial_settles c is denies = absurd denies
 
     -- ---- an unsigned delegation
 
@@ -251,8 +242,6 @@ module _ (a : Asking) where
             below_apex = below_by_length (rightmost a.name c) (rightmost a.name n) (rightmost_in_line a.name c n (omega (arith, under))) (omega (arith, size, zone_size, under));
             types = types_part (rightmost a.name c) IsUnsignedDelegation rrsets.items is.1 proves;
           })
-      cut_settles HasOut cut.NoCut is proves = absurd proves
-      cut_settles HasOut (cut.Signed s) is proves = absurd proves
       cut_settles HasOut (cut.OptOut o) is proves =
           let next : c ≡ c - 1 + 1 = omega (arith, under) in
           let found = opted_part (rightmost a.name c) o.covers.items is.3 proves.1 in
@@ -263,8 +252,7 @@ module _ (a : Asking) where
             next_closer = inr by;
             opted_out = inl by;
           })
-      cut_settles HasOut cut.Uncovered is proves = absurd proves
-      cut_settles HasOut cut.Unmatched is proves = absurd proves
+      cut_settles HasOut x is proves = absurd proves
 
   -- ---- an answer
 

@@ -33,24 +33,16 @@ abbrev IsReasonLine : Line → Type 0
 IsReasonLine found = (reason : Reason) × (found ≡ line.Reason reason)
 
 trust_reason : (a : Asking) (t : Told) (found : Line) → is_reason (said.Trust t) ≡ true → IsTrustLine a t found → IsReasonLine found
-trust_reason a (told.Zone why n) found is by = (_, by.2)
-trust_reason a (told.Entry why n) found is by = (_, by.2)
 trust_reason a (told.NotSelfSigned n) found is by = (_, by.4)
-trust_reason a (told.NotVouched k) found is by = (_, by.2)
-trust_reason a (told.Unsigned k) found is by = (_, by.2)
-trust_reason a (told.Signature why n) found is by = (_, by.2)
 trust_reason a (told.Follows n) found is by = absurd (false≢true is)
+trust_reason a t found is by = (_, by.2)
 
 reason_line : (a : Asking) (t : Said) (found : Line) → is_reason t ≡ true → IsSaidLine a t found → IsReasonLine found
 reason_line a (said.Trust t) found is by = trust_reason a t found is by
 reason_line a (said.NoCloser n c) found is by = (_, by.4)
-reason_line a (said.Dname d) found is by = (_, by.2)
-reason_line a (said.DnameHeld n number) found is by = (_, by.2)
-reason_line a (said.Nsec3 why number) found is by = (_, by.2)
 reason_line a (said.Source why n x) found is by = (_, by.4)
-reason_line a (said.AnswerMissing n) found is by = (_, by.2)
-reason_line a (said.DenialUnproved n) found is by = (_, by.2)
 reason_line a (said.DsUnproved c) found is by = (_, by.4)
+reason_line a t found is by = (_, by.2)
 
 later : {X : Type 0} (x y : X) (xs : List X) → Contains xs y → Contains (x ∷ xs) y
 later x y xs (k, within, is) = (suc k, omega (arith, within), is)
@@ -75,7 +67,7 @@ reason_said a (t ∷ ts) lines all some (inr (none, others)) = absurd (none all.
 
 -- ---- what is told
 
-all_from : {X : Type 0} (P : X → Type 0) (xs : List X) → ((x : X) → IsAmong x xs → P x) → AllByRecursion P xs
+pub all_from : {X : Type 0} (P : X → Type 0) (xs : List X) → ((x : X) → IsAmong x xs → P x) → AllByRecursion P xs
 all_from P [] each = tt
 all_from P (x ∷ xs) each = (each x (inl refl), all_from P xs (λ y among. each y (inr among)))
 

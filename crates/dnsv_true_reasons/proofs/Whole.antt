@@ -43,7 +43,7 @@ use Rattle.dnsv_faults.specs.Zones.{AreZoneFacts}
 use Rattle.dnsv_faults.proofs.lemmas.zones.ClosedLemmas.{among_of, closed_signature, contains_of}
 use Rattle.dnsv_faults.proofs.lemmas.zones.InPlaceLemmas.{at_or_above, signer_there}
 use Rattle.dnsv_faults.proofs.lemmas.zones.TrustLemmas.{number_of, zip_right}
-use Rattle.dnsv_zone_keys.proofs.lemmas.ZoneKeyLemmas.{same_number}
+use Rattle.dnsv_canonical.proofs.NumberLemmas.{one_numbered}
 use Rattle.dnsv_gaps.specs.Asking.{Asking}
 use Rattle.dnsv_gaps.specs.Cases.{AreRecordsAt, AreShowing, AreWildcardFacts, IsBestCover, IsRuledOut, IsSourceCase}
 use Rattle.dnsv_gaps.specs.Cases.AreShowing.{needless, by_records}
@@ -69,7 +69,7 @@ pub goal_owner : (a : Asking) (q : QuestionFacts) → AreQuestionFacts a q → (
     → SameName are.rrset.owner a.name × ((are.rrset.rtype ≡ a.rtype) ⊎ (are.rrset.rtype ≡ 5))
 goal_owner a q of_q g are among =
     let such = (of_q.goals.members g.number).0 (contains_of g.number _ (mapped_among (λ (each : GoalFacts). each.number) q.goals.items g among)) in
-    let same = same_number a.basis.rrsets g.number such.0 are.rrset such.1 are.numbered in
+    let same = one_numbered a.basis.rrsets g.number such.0 are.rrset such.1 are.numbered in
     subst (λ (r : ReceivedRrset). SameName r.owner a.name × ((r.rtype ≡ a.rtype) ⊎ (r.rtype ≡ 5))) same (such.2.owner, such.2.its_type)
 
 pub goal_facts : (a : Asking) (q : QuestionFacts) → AreQuestionFacts a q → (g : GoalFacts) → IsAmong g q.goals.items → AreGoalFacts a g
@@ -126,7 +126,7 @@ module _ (a : Asking) (zones : List ZoneFacts) (of_zones : AreZoneFacts a.basis 
         let set_owner : SameName good.set.owner zone = subst (λ (o : Labels). SameName o zone) good.stands.owner (admissible.zone_key.owner ∙ same) in
         let listed = number_of a.basis.rrsets good.set (trusted_among good.trusted) in
         trusted_zone s.signature.signer there.z listed.0 good.set there.is listed.1 set_owner (trusted_rtype good.trusted)
-        (λ r its. its.trusted.1 (subst (λ (x : ReceivedRrset). chain.IsTrusted a.basis.meaning a.basis.moment a.basis.rrsets a.basis.anchors x) (same_number a.basis.rrsets listed.0 good.set its.set listed.1 its.numbered) good.trusted))
+        (λ r its. its.trusted.1 (subst (λ (x : ReceivedRrset). chain.IsTrusted a.basis.meaning a.basis.moment a.basis.rrsets a.basis.anchors x) (one_numbered a.basis.rrsets listed.0 good.set its.set listed.1 its.numbered) good.trusted))
 
     pub closer_of : (g : GoalFacts) (s : AnswerSignature) (c : CloserFacts) → IsAmong g q.goals.items → IsAmong s g.signatures.items → s.closer ≡ Some c
         → AreOf s.signature.signer c.covers.items
@@ -199,11 +199,8 @@ module _ (a : Asking) (zones : List ZoneFacts) (of_zones : AreZoneFacts a.basis 
       showing_of name facts (by_records needs are) r among = of_encloser name facts are r among
 
       case_of : (c : SourceCase) → IsSourceCase a.basis (source_said a (rightmost a.name n) chain) (rightmost a.name n) a.name a.rtype c → IsCaseOf n c
-      case_of (case.Closed c) is = tt
       case_of (case.At r) is = at_of a.name r is.2
-      case_of case.Apex is = tt
       case_of (case.NonTerminal rrsets) is = of_empty a.name rrsets.items is.4
-      case_of case.NoEncloser is = tt
       case_of (case.Encloser e) is =
           let its = is.1 in
           let next : Labels = rightmost a.name e.next in (
@@ -213,14 +210,12 @@ module _ (a : Asking) (zones : List ZoneFacts) (of_zones : AreZoneFacts a.basis 
               wildcard_of_case next (wildcard_of (rightmost a.name e.name)) e.wildcard its.wildcard,
             ),
           )
+      case_of c is = tt
 
       cut_case_of : (HasOut : Type 0) (parent name : Labels) (c : CutCase) → IsCutCase a.basis (source_said a (rightmost a.name n) chain) HasOut parent name c → IsCutCaseOf n c
       cut_case_of HasOut parent name (cut.Delegation rrsets) is = of_types name _ rrsets.items is.1
-      cut_case_of HasOut parent name cut.NoCut is = tt
-      cut_case_of HasOut parent name (cut.Signed s) is = tt
       cut_case_of HasOut parent name (cut.OptOut o) is = (of_encloser parent o.shown.items is.2, of_opted name o.covers.items is.3)
-      cut_case_of HasOut parent name cut.Uncovered is = tt
-      cut_case_of HasOut parent name cut.Unmatched is = tt
+      cut_case_of HasOut parent name c is = tt
 
     -- ---- the question
 

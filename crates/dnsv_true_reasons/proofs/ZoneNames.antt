@@ -14,7 +14,7 @@ use Rattle.dnsv_canonical.specs.declared.number.SignatureNumber.{SignatureNumber
 use Rattle.dnsv_canonical.proofs.OrderLemmas.{each_of}
 use Rattle.dnsv_chain.specs.Anchor.{anchor_owner}
 use Rattle.dnsv_chain.specs.declared.anchor.Anchor.{Anchor}
-use Rattle.dnsv_verdict.proofs.SearchLemmas.NumberLemmas.{IsOneAt, each_number}
+use Rattle.dnsv_canonical.proofs.NumberLemmas.{each_number, IsOneAt, one_numbered}
 use Rattle.dnsv_lines.specs.declared.line.Line.{Line}
 use Rattle.dnsv_lines.specs.declared.line.Line.TheVariants as line
 use Rattle.dnsv_lines.specs.declared.line.derivation.KeyName.{KeyName}
@@ -41,7 +41,6 @@ use Rattle.dnsv_faults.specs.Signatures.{AreSignatureFacts}
 use Rattle.dnsv_faults.specs.Zones.{AreZoneFacts}
 use Rattle.dnsv_faults.proofs.lemmas.zones.ClosedLemmas.{contains_of}
 use Rattle.dnsv_faults.proofs.lemmas.zones.TrustLemmas.{zip_left}
-use Rattle.dnsv_zone_keys.proofs.lemmas.ZoneKeyLemmas.{same_number}
 use Rattle.dnsv_gaps.specs.Asking.{Asking}
 use Rattle.dnsv_reasons.specs.Lines.{IsTrustLine}
 use Rattle.dnsv_reasons.specs.Places.{IsEntry, IsShown, anchor_entry, ds_entry, shown_of}
@@ -271,7 +270,7 @@ module _ (a : Asking) where
         records = λ ds v in_ds among.
             let of = ds_of ds in_ds in
             let here = each_of (IsOneAt a.basis.rrsets zone 43) numbers of.0 (each_number a.basis.rrsets zone 43) of.1 in
-            let same = same_number a.basis.rrsets of.0 here.rrset of.2.set here.is_rrset of.2.numbered in
+            let same = one_numbered a.basis.rrsets of.0 here.rrset of.2.set here.is_rrset of.2.numbered in
             says_record zone of.0 ds of.2 v (subst (λ (x : ReceivedRrset). x.rtype ≡ 43) same here.same_type) among;
         dnskeys = λ r among.
             let of = zip_left (AreDnskeyFacts a.basis zone) (numbers_at a.basis.rrsets zone 48) z.dnskeys.items r facts.dnskeys (contains_of r z.dnskeys.items among) in

@@ -1,5 +1,5 @@
 -- What is answered to signed octets, test by test.
-use Rattle.std.proofs.Common.{◌≡◌, ◌⊎◌, ℕ, ◌+◌, ◌<◌, List, [], ◌∷◌, true, false, Option, Some, None, Result, Ok, Err, inl, inr, refl, ap, ◌∙◌, suc, zero, take, get_or, length, arith, nat_eq, ◌&&◌, add-one}
+use Rattle.std.proofs.Common.{◌≡◌, ◌⊎◌, ℕ, ◌+◌, ◌<◌, List, [], ◌∷◌, true, false, Option, Some, None, Result, Err, inl, inr, refl, ap, ◌∙◌, suc, zero, take, get_or, length, arith, nat_eq, ◌&&◌, add-one}
 use Rattle.std.specs.Result.{IsOk}
 use Rattle.std.specs.Str.{bytes_eq}
 use Rattle.dnsv_names.specs.Name.{Labels, same_name}
@@ -9,10 +9,10 @@ use Rattle.dnsv_message.specs.Message.{Contents, records_of}
 use Rattle.dnsv_message.specs.Grammar.{FaultOf, MessageOf}
 use Rattle.dnsv_message.specs.Tail.{TailAt}
 use Rattle.dnsv_tsig.specs.declared.error.TsigError.{TsigError}
-use Rattle.dnsv_tsig.specs.declared.error.TsigError.TheVariants.{OutOfMemory, BadKey, NoTsig, Form}
+use Rattle.dnsv_tsig.specs.declared.error.TsigError.TheVariants.{OutOfMemory, NoTsig, Form}
 use Rattle.dnsv_tsig.specs.Errors.{unreadable_as}
 use Rattle.dnsv_tsig.specs.Key.{SharedKey, key_named}
-use Rattle.dnsv_tsig.specs.Mac.{stripped, tsig_mac_of}
+use Rattle.dnsv_tsig.specs.Mac.{tsig_mac_of}
 use Rattle.dnsv_tsig.specs.Opened.{OpenedMessage}
 use Rattle.dnsv_tsig.specs.Tsig.{TsigFields}
 use Rattle.dnsv_tsig.specs.Answer.{answer_by, failed_test, hmac_sha256_name, tsig_answer_of, unreadable, readable, unsigned, misformed, signed, LacksTsig, IsSigned}
@@ -34,25 +34,6 @@ pub same_more : (a b : List ℕ) (i : ℕ) → i < length a → i < length b
 same_more a b i in_a in_b = rw add-one (same_at a b i in_a in_b)
 
 module _ (now : ℕ) (request : Option (List ℕ)) (octets : List ℕ) (place : ℕ) (owner : Labels) (tsig : TsigFields) where
-  pub no_key : (found : Option SharedKey) → found ≡ None → Err BadKey ≡ answer_by found now request octets place owner tsig
-  no_key found none = rw none refl
-
-  pub no_algorithm : (found : Option SharedKey) (key : SharedKey) → found ≡ Some key → same_name tsig.algorithm hmac_sha256_name ≡ false
-      → Err BadKey ≡ answer_by found now request octets place owner tsig
-  no_algorithm found key some other = rw (some, other) refl
-
-  pub no_pass : (found : Option SharedKey) (key : SharedKey) (right : List ℕ) (error : TsigError) → found ≡ Some key → same_name tsig.algorithm hmac_sha256_name ≡ true
-      → right ≡ tsig_mac_of key.secret request octets place owner tsig → failed_test tsig right now ≡ Some error
-      → Err error ≡ answer_by found now request octets place owner tsig
-  no_pass found key right error some known mac failed =
-      rw (some, known, ← mac, failed) refl
-
-  pub passed : (found : Option SharedKey) (key : SharedKey) (right : List ℕ) → found ≡ Some key → same_name tsig.algorithm hmac_sha256_name ≡ true
-      → right ≡ tsig_mac_of key.secret request octets place owner tsig → failed_test tsig right now ≡ None
-      → ◌≡◌ {A = Result OpenedMessage TsigError} (Ok (record { message = stripped octets place tsig.original_id; key = key.name })) (answer_by found now request octets place owner tsig)
-  passed found key right some known mac failed =
-      rw (some, known, ← mac, failed) refl
-
   -- so a message that passes all tests is accepted
   pub accepted : (found : Option SharedKey) (key : SharedKey) (right : List ℕ) → found ≡ Some key → same_name tsig.algorithm hmac_sha256_name ≡ true
       → right ≡ tsig_mac_of key.secret request octets place owner tsig → failed_test tsig right now ≡ None

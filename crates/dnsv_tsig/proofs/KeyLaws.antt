@@ -28,10 +28,9 @@ one_key line key other p q =
 one_fault : (line : NumberedLine) (before : List SharedKey) (a b : KeyFileError) → IsFaultOfLine a line before
     → IsFaultOfLine b line before → a ≡ b
 one_fault line before OutOfMemory b p q = absurd p
-one_fault line before (Syntax m) OutOfMemory p q = absurd q
 one_fault line before (Syntax m) (Syntax n) p q = ap (λ k. Syntax k) (p.0 ∙ sym q.0)
 one_fault line before (Syntax m) (DuplicateKey n) p q = absurd (p.1 q.1.0 q.1.1)
-one_fault line before (DuplicateKey m) OutOfMemory p q = absurd q
+one_fault line before a OutOfMemory p q = absurd q
 one_fault line before (DuplicateKey m) (Syntax n) p q = absurd (q.1 p.1.0 p.1.1)
 one_fault line before (DuplicateKey m) (DuplicateKey n) p q = ap (λ k. DuplicateKey k) (p.0 ∙ sym q.0)
 

@@ -1,5 +1,5 @@
 -- Files of keys, a line at a time.
-use Rattle.std.proofs.Common.{◌≡◌, ◌⊎◌, ℕ, Result, Err, List, [], ◌∷◌, ◌++◌, None, inl, inr, ⊎_elim, refl, sym, ap, ◌∙◌, subst, length, get_or, arith}
+use Rattle.std.proofs.Common.{◌≡◌, ◌⊎◌, ℕ, Result, Err, List, [], ◌∷◌, ◌++◌, None, inl, inr, ⊎_elim, refl, sym, ap, ◌∙◌, subst}
 use Rattle.base64.specs.Engines.{standard}
 use Rattle.base64.specs.GeneralPurpose.{encode_of}
 use Rattle.dnsv_names.proofs.LineFileLemmas.{SaysOrFails, SayTogether, begins, first_fault, first_fault_told, say_more, values_or_fault}
@@ -15,13 +15,6 @@ use Rattle.dnsv_tsig.specs.Key.{SharedKey, key_named}
 use Rattle.dnsv_tsig.specs.KeyFile.{BeginsWithKey, HaveOwnNames, IsFaultOfLine, IsKeyFault, IsKeyLine, IsRingOf}
 use Rattle.dnsv_tsig.specs.KeyReading.{IsKeyText}
 use Rattle.dnsv_tsig.proofs.KeyLaws.{key_file}
-
--- two fields, as they are taken out of a list of two
-pub two_items : {X : Type 0} (xs : List X) (d : X) → length xs ≡ 2 → xs ≡ get_or xs 0 d ∷ get_or xs 1 d ∷ []
-two_items [] d size = absurd (omega (arith, size))
-two_items (x ∷ []) d size = absurd (omega (arith, size))
-two_items (x ∷ y ∷ []) d size = refl
-two_items (x ∷ y ∷ z ∷ xs) d size = absurd (omega (arith, size))
 
 -- ---- a line, before memory is taken for its key
 

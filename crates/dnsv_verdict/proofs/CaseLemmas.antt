@@ -50,9 +50,7 @@ settled_stands S rrsets name t (SecureAlias k s) is = inr (inl (is.1, (k, s, is.
 settled_stands S rrsets name t (SecureNoName proof) is = inr (inr (inl (can_be S rrsets name _ _ proof is.2)))
 settled_stands S rrsets name t (SecureNoData proof) is = inr (inr (inr (inl (can_be S rrsets name _ _ proof is.3))))
 settled_stands S rrsets name t (Insecure cut) is = inr (inr (inr (inr (unsigned_stands S rrsets name t cut is.4))))
-settled_stands S rrsets name t (Pending entries) is = absurd is
-settled_stands S rrsets name t Bogus is = absurd is
-settled_stands S rrsets name t Indeterminate is = absurd is
+settled_stands S rrsets name t verdict is = absurd is
 
 -- ---- one case, or else the others
 
@@ -152,9 +150,7 @@ module _ (S : ℕ → ℕ → Type 0) (rrsets : List ReceivedRrset) (name : Labe
   first_as t (SecureNoName proof) is = inr (is.0, inr (is.1, inl (proof, refl, is.2)))
   first_as t (SecureNoData proof) is = inr (is.0, inr (is.1, inr (is.2, inl (proof, refl, is.3))))
   first_as t (Insecure cut) is = inr (is.0, inr (is.1, inr (is.2, inr (is.3, (cut, refl, is.4)))))
-  first_as t (Pending entries) is = absurd is
-  first_as t Bogus is = absurd is
-  first_as t Indeterminate is = absurd is
+  first_as t verdict is = absurd is
 
   pub one_settled_as : (t : ℕ) → IsOne (IsSettledAs S rrsets name t)
   one_settled_as t a b p q = one_first t a b (first_as t a p) (first_as t b q)
@@ -181,14 +177,10 @@ one_of basis name t =
     (one_else (HasAnchor basis.anchors name) _ _ (λ v p. p.0) (λ a b p q. p.1 ∙ sym q.1) (λ a b p q. p ∙ sym q)))
 
 first_of_eight : (basis : Basis) (name : Labels) (t : ℕ) (verdict : Verdict) → IsVerdictAt basis name t verdict → FirstOf basis name t verdict
-first_of_eight basis name t (SecureAnswer k s) is = inl is
-first_of_eight basis name t (SecureAlias k s) is = inl is
-first_of_eight basis name t (SecureNoName proof) is = inl is
-first_of_eight basis name t (SecureNoData proof) is = inl is
-first_of_eight basis name t (Insecure cut) is = inl is
 first_of_eight basis name t (Pending entries) is = inr (is.0, inl (is.1, (entries, refl, is.2)))
 first_of_eight basis name t Bogus is = inr (is.0, inr (is.1, inl (is.2, refl)))
 first_of_eight basis name t Indeterminate is = inr (is.0, inr (is.1, inr (is.2, refl)))
+first_of_eight basis name t verdict is = inl is
 
 -- there is only one verdict
 pub one_verdict : (basis : Basis) (name : Labels) (t : ℕ) (a b : Verdict) → IsVerdictAt basis name t a → IsVerdictAt basis name t b → a ≡ b

@@ -70,13 +70,6 @@ at_most_each rrsets all limit are names each =
     sum_at_most (λ name. hashes_for name all) 1022040 names
     (λ name there. few_for rrsets name all limit are (member_passes IsName names name each there))
 
-again : (limit before more : ℕ) → min (before + min (0 + more) limit) limit ≡ min (before + more) limit
-again limit before more = omega arith
-
--- to count what was counted by itself is to count it
-pub counted_again : (before more : ℕ) → counted before (counted 0 more) ≡ counted before more
-counted_again before more = again count_limit before more
-
 exact : (limit n : ℕ) → n ≤ limit → min (0 + n) limit ≡ n
 exact limit n few = omega arith
 

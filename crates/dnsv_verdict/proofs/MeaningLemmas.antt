@@ -55,21 +55,15 @@ module _ (S : ℕ → ℕ → Type 0) (rrsets : List ReceivedRrset) (name : Labe
   settled_means t (Insecure cut) is =
       ⊎_elim (λ (above : IsUnsignedCut S rrsets name cut). inl (cut_means S rrsets name cut above))
       (λ (opt_out : (¬ HasUnsignedCut S rrsets name) × IsOptOutWildcardCut S rrsets name t cut). inr (opt_out_means t cut opt_out.1)) is.4
-  settled_means t (Pending entries) is = absurd is
-  settled_means t Bogus is = absurd is
-  settled_means t Indeterminate is = absurd is
+  settled_means t verdict is = absurd is
 
 -- what a verdict says is so of zones
 pub verdict_means : (basis : Basis) (name : Labels) (t : ℕ) (verdict : Verdict) → IsVerdictAt basis name t verdict
     → IsTrueOfZones (IsSecured basis.meaning basis.moment basis.rrsets basis.anchors) basis.rrsets name t verdict
-verdict_means basis name t (SecureAnswer k s) is = settled_means _ basis.rrsets name t (SecureAnswer k s) is
-verdict_means basis name t (SecureAlias k s) is = settled_means _ basis.rrsets name t (SecureAlias k s) is
-verdict_means basis name t (SecureNoName proof) is = settled_means _ basis.rrsets name t (SecureNoName proof) is
-verdict_means basis name t (SecureNoData proof) is = settled_means _ basis.rrsets name t (SecureNoData proof) is
-verdict_means basis name t (Insecure cut) is = settled_means _ basis.rrsets name t (Insecure cut) is
 verdict_means basis name t (Pending entries) is = tt
 verdict_means basis name t Bogus is = tt
 verdict_means basis name t Indeterminate is = tt
+verdict_means basis name t verdict is = settled_means _ basis.rrsets name t verdict is
 
 -- and so is what each alias on a way says
 pub aliases_mean : (basis : Basis) (t : ℕ) (name : Labels) (links : List Link) (last : Labels) → LeadTo basis t name links last

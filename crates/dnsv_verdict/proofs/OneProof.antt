@@ -26,8 +26,7 @@ use Rattle.dnsv_canonical.specs.declared.number.RecordNumber.{RecordNumber}
 
 then_Equal : (a b : Ordering) → ordering_then a b ≡ Equal → (a ≡ Equal) × (b ≡ Equal)
 then_Equal Equal b e = (refl, e)
-then_Equal Less b e = cc
-then_Equal Greater b e = cc
+then_Equal a b e = cc
 
 pub number_total : IsTotalOrder number_cmp
 number_total = then_total (on_total (λ (n : RecordNumber). n.rrset) nat_cmp_total) (on_total (λ (n : RecordNumber). n.place) nat_cmp_total)

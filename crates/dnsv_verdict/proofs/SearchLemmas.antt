@@ -1,6 +1,5 @@
 -- The first signature that is such, and the first RRset.
 pub mod FirstSuchLemmas
-pub mod NumberLemmas
 pub mod OptOutLemmas
 pub mod ViewLemmas
 use Rattle.std.proofs.Common.{◌≡◌, ◌≢◌, ◌⊎◌, ℕ, zero, suc, ◌+◌, ◌-◌, ◌<◌, ◌≤◌, true, false, List, [], ◌∷◌, refl, sym, subst, arith, length, get_or, inl, inr, ⊎_elim}
@@ -17,7 +16,7 @@ use Rattle.dnsv_records.specs.Rrsig.{IsRrsig}
 use Rattle.dnsv_records.specs.declared.rrsig.Rrsig.{Rrsig}
 use Rattle.dnsv_canonical.specs.Index.{numbers_at}
 use Rattle.dnsv_canonical.specs.Rrsets.{IsNumbered, ReceivedRrset}
-use Rattle.dnsv_verdict.proofs.SearchLemmas.NumberLemmas.{IsOneAt, each_number, has_number, numbers_rise}
+use Rattle.dnsv_canonical.proofs.NumberLemmas.{IsOneAt, each_number, has_number, numbers_rise}
 use Rattle.dnsv_verdict.specs.Secure.{IsFirstSuch, IsSecuredAt}
 use Rattle.dnsv_chain.specs.Trust.{KeptTrust, SecuredIn, signed_of}
 use Rattle.dnsv_verdict.specs.Search.{IsFirstFound, IsFound}

@@ -15,7 +15,7 @@ use Rattle.dnsv_verdict.specs.Insecure.{IsOptOutWildcard, IsOptOutWildcardCut, I
 use Rattle.dnsv_verdict.specs.Secure.{HoldsForName, IsFirstSuch, IsSecureSet, IsSecuredAt}
 use Rattle.dnsv_verdict.specs.Settled.{HasAlias, HasAnswer, IsSettled, IsSettledAs}
 use Rattle.dnsv_verdict.specs.declared.verdict.Verdict.{Verdict}
-use Rattle.dnsv_verdict.specs.declared.verdict.Verdict.TheVariants.{SecureAnswer, SecureAlias, SecureNoName, SecureNoData, Insecure, Pending, Bogus, Indeterminate}
+use Rattle.dnsv_verdict.specs.declared.verdict.Verdict.TheVariants.{SecureAnswer, SecureAlias, SecureNoName, SecureNoData, Insecure}
 
 -- ---- more secured signatures settle no less
 
@@ -120,6 +120,4 @@ module _ (S T : ℕ → ℕ → Type 0) (to : (k s : ℕ) → S k s → T k s) (
     λ can. is.3 (no_data_can_to T S from rrsets rrsets same name t can),
     unsigned_from_to name t cut is.4,
   )
-  settled_as_to name t (Pending entries) is = is
-  settled_as_to name t Bogus is = is
-  settled_as_to name t Indeterminate is = is
+  settled_as_to name t verdict is = is

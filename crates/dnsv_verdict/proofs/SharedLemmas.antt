@@ -1,17 +1,11 @@
 -- What the questions of one case share.
-use Rattle.std.proofs.Common.{◌≡◌, ◌∙◌, ℕ, List, [], ◌∷◌, ◌++◌, ap}
+use Rattle.std.proofs.Common.{◌≡◌, List, [], ◌∷◌, ◌++◌}
 use Rattle.std.specs.Prelude.{Contains}
-use Rattle.dnsv_names.specs.Count.{counted}
 use Rattle.dnsv_names.specs.Name.{Labels}
-use Rattle.dnsv_records.specs.declared.nsec3.Nsec3Parameters.{Nsec3Parameters}
-use Rattle.dnsv_zones.specs.chains.HashedNames.{hashes_for}
 use Rattle.dnsv_canonical.proofs.CanonicalLemmas.{IsMember-from_contains, member_passes}
-use Rattle.dnsv_canonical.specs.Evidence.{AreParameters, nsec3_rdata}
 use Rattle.dnsv_canonical.specs.Rrsets.{ReceivedRrset}
 use Rattle.dnsv_denial.specs.QuestionHashes.{HashedQuestion}
-use Rattle.dnsv_verdict.proofs.HashedLemmas.{counted_again}
 use Rattle.dnsv_verdict.specs.Case.Shared.{AreHashedIn}
-use Rattle.dnsv_verdict.specs.Hashed.{AreDigestsFor}
 use Rattle.dnsv_verdict.specs.Report.{hashed_in}
 
 -- one that is kept for the name is the one of the evidence
@@ -26,10 +20,3 @@ pub one_hashed_more : (rrsets : List ReceivedRrset) (names : List HashedQuestion
     → AreHashedIn rrsets names → made.rrsets ≡ rrsets → AreHashedIn rrsets (names ++ made ∷ [])
 one_hashed_more rrsets [] made are is = (is, tt)
 one_hashed_more rrsets (first ∷ names) made are is = (are.0, one_hashed_more rrsets names made are.1 is)
-
--- to count the digests of a name that were counted before is to count what hashes it
-pub digests_again : (question : HashedQuestion) (digests before after : ℕ) → AreDigestsFor question digests
-    → after ≡ counted before digests
-    → (all : List Nsec3Parameters) → AreParameters (nsec3_rdata question.rrsets) all → after ≡ counted before (hashes_for question.name all)
-digests_again question digests before after are is all parameters =
-    is ∙ ap (counted before) (are all parameters) ∙ counted_again before (hashes_for question.name all)

@@ -1,5 +1,5 @@
 -- What is kept of a way while it is followed, beside what `FollowLemmas` says.
-use Rattle.std.proofs.Common.{◌≡◌, ℕ, Option, None, List, [], ◌∷◌, ◌++◌, map, refl, sym, ap, ◌∙◌, subst}
+use Rattle.std.proofs.Common.{◌≡◌, ℕ, Option, None, List, [], ◌∷◌, ◌++◌, map, sym, ap, ◌∙◌, subst}
 use Rattle.std.specs.Prelude.{IsFalse, IsTrue}
 use Rattle.std.proofs.lemmas.List.{map-append}
 use Rattle.dnsv_names.specs.Name.{Labels}
@@ -14,19 +14,13 @@ use Rattle.dnsv_verdict.specs.declared.at_name.Hope.{Hope}
 use Rattle.dnsv_verdict.specs.declared.link.Link.{Link}
 use Rattle.dnsv_verdict.specs.declared.trail.Trail.{Trail}
 use Rattle.dnsv_verdict.specs.declared.verdict.Verdict.{Verdict}
-use Rattle.dnsv_verdict.specs.declared.verdict.Verdict.TheVariants.{SecureAnswer, SecureAlias, SecureNoName, SecureNoData, Insecure, Pending, Bogus, Indeterminate}
+use Rattle.dnsv_verdict.specs.declared.verdict.Verdict.TheVariants.{SecureAlias, Pending}
 
 -- what is settled is not hoped
 pub settled_without_hope : (case : CaseContents) (Secured : ℕ → ℕ → Type 0) (rrsets : List ReceivedRrset) (name : Labels) (t : ℕ) (verdict : Verdict)
     (hope : Option Hope) → IsSettledAs Secured rrsets name t verdict → hope ≡ None → HasHope case name t verdict hope
-settled_without_hope case Secured rrsets name t (SecureAnswer k s) hope is none = none
-settled_without_hope case Secured rrsets name t (SecureAlias k s) hope is none = none
-settled_without_hope case Secured rrsets name t (SecureNoName proof) hope is none = none
-settled_without_hope case Secured rrsets name t (SecureNoData proof) hope is none = none
-settled_without_hope case Secured rrsets name t (Insecure cut) hope is none = none
 settled_without_hope case Secured rrsets name t (Pending entries) hope is none = absurd is
-settled_without_hope case Secured rrsets name t Bogus hope is none = none
-settled_without_hope case Secured rrsets name t Indeterminate hope is none = none
+settled_without_hope case Secured rrsets name t verdict hope is none = none
 
 -- ---- one name
 
@@ -51,13 +45,6 @@ pub record IsTrailOf (rrsets : List ReceivedRrset) (names : List Labels) (start 
   pub each_name : IsTrue start.keeps → IsEmpty start → kept_hashes trail ≡ map (hashed_in rrsets) names
   pub none : IsTrue start.keeps → IsEmpty start → trail.hope ≡ None
   pub unkept : IsFalse start.keeps → trail ≡ start
-
-none_kept : (trail : Trail) → IsEmpty trail → kept_hashes trail ≡ []
-none_kept trail empty = let none = empty.hashes in rw none refl
-
-pub no_trail : (rrsets : List ReceivedRrset) (start : Trail) → IsTrailOf rrsets [] start start
-no_trail rrsets start =
-    record { keeps = refl; each_name = λ keeps empty. none_kept start empty; none = λ keeps empty. empty.hope; unkept = λ not. refl }
 
 -- the hashes of one name more
 each_name_more : (case : CaseContents) (t : ℕ) (names : List Labels) (name : Labels) (verdict : Verdict) (start before after : Trail)

@@ -14,7 +14,7 @@ use Rattle.dnsv_verdict.specs.Settled.{IsSettled, IsSettledAs}
 use Rattle.dnsv_verdict.specs.Verdict.{Basis, IsSettledAsBy, IsSettledBy, IsVerdictAt, basis_of}
 use Rattle.dnsv_verdict.specs.Case.{CaseContents}
 use Rattle.dnsv_verdict.specs.declared.verdict.Verdict.{Verdict}
-use Rattle.dnsv_verdict.specs.declared.verdict.Verdict.TheVariants.{SecureAnswer, SecureAlias, SecureNoName, SecureNoData, Insecure, Pending, Bogus, Indeterminate}
+use Rattle.dnsv_verdict.specs.declared.verdict.Verdict.TheVariants.{Pending, Bogus, Indeterminate}
 
 module _ (meaning : Entry → Answer) (moment : ℕ) (rrsets : List ReceivedRrset) (anchors : List Anchor)
     (contents : TableContents) (trust : KeptTrust)
@@ -64,11 +64,7 @@ unsettled_on case meaning moment table says depends is name t none =
 
 -- what is settled is the verdict
 pub settled_is_verdict : (basis : Basis) (name : Labels) (t : ℕ) (verdict : Verdict) → IsSettledAsBy basis name t verdict → IsVerdictAt basis name t verdict
-settled_is_verdict basis name t (SecureAnswer k s) is = is
-settled_is_verdict basis name t (SecureAlias k s) is = is
-settled_is_verdict basis name t (SecureNoName proof) is = is
-settled_is_verdict basis name t (SecureNoData proof) is = is
-settled_is_verdict basis name t (Insecure cut) is = is
 settled_is_verdict basis name t (Pending entries) is = absurd is
 settled_is_verdict basis name t Bogus is = absurd is
 settled_is_verdict basis name t Indeterminate is = absurd is
+settled_is_verdict basis name t verdict is = is

@@ -32,18 +32,15 @@ Unknowns meaning entries =
 one_more : (meaning : Entry → Answer) (e : Entry) (entries : List Entry) (answer : Answer)
     → map (λ (each : Entry × Answer). each.0) (cond (is_unknown answer) ((e, answer) ∷ filter (λ each. is_unknown each.1) (map (λ entry. (entry, meaning entry)) entries)) (filter (λ each. is_unknown each.1) (map (λ entry. (entry, meaning entry)) entries)))
     ≡ OneMore e answer (Unknowns meaning entries)
-one_more meaning e entries Unknown = refl
 one_more meaning e entries Valid = refl
-one_more meaning e entries Invalid = refl
+one_more meaning e entries answer = refl
 
 member_in : (e entry : Entry) (answer : Answer) (rest : List Entry) → ((entry ≡ e) × (answer ≡ Unknown)) ⊎ IsMember entry rest
     → IsMember entry (OneMore e answer rest)
 member_in e entry Unknown rest (inl here) = inl here.0
 member_in e entry Unknown rest (inr later) = inr later
-member_in e entry Valid rest (inl here) = cc
-member_in e entry Valid rest (inr later) = later
-member_in e entry Invalid rest (inl here) = cc
-member_in e entry Invalid rest (inr later) = later
+member_in e entry answer rest (inl here) = cc
+member_in e entry answer rest (inr later) = later
 
 member_out : (e entry : Entry) (answer : Answer) (rest : List Entry) → IsMember entry (OneMore e answer rest)
     → ((entry ≡ e) × (answer ≡ Unknown)) ⊎ IsMember entry rest

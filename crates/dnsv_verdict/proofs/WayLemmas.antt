@@ -16,7 +16,7 @@ use Rattle.dnsv_verdict.specs.Verdict.{Basis, IsVerdictAt}
 use Rattle.dnsv_verdict.specs.Way.{AreApart, IsAlias, IsAmong, IsLink, IsTarget, IsVerdictOf, IsWay, LeadTo, most_links, names_on}
 use Rattle.dnsv_verdict.specs.declared.link.Link.{Link}
 use Rattle.dnsv_verdict.specs.declared.verdict.Verdict.{Verdict}
-use Rattle.dnsv_verdict.specs.declared.verdict.Verdict.TheVariants.{SecureAnswer, SecureAlias, SecureNoName, SecureNoData, Insecure, Pending, Bogus, Indeterminate}
+use Rattle.dnsv_verdict.specs.declared.verdict.Verdict.TheVariants.{SecureAlias}
 
 -- ---- one link, one target
 
@@ -255,11 +255,5 @@ last_is_question basis t name (link ∷ links) last leads asked = last_is_questi
 
 -- an alias, or none
 pub alias_or : (verdict : Verdict) → ((k : ℕ) × (s : ℕ) × (verdict ≡ SecureAlias k s)) ⊎ (¬ IsAlias verdict)
-alias_or (SecureAnswer k s) = inr (λ never. never)
 alias_or (SecureAlias k s) = inl (k, s, refl)
-alias_or (SecureNoName proof) = inr (λ never. never)
-alias_or (SecureNoData proof) = inr (λ never. never)
-alias_or (Insecure cut) = inr (λ never. never)
-alias_or (Pending entries) = inr (λ never. never)
-alias_or Bogus = inr (λ never. never)
-alias_or Indeterminate = inr (λ never. never)
+alias_or verdict = inr (λ never. never)

@@ -4,6 +4,7 @@ use Rattle.std.proofs.lemmas.List.Elements.{Contains-get_or}
 use Rattle.std.specs.List.{AllZip, Contains}
 use Rattle.dnsv_canonical.specs.Rrsets.{ReceivedRrset}
 use Rattle.dnsv_canonical.proofs.SignedLemmas.{signed_data_unique}
+use Rattle.dnsv_canonical.proofs.OrderLemmas.{zip_length}
 use Rattle.dnsv_records.specs.Rrsig.{IsRrsig}
 use Rattle.dnsv_records.specs.declared.rrsig.Rrsig.{Rrsig}
 use Rattle.dnsv_records.proofs.OneRecord.{one_rrsig}
@@ -12,7 +13,7 @@ use Rattle.dnsv_verifier.specs.Asking.{AddsJust, AreKeysOf, ComesOfSome, IsEntry
 use Rattle.dnsv_verifier.specs.Within.{IsAskedWithin}
 use Rattle.dnsv_verifier.specs.declared.entry.Entry.{Entry}
 use Rattle.dnsv_verifier.specs.declared.entry.parts.SignaturePart.{SignaturePart}
-use Rattle.dnsv_verifier.proofs.AskLemmas.{adds_same, zip_at, zip_length}
+use Rattle.dnsv_verifier.proofs.AskLemmas.{adds_same, zip_at}
 
 pub one_entry : (rrset : ReceivedRrset) (rrsig : Rrsig) (key : DnskeyRecord) (a b : Entry) → IsEntryOf rrset rrsig key a
     → IsEntryOf rrset rrsig key b → a ≡ b

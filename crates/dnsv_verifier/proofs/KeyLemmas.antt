@@ -5,12 +5,13 @@ use Rattle.std.proofs.lemmas.Bool.Decides.{nat_tests}
 use Rattle.std.specs.List.{AllZip}
 use Rattle.dnsv_canonical.specs.Rdata.{rdata_of_type}
 use Rattle.dnsv_canonical.specs.Rrsets.{ReceivedRrset}
+use Rattle.dnsv_canonical.proofs.OrderLemmas.{zip_length}
 use Rattle.dnsv_records.specs.Dnskey.{IsDnskey}
 use Rattle.dnsv_records.specs.declared.dnskey.Dnskey.{Dnskey}
 use Rattle.dnsv_records.proofs.OneRecord.{one_dnskey}
 use Rattle.dnsv_verifier.specs.Admissible.{DnskeyRecord}
 use Rattle.dnsv_verifier.specs.Asking.{AddsJust, AreKeysOf, ComesOfSome, IsKeyOf}
-use Rattle.dnsv_verifier.proofs.AskLemmas.{adds_nothing, adds_one, adds_more, adds_same, zip_at, zip_length}
+use Rattle.dnsv_verifier.proofs.AskLemmas.{adds_one, adds_more, adds_same, zip_at}
 
 -- the key is one of the RRset's first n records
 pub record IsKeyBefore (rrset : ReceivedRrset) (n : ℕ) (key : DnskeyRecord) : Type 0 where
@@ -44,9 +45,6 @@ module _ (rrset : ReceivedRrset) (dnskeys : List Dnskey) (are : AllZip IsDnskey 
       let read = read_of rrset dnskeys (rrset.rtype == 48) refl are n below in
       subst (λ (d : Dnskey). IsDnskey rdata d) (sym at)
       (subst (λ (r : List ℕ). IsDnskey r (get_or dnskeys n dnskey)) (there []) (zip_at IsDnskey rrset.rdata dnskeys n [] dnskey read.1 (within_rdata n below)))
-
-  pub keys_none : (a : List DnskeyRecord) → AddsJust (IsKeyBefore rrset 0) a a
-  keys_none a = adds_nothing (IsKeyBefore rrset 0) a (λ key before. absurd (omega (arith, before.below)))
 
   -- the key of one record more
   pub keys_more : (n : ℕ) (dnskey : Dnskey) (key : DnskeyRecord) (a b : List DnskeyRecord) → n < length dnskeys

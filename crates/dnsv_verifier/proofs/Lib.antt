@@ -10,5 +10,6 @@ pub mod NumberedLemmas
 pub mod PanelLemmas
 pub mod PlaceLemmas
 pub mod SearchLemmas
+pub mod SignedDataLemmas
 pub mod TableLemmas
 pub mod TimelyLemmas

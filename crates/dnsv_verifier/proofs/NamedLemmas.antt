@@ -10,7 +10,7 @@ use Rattle.std.specs.List.{Contains}
 use Rattle.std.specs.List.Sorted.{IsNonDecreasingBy, IsPartitionedBy, IsPartitionPoint, IsPermutation, IsSortedByKey}
 use Rattle.std.specs.Ordering.{is_le, is_lt, nat_cmp, ordering_index, ordering_then}
 use Rattle.std.specs.declared.cmp.Ordering.{Ordering}
-use Rattle.std.specs.declared.cmp.Ordering.TheVariants.{Less, Equal, Greater}
+use Rattle.std.specs.declared.cmp.Ordering.TheVariants.{Equal}
 use Rattle.dnsv_names.specs.RisingLaws.{le_before, lt_before}
 use Rattle.dnsv_names.specs.Order.{canonical_cmp}
 use Rattle.dnsv_names.specs.Order.OrderLaws.{SameName_Equal, canonical_Equal, canonical_cmp_total}
@@ -103,9 +103,8 @@ named_among xs start count x found =
     contains_rest start xs x (contains_front count (drop start xs) x found)
 
 lt_or_le : (order : Ordering) → is_lt order ≡ false → is_le order ≡ true → order ≡ Equal
-lt_or_le Less lt le = cc
 lt_or_le Equal lt le = refl
-lt_or_le Greater lt le = cc
+lt_or_le order lt le = cc
 
 module _ {X : Type 0} (name_of : X → KeyName) (xs : List X) (name : KeyName) (start count : ℕ)
     (from : IsPartitionPoint (λ x. is_lt (key_name_cmp (name_of x) name) ≡ true) (λ x. is_lt (key_name_cmp (name_of x) name) ≡ false) xs start)

@@ -7,12 +7,12 @@ use Rattle.std.proofs.lemmas.List.{append-nil, get_or-map, length-map, map-appen
 use Rattle.std.proofs.lemmas.List.Kept.{Contains-dedup, Contains-from_dedup, IsStrictlySortedBy-dedup}
 use Rattle.std.proofs.lemmas.List.Sorted.{Contains-permutation, IsPermutation-sym}
 use Rattle.std.proofs.lemmas.Map.Keys.{Less-from_sorted}
-use Rattle.std.specs.Cmp.{IsTotalOrder, both_tied, nat_cmp_is}
+use Rattle.std.specs.Cmp.{IsTotalOrder, both_tied, nat_cmp_is, unsigned_ties}
 use Rattle.std.specs.Cmp.Derive.{then_next}
 use Rattle.std.specs.Cmp.Lexicographic.{pointwise, texts_ties}
 use Rattle.std.specs.List.{AllByRecursion, Contains, HoldsAt, dedup, filter}
 use Rattle.std.specs.List.Sorted.{IsPermutation, IsSorted, IsStrictlySortedBy}
-use Rattle.std.specs.Ordering.{eq_by_cmp, is_eq, nat_cmp, ordering_then}
+use Rattle.std.specs.Ordering.{eq_by_cmp, nat_cmp, ordering_then}
 use Rattle.std.specs.declared.cmp.Ordering.{Ordering}
 use Rattle.std.specs.declared.cmp.Ordering.TheVariants.{Less, Equal, Greater}
 use Rattle.dnsv_names.specs.Octets.{octets_cmp}
@@ -22,7 +22,7 @@ use Rattle.dnsv_verifier.specs.EntryLaws.{octet_Equal, octets_Equal, then_Equal}
 use Rattle.dnsv_verifier.specs.Numbers.{AllOfParts, AreOfParts, PartLists, answers_of, entry_of, key_cmp, key_of, numbers_cmp, signature_cmp, signature_of}
 use Rattle.dnsv_verifier.specs.Table.{hoped_answer, is_unknown}
 use Rattle.dnsv_verifier.specs.declared.answer.Answer.{Answer}
-use Rattle.dnsv_verifier.specs.declared.answer.Answer.TheVariants.{Unknown, Valid, Invalid}
+use Rattle.dnsv_verifier.specs.declared.answer.Answer.TheVariants.{Unknown}
 use Rattle.dnsv_verifier.specs.declared.entry.Entry.{Entry}
 use Rattle.dnsv_verifier.specs.declared.entry.parts.EntryNumbers.{EntryNumbers}
 use Rattle.dnsv_verifier.specs.declared.entry.parts.KeyPart.{KeyPart}
@@ -44,14 +44,6 @@ contains_from_map f xs y found =
 
 pub contains_map : {X Y : Type 0} (f : X → Y) (xs : List X) (x : X) → Contains xs x → Contains (map f xs) (f x)
 contains_map f xs x found = Contains-from_member (map f xs) (f x) (member-map f xs x (IsMember-from_contains xs x found))
-
--- lists with the same members have the same mapped
-pub same_mapped : {X Y : Type 0} (f : X → Y) (a b : List X) → ((x : X) → Contains a x ↔ Contains b x) → (y : Y) → Contains (map f a) y ↔ Contains (map f b) y
-same_mapped {X} {Y} f a b same y =
-    let along : (c d : List X) → ((x : X) → Contains c x → Contains d x) → Contains (map f c) y → Contains (map f d) y =
-    λ c d to found. let from = contains_from_map f c y found in
-    subst (λ (z : Y). Contains (map f d) z) from.2 (contains_map f d from.0 (to from.0 from.1)) in
-    (along a b (λ x found. (same x).0 found), along b a (λ x found. (same x).1 found))
 
 pub at_front : {X : Type 0} (x : X) (xs : List X) → Contains (x ∷ xs) x
 at_front x xs = Contains-from_member (x ∷ xs) x (inl refl)
@@ -142,9 +134,6 @@ same_numbers numbers sorted distinct moves is each = (
   λ found. subst (λ (ns : List EntryNumbers). Contains ns each) (sym is) (Contains-dedup (eq_by_cmp_equiv numbers_cmp_total) exact_numbers sorted each (Contains-permutation numbers sorted each moves found)),
 )
 
-pub all_moved : (parts : PartLists) (numbers moved : List EntryNumbers) → ((each : EntryNumbers) → Contains moved each ↔ Contains numbers each) → AllOfParts parts numbers → AllOfParts parts moved
-all_moved parts numbers moved same all each found = all each ((same each).0 found)
-
 -- ---- looking for a part
 
 key_Equal : (a b : KeyPart) → key_cmp a b ≡ Equal → a ≡ b
@@ -165,23 +154,14 @@ signature_found signatures asked number d holds = signature_Equal (get_or signat
 
 -- ---- putting parts in order
 
-number_ties : (x y : ℕ) → nat_eq x y ≡ eq_by_cmp nat_cmp x y
-number_ties x y =
-    ⊎_elim
-    (λ (same : x ≡ y). let test : nat_eq x y ≡ true = grind (arith, nat_tests) in test ∙ ap is_eq (nat_cmp_is x y Equal same))
-    (⊎_elim
-    (λ (less : x < y). let test : nat_eq x y ≡ false = grind (arith, nat_tests) in test ∙ ap is_eq (nat_cmp_is x y Less less))
-    (λ (more : y < x). let test : nat_eq x y ≡ false = grind (arith, nat_tests) in test ∙ ap is_eq (nat_cmp_is x y Greater more)))
-    (cases_order x y)
-
 pub key_ties : (x y : KeyPart) → (nat_eq x.algorithm.0 y.algorithm.0 && pointwise nat_eq x.key y.key) ≡ eq_by_cmp key_cmp x y
-key_ties x y = both_tied _ _ _ _ (number_ties x.algorithm.0 y.algorithm.0) (texts_ties x.key y.key)
+key_ties x y = both_tied _ _ _ _ (unsigned_ties x.algorithm.0 y.algorithm.0) (texts_ties x.key y.key)
 
 pub signature_ties : (x y : SignaturePart) → (pointwise nat_eq x.signed_data y.signed_data && pointwise nat_eq x.signature y.signature) ≡ eq_by_cmp signature_cmp x y
 signature_ties x y = both_tied _ _ _ _ (texts_ties x.signed_data y.signed_data) (texts_ties x.signature y.signature)
 
 pub numbers_ties : (x y : EntryNumbers) → (nat_eq x.key y.key && nat_eq x.signature y.signature) ≡ eq_by_cmp numbers_cmp x y
-numbers_ties x y = both_tied _ _ _ _ (number_ties x.key y.key) (number_ties x.signature y.signature)
+numbers_ties x y = both_tied _ _ _ _ (unsigned_ties x.key y.key) (unsigned_ties x.signature y.signature)
 
 pub rising_keys : (sorted kept : List KeyPart) → IsSorted key_cmp sorted → kept ≡ dedup (λ x y. nat_eq x.algorithm.0 y.algorithm.0 && pointwise nat_eq x.key y.key) sorted → IsStrictlySortedBy key_cmp kept
 rising_keys sorted kept ordered is = subst (IsStrictlySortedBy key_cmp) (sym is) (IsStrictlySortedBy-dedup key_cmp_total key_ties sorted ordered)
@@ -250,11 +230,6 @@ module _ {X : Type 0} (f : EntryNumbers × Answer → X) (answers : List (EntryN
   none_unknown_more known =
       sym (unknown_more ∙ ap (λ t. map f (filter (λ (each : EntryNumbers × Answer). is_unknown each.1) (take i answers)) ++ map f (cond t (get_or answers i d ∷ []) [])) known
       ∙ append-nil (map f (filter (λ (each : EntryNumbers × Answer). is_unknown each.1) (take i answers))))
-
-pub not_unknown : (a : Answer) → (a ≡ Unknown → ⊥) → is_unknown a ≡ false
-not_unknown Unknown other = absurd (other refl)
-not_unknown Valid other = refl
-not_unknown Invalid other = refl
 
 pub filter_answers : (parts : PartLists) (answers : List (EntryNumbers × Answer)) → filter (λ (each : EntryNumbers × Answer). is_unknown each.1) answers ≡ [] → filter (λ (each : Entry × Answer). is_unknown each.1) (answers_of parts answers) ≡ []
 filter_answers parts [] none = refl

@@ -9,13 +9,10 @@ use Rattle.dnsv_verifier.specs.declared.answer.Answer.TheVariants.{Valid, Invali
 use Rattle.dnsv_verifier.specs.Panel.{joined, joint_answer}
 
 pub joined_assoc : (a b c : Answer) → joined a (joined b c) ≡ joined (joined a b) c
-joined_assoc Invalid b c = refl
-joined_assoc Unknown b c = refl
-joined_assoc Valid Invalid c = refl
-joined_assoc Valid Unknown c = refl
-joined_assoc Valid Valid Invalid = refl
 joined_assoc Valid Valid Valid = refl
-joined_assoc Valid Valid Unknown = refl
+joined_assoc Valid Valid c = refl
+joined_assoc Valid b c = refl
+joined_assoc a b c = refl
 
 -- one member more is asked
 pub asked_more : {M : Type 0} (said : M → Answer) (members : List M) (i : ℕ) (joint next answer : Answer) (member : M) → i < length members → member ≡ get_or members i member → answer ≡ said member → next ≡ joined joint answer → joint_answer (map said members) ≡ joined joint (joint_answer (map said (drop i members))) → joint_answer (map said members) ≡ joined next (joint_answer (map said (drop (i + 1) members)))
@@ -32,9 +29,8 @@ asked_all said members i joint past so_far =
     so_far ∙ ap (λ rest. joined joint (joint_answer (map said rest))) (drop_all i members past)
 
 pub joined-Unknown : (a : Answer) → joined a Unknown ≡ a
-joined-Unknown Invalid = refl
 joined-Unknown Valid = refl
-joined-Unknown Unknown = refl
+joined-Unknown a = refl
 
 nothing : (x : Answer) → Contains [] x → ⊥
 nothing x found = let below = found.1 in omega arith
@@ -53,13 +49,11 @@ not_first x y answers differ found =
 
 invalid_behind : (b : Answer) → joined Valid b ≡ Invalid → b ≡ Invalid
 invalid_behind Invalid is = refl
-invalid_behind Valid is = absurd (cc)
-invalid_behind Unknown is = absurd (cc)
+invalid_behind b is = absurd (cc)
 
 valid_in_front : (b : Answer) → (b ≡ Invalid → ⊥) → joined Valid b ≡ Valid
 valid_in_front Invalid not = absurd (not refl)
-valid_in_front Valid not = refl
-valid_in_front Unknown not = refl
+valid_in_front b not = refl
 
 pub one_is_invalid : (answers : List Answer) → joint_answer answers ≡ Invalid → Contains answers Invalid
 one_is_invalid [] is = absurd (cc)

@@ -10,13 +10,14 @@ use Rattle.dnsv_records.specs.Rrsig.{IsRrsig}
 use Rattle.dnsv_records.specs.declared.rrsig.Rrsig.{Rrsig}
 use Rattle.dnsv_canonical.specs.Rrsets.{IsNumbered, ReceivedRrset}
 use Rattle.dnsv_canonical.specs.declared.number.SignatureNumber.{SignatureNumber}
+use Rattle.dnsv_canonical.proofs.OrderLemmas.{zip_length}
 use Rattle.dnsv_verifier.specs.Asking.{AreMadeAt, IsMadeAt, IsPartOf, MadeSignature}
 use Rattle.dnsv_verifier.specs.EntryLaws.{octet_Equal, then_Equal}
 use Rattle.dnsv_verifier.specs.Numbers.{ArePlaces, IsPartNumber, IsPlaceOf, PartLists, signature_number_cmp}
 use Rattle.dnsv_verifier.specs.Table.{HasNumber}
 use Rattle.dnsv_verifier.specs.declared.entry.parts.SignaturePart.{SignaturePart}
 use Rattle.dnsv_verifier.specs.declared.table.place.SignaturePlace.{SignaturePlace}
-use Rattle.dnsv_verifier.proofs.AskLemmas.{zip_at, zip_length}
+use Rattle.dnsv_verifier.proofs.AskLemmas.{zip_at}
 
 pub signature_number_Equal : (a b : SignatureNumber) → signature_number_cmp a b ≡ Equal → a ≡ b
 signature_number_Equal a b e =

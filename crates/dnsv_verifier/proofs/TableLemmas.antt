@@ -10,7 +10,7 @@ use Rattle.std.specs.Map.{keys_of, lookup}
 use Rattle.std.specs.Option.{IsSome, unwrap_or}
 use Rattle.std.specs.Ordering.{eq_by_cmp, is_eq}
 use Rattle.std.specs.declared.cmp.Ordering.{Ordering}
-use Rattle.std.specs.declared.cmp.Ordering.TheVariants.{Less, Equal, Greater}
+use Rattle.std.specs.declared.cmp.Ordering.TheVariants.{Less, Equal}
 use Rattle.dnsv_canonical.specs.Rrsets.{ReceivedRrset}
 use Rattle.dnsv_canonical.proofs.CanonicalLemmas.{IsMember, IsMember-from_contains, Contains-from_member, rising_unique}
 use Rattle.dnsv_verifier.specs.Admissible.{IsAsked}
@@ -30,8 +30,7 @@ same_entry_equiv = eq_by_cmp_equiv entry_cmp_total
 
 pub is_eq-Equal : (order : Ordering) → is_eq order ≡ true → order ≡ Equal
 is_eq-Equal Equal e = refl
-is_eq-Equal Less e = cc
-is_eq-Equal Greater e = cc
+is_eq-Equal order e = cc
 
 pub exact_entries : (a b : Entry) → eq_by_cmp entry_cmp a b ≡ true → a ≡ b
 exact_entries a b e = entry_Equal a b (is_eq-Equal (entry_cmp a b) e)
@@ -168,16 +167,6 @@ rising_filtered test (a ∷ answers) rising =
       | true ↦ (all_filtered (λ y. entry_cmp a.0 y ≡ Less) test answers rising.0, rising_filtered test answers rising.1)
       | false ↦ rising_filtered test answers rising.1
     ]
-
--- hoping changes no entry
-entries-hoped : (answers : List (Entry × Answer))
-    → map (λ (each : Entry × Answer). each.0) (map (λ (each : Entry × Answer). (each.0, hoped_answer each.1)) answers) ≡ map (λ each. each.0) answers
-entries-hoped [] = refl
-entries-hoped (a ∷ answers) = ap (λ rest. a.0 ∷ rest) (entries-hoped answers)
-
-pub rising_hoped : (answers : List (Entry × Answer)) → IsStrictlySortedBy entry_cmp (map (λ each. each.0) answers)
-    → IsStrictlySortedBy entry_cmp (map (λ (each : Entry × Answer). each.0) (map (λ (each : Entry × Answer). (each.0, hoped_answer each.1)) answers))
-rising_hoped answers rising = subst (IsStrictlySortedBy entry_cmp) (sym (entries-hoped answers)) rising
 
 -- an Unknown answer has its entry among those that are listed
 unknown_first : (unknown : Bool) (a : Entry × Answer) (rest : List (Entry × Answer)) → unknown ≡ true

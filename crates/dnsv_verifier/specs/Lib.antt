@@ -6,5 +6,6 @@ pub mod EntryLaws
 pub mod HexField
 pub mod Numbers
 pub mod Panel
+pub mod SignedData
 pub mod Table
 pub mod Within

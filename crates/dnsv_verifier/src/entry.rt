@@ -10,6 +10,7 @@ ghost use Rattle.dnsv_verifier.specs.Admissible.{entry_over};
 ghost use Rattle.dnsv_verifier.specs.Entry.{entry_cmp};
 
 use crate::key::KeyRecord;
+use crate::signed_data::SignedData;
 use dnsv_names::compare_octets;
 use dnsv_records::{Algorithm, Octets, Rrsig};
 use std::cmp::Ordering;
@@ -23,7 +24,7 @@ pub struct Entry<'b> {
     /// The public key, as the field of a DNSKEY record has it (RFC 4034 2.1.4).
     pub key: Octets<'b>,
     /// The octets that are signed (RFC 4034 3.1.8.1).
-    pub signed_data: Octets<'b>,
+    pub signed_data: SignedData<'b>,
     /// The signature, as the field of an RRSIG record has it (RFC 4034 3.1.8).
     pub signature: Octets<'b>,
 }
@@ -34,14 +35,18 @@ impl Entry<'_> {
         ensures { result ≡ entry_cmp self.now other.now }
     {
         let (key, other_key) = (self.key.as_slice(), other.key.as_slice());
-        let (signed_data, other_data) = (self.signed_data.as_slice(), other.signed_data.as_slice());
         let (signature, other_signature) = (self.signature.as_slice(), other.signature.as_slice());
-        self.algorithm
+        let keys = self
+            .algorithm
             .0
             .cmp(&other.algorithm.0)
-            .then_with(|| compare_octets(key, other_key))
-            .then_with(|| compare_octets(signed_data, other_data))
-            .then_with(|| compare_octets(signature, other_signature))
+            .then_with(|| compare_octets(key, other_key));
+        let signed = match keys {
+            Ordering::Less => Ordering::Less,
+            Ordering::Equal => self.signed_data.stand_to(&other.signed_data),
+            Ordering::Greater => Ordering::Greater,
+        };
+        signed.then_with(|| compare_octets(signature, other_signature))
     }
 }
 
@@ -52,7 +57,7 @@ pub fn entry_over<'a>(rrsig: &'a Rrsig<'a>, octets: &'a [u8], key: &'a KeyRecord
     Entry {
         algorithm: rrsig.algorithm,
         key: Octets::of(key.dnskey().key.as_slice()),
-        signed_data: Octets::of(octets),
+        signed_data: SignedData::of(octets),
         signature: Octets::of(rrsig.signature.as_slice()),
     }
 }

@@ -15,6 +15,7 @@ pub use laws::{
     several_verifiers_say_what_one_does, unknown_entries_may_turn_out_valid,
 };
 pub use panel::Panel;
+pub use signed_data::SignedData;
 pub use table::Table;
 pub use verifier::Verifier;
 
@@ -27,5 +28,6 @@ mod hex_field;
 mod key;
 mod laws;
 mod panel;
+mod signed_data;
 mod table;
 mod verifier;

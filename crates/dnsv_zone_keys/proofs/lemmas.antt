@@ -1,6 +1,5 @@
 pub mod AnswerLemmas
 pub mod IndexLemmas
-pub mod NumberLemmas
 pub mod OnceLemmas
 pub mod TagLemmas
 pub mod VoucherLemmas

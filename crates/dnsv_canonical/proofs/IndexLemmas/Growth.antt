@@ -10,7 +10,7 @@ use Rattle.std.specs.List.{AllByRecursion, enumerate_from}
 use Rattle.std.specs.List.Sorted.{IsPermutation, IsSortedBy, IsStableBy, ties}
 use Rattle.std.specs.Ordering.{is_eq, is_gt, is_lt, ordering_reverse}
 use Rattle.std.specs.declared.cmp.Ordering.{Ordering}
-use Rattle.std.specs.declared.cmp.Ordering.TheVariants.{Less, Equal, Greater}
+use Rattle.std.specs.declared.cmp.Ordering.TheVariants.{Less, Greater}
 use Rattle.dnsv_names.specs.PartLaws.{recursion-append}
 use Rattle.dnsv_canonical.specs.Rrsets.{ReceivedRrset}
 use Rattle.dnsv_canonical.specs.Index.Grouping.{AreFirsts, AreInOrder, AreLaid, HasTie, IsIndexOf, IsPlaceBehind, IsPlaceFrom, Key, Numbered, group_of, key_cmp, key_of, stands}
@@ -40,8 +40,7 @@ is_before a b = is_lt (stands a (key_of b.1))
 
 ties_both : (o : Ordering) → (not (is_lt (ordering_reverse o)) && not (is_lt o)) ≡ is_eq o
 ties_both Less = refl
-ties_both Equal = refl
-ties_both Greater = refl
+ties_both o = refl
 
 ties_key : (a b : Key) → (not (is_lt (key_cmp a b)) && not (is_lt (key_cmp b a))) ≡ is_eq (key_cmp b a)
 ties_key a b = ap (λ o. not (is_lt o) && not (is_lt (key_cmp b a))) (key_total.antisymm a b) ∙ ties_both (key_cmp b a)
@@ -56,9 +55,8 @@ in_order_from all sorted same rising stable = record {
 }
 
 not_gt : (r : Ordering) → r ≢ Greater → is_gt r ≡ false
-not_gt Less never = refl
-not_gt Equal never = refl
 not_gt Greater never = absurd (never refl)
+not_gt r never = refl
 
 from_not_gt : (r : Ordering) → is_gt r ≡ false → r ≢ Greater
 from_not_gt r not_greater greater = let turn : true ≡ false = ap is_gt (sym greater) ∙ not_greater in cc
@@ -104,9 +102,8 @@ place_here kept key c greater =
     let none : 0 ≡ c - c = omega arith in (subst (λ n. AllByRecursion (λ (f : Numbered). stands f key ≢ Greater) (take n (drop c kept))) none tt, greater)
 
 pub is_greater : (r : Ordering) → is_gt r ≡ true → r ≡ Greater
-is_greater Less gt = let turn : false ≡ true = gt in cc
-is_greater Equal gt = let turn : false ≡ true = gt in cc
 is_greater Greater gt = refl
+is_greater r gt = let turn : false ≡ true = gt in cc
 
 pub each_rest : {X : Type 0} (P : X → Type 0) (p n : ℕ) (xs : List X) → p ≤ n → AllByRecursion P (drop p xs) → AllByRecursion P (drop n xs)
 each_rest P p n xs above each =

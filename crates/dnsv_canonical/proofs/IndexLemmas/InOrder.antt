@@ -57,9 +57,8 @@ pub greater_not_equal : (r : Ordering) → r ≡ Greater → r ≢ Equal
 greater_not_equal r greater equal = let turn : Greater ≡ Equal = sym greater ∙ equal in cc
 
 pub is_eq_false : (r : Ordering) → r ≢ Equal → is_eq r ≡ false
-is_eq_false Less never = refl
 is_eq_false Equal never = absurd (never refl)
-is_eq_false Greater never = refl
+is_eq_false r never = refl
 
 -- ---- lists
 
@@ -162,9 +161,8 @@ same_number : (s t : ℕ) → (s == t) ≡ is_eq (nat_cmp s t)
 same_number s t = grind (arith, nat_tests)
 
 same_both : (o : Ordering) (s t : ℕ) → (is_eq o && (s == t)) ≡ is_eq (ordering_then o (nat_cmp s t))
-same_both Less s t = refl
 same_both Equal s t = same_number s t
-same_both Greater s t = refl
+same_both o s t = refl
 
 at_key : (a b : Labels) (s t : ℕ) → (same_name a b && (s == t)) ≡ is_eq (key_cmp (a, s) (b, t))
 at_key a b s t = ap (λ same. same && (s == t)) (same_name_ties a b) ∙ same_both (canonical_cmp a b) s t
@@ -174,9 +172,8 @@ numbers_at-group rrsets name rtype =
     ap (map (λ (x : Numbered). x.0)) (filter_agree (λ (x : Numbered). same_name x.1.owner name && (x.1.rtype == rtype)) (λ (x : Numbered). is_eq (stands x (name, rtype))) (λ x. at_key x.1.owner name x.1.rtype rtype) (enumerate_from 1 rrsets))
 
 then_first : (o p : Ordering) → ordering_then o p ≡ Equal → o ≡ Equal
-then_first Less p equal = equal
 then_first Equal p equal = refl
-then_first Greater p equal = equal
+then_first o p equal = equal
 
 pub key_names : (a b : Key) → key_cmp a b ≡ Equal → SameName a.0 b.0
 key_names a b equal = canonical_Equal a.0 b.0 (then_first (canonical_cmp a.0 b.0) (nat_cmp a.1 b.1) equal)

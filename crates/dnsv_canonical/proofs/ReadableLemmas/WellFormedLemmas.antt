@@ -1,5 +1,5 @@
 -- The RRsets of a message that can be read are as those of a capture are.
-use Rattle.std.proofs.Common.{◌≡◌, ℕ, ◌<◌, ◌≤◌, ◌==◌, Bool, true, false, cond, List, [], ◌∷◌, ◌++◌, length, map, take, refl, sym, ap, ◌∙◌, subst, arith, inl, inr, ⊎_elim}
+use Rattle.std.proofs.Common.{◌≡◌, ℕ, ◌<◌, ◌==◌, Bool, true, false, cond, List, [], ◌∷◌, ◌++◌, length, map, take, refl, sym, ap, ◌∙◌, subst, arith, inl, inr, ⊎_elim}
 use Rattle.std.specs.Prelude.{filter}
 use Rattle.std.specs.Int.{w16, to_be_bytes}
 use Rattle.std.specs.Int.Digits.{number_from_digits}
@@ -148,14 +148,6 @@ HasRrsig rdata = (rrsig : Rrsig) × IsRrsig rdata rrsig
 pub signatures_read : (rtype : ℕ) (signatures : List (List ℕ)) → AllByRecursion (IsSignatureOver rtype) signatures → AllByRecursion HasRrsig signatures
 signatures_read rtype [] each = tt
 signatures_read rtype (rdata ∷ others) each = ((each.0.rrsig, each.0.is), signatures_read rtype others each.1)
-
-pub rdata_laid_out : (rtype : ℕ) (received : List (List ℕ)) → AllByRecursion (IsRdata rtype) received → AllByRecursion (IsLaidOut rtype) received
-rdata_laid_out rtype [] each = tt
-rdata_laid_out rtype (rdata ∷ others) each = (each.0.laid_out, rdata_laid_out rtype others each.1)
-
-pub rdata_short : (rtype : ℕ) (received : List (List ℕ)) → AllByRecursion (IsRdata rtype) received → AllByRecursion (λ rdata. length rdata ≤ 65535) received
-rdata_short rtype [] each = tt
-rdata_short rtype (rdata ∷ others) each = (each.0.at_most_65535, rdata_short rtype others each.1)
 
 -- RDATA that is laid out as its type asks is a record of the type
 pub laid_out_as : {T : Type 0} (R : List ℕ → T → Type 0) (rtype : ℕ) → ((rdata : List ℕ) → IsLaidOut rtype rdata → (value : T) × R rdata value) → (received : List (List ℕ))

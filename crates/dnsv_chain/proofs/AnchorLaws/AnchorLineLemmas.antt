@@ -26,20 +26,6 @@ sizes_differ x y two three e =
 pub DS-KEY : codes "DS" ≡ codes "KEY" → ⊥
 DS-KEY e = sizes_differ (codes "DS") (codes "KEY") refl refl e
 
-six : (fields : List (List ℕ)) (anchor : Anchor) → SaysAnchor fields anchor → length fields ≡ 6
-six [] anchor says = absurd says
-six (a ∷ []) anchor says = absurd says
-six (a ∷ b ∷ []) anchor says = absurd says
-six (a ∷ b ∷ c ∷ []) anchor says = absurd says
-six (a ∷ b ∷ c ∷ d ∷ []) anchor says = absurd says
-six (a ∷ b ∷ c ∷ d ∷ e ∷ []) anchor says = absurd says
-six (a ∷ b ∷ c ∷ d ∷ e ∷ f ∷ []) anchor says = refl
-six (a ∷ b ∷ c ∷ d ∷ e ∷ f ∷ g ∷ fields) anchor says = absurd says
-
-pub no_six : (line : List ℕ) → ((fields : List (List ℕ)) → AreFields line fields → length fields ≡ 6 → ⊥)
-    → (anchor : Anchor) → IsAnchorLine line anchor → ⊥
-no_six line none anchor is = none is.fields is.parted (six is.fields anchor is.says)
-
 module _ (line word name first second third last : List ℕ) (are : AreFields line (word ∷ name ∷ first ∷ second ∷ third ∷ last ∷ [])) where
   says_by : (anchor : Anchor) → IsAnchorLine line anchor → SaysAnchor (word ∷ name ∷ first ∷ second ∷ third ∷ last ∷ []) anchor
   says_by anchor is =

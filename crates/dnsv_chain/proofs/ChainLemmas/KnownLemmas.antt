@@ -8,7 +8,7 @@ use Rattle.std.specs.Cmp.Lexicographic.{bytes_decides, texts_ties}
 use Rattle.std.specs.List.{Contains}
 use Rattle.std.specs.Ordering.{is_eq, ordering_then}
 use Rattle.std.specs.declared.cmp.Ordering.{Ordering}
-use Rattle.std.specs.declared.cmp.Ordering.TheVariants.{Less, Equal, Greater}
+use Rattle.std.specs.declared.cmp.Ordering.TheVariants.{Equal}
 use Rattle.dnsv_names.specs.Name.{Labels, SameName, same_name}
 use Rattle.dnsv_names.specs.Order.ByWire.{search_cmp}
 use Rattle.dnsv_names.specs.Order.ByWireLaws.{search_ties}
@@ -19,15 +19,9 @@ use Rattle.dnsv_canonical.specs.Canonical.{rdata_cmp}
 use Rattle.dnsv_verifier.specs.Admissible.{DnskeyRecord}
 use Rattle.dnsv_chain.specs.Chain.{AreKnown, HasRdata, known_cmp}
 
-pub none_known : (known : BTreeSet (OwnerKey × (List ℕ × Dnskey))) (keys : Labels → List DnskeyRecord) → known.keys ≡ [] → AreKnown known keys
-none_known known keys none = record {
-  each = λ key there. absurd (false≢true (sym (λ i. contains known_cmp (record { keys = none i }) key) ∙ there));
-}
-
-both_equal : (a b : Ordering) → is_eq (ordering_then a b) ≡ true → (is_eq a ≡ true) × (is_eq b ≡ true)
-both_equal Less b same = absurd (false≢true same)
+pub both_equal : (a b : Ordering) → is_eq (ordering_then a b) ≡ true → (is_eq a ≡ true) × (is_eq b ≡ true)
 both_equal Equal b same = (refl, same)
-both_equal Greater b same = absurd (false≢true same)
+both_equal a b same = absurd (false≢true same)
 
 -- what compares as equal has equal names and the same octets
 same_key : (a b : OwnerKey × (List ℕ × Dnskey)) → is_eq (known_cmp a b) ≡ true → SameName a.0.0 b.0.0 × (a.1.0 ≡ b.1.0)

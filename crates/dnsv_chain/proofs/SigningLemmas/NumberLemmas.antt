@@ -1,5 +1,5 @@
 -- Signatures by their numbers, and what a table says of these.
-use Rattle.std.proofs.Common.{◌≡◌, ◌<◌, ◌≤◌, ◌+◌, ◌-◌, ◌↔◌, ℕ, List, [], length, get_or, Some, sym, ap, ◌∙◌, subst, arith}
+use Rattle.std.proofs.Common.{◌≡◌, ◌<◌, ◌≤◌, ◌+◌, ◌-◌, ◌↔◌, ℕ, List, [], length, get_or, sym, ap, ◌∙◌, subst, arith}
 use Rattle.std.proofs.lemmas.Option.{slice_get-get_or}
 use Rattle.std.specs.List.{AllZip, slice_get}
 use Rattle.dnsv_records.proofs.OneRecord.{one_rrsig}
@@ -7,6 +7,7 @@ use Rattle.dnsv_records.specs.Rrsig.{IsRrsig}
 use Rattle.dnsv_records.specs.declared.rrsig.Rrsig.{Rrsig}
 use Rattle.dnsv_canonical.specs.Rrsets.{IsNumbered, ReceivedRrset}
 use Rattle.dnsv_canonical.specs.declared.number.SignatureNumber.{SignatureNumber}
+use Rattle.dnsv_canonical.proofs.NumberLemmas.{one_numbered}
 use Rattle.dnsv_verifier.proofs.EntryLemmas.{one_entry}
 use Rattle.dnsv_verifier.specs.Admissible.{DnskeyRecord, IsEntryOf, IsGood, IsVerifiable, MayHaveMade}
 use Rattle.dnsv_verifier.specs.Table.{HasNumber, IsAnswerAt, TableContents, table_answer}
@@ -17,9 +18,6 @@ use Rattle.dnsv_chain.proofs.ZipLemmas.{zip_at, zip_length}
 use Rattle.dnsv_chain.specs.Signing.{IsGoodUnderSome, IsSignatureAt}
 
 -- ---- numbers
-
-one_numbered : {X : Type 0} (xs : List X) (number : ℕ) (a b : X) → IsNumbered xs number a → IsNumbered xs number b → a ≡ b
-one_numbered xs number a b first second = let both : Some a ≡ Some b = sym first.1 ∙ second.1 in cc
 
 -- the signature at the place has its number
 pub signature_here : (rrset : ReceivedRrset) (rrsigs : List Rrsig) (i : ℕ) (rrsig : Rrsig) → AllZip IsRrsig rrset.signatures rrsigs

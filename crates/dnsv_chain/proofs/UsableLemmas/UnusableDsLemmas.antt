@@ -1,28 +1,20 @@
 -- What a DS RRset's records are, as they were read.
-use Rattle.std.proofs.Common.{◌≡◌, ℕ, Bool, false, List, [], ◌∷◌, length, ◌==◌, if◌then◌else◌, refl, ap, ◌∙◌, subst, inl}
+use Rattle.std.proofs.Common.{◌≡◌, ℕ, Bool, false, List, [], ◌∷◌, length, ◌==◌, if◌then◌else◌, refl, ap, subst, inl}
 use Rattle.std.specs.Prelude.{Contains}
 use Rattle.std.specs.List.{AllZip}
 use Rattle.std.proofs.lemmas.Bool.Decides.{Decides-eqb}
 use Rattle.dnsv_names.specs.Name.{Labels}
 use Rattle.dnsv_records.specs.Ds.{IsDs}
 use Rattle.dnsv_records.specs.declared.ds.Ds.{Ds}
-use Rattle.dnsv_records.proofs.OneRecord.{one_ds}
 use Rattle.dnsv_canonical.proofs.CanonicalLemmas.{Contains-from_member}
 use Rattle.dnsv_canonical.specs.Rdata.{rdata_of_type}
 use Rattle.dnsv_canonical.specs.Rrsets.{ReceivedRrset}
 use Rattle.dnsv_chain.specs.Ds.{HasUsable}
 use Rattle.dnsv_chain.specs.UnusableDs.{IsUnusableDs}
+use Rattle.dnsv_chain.proofs.ChainLemmas.{same_ds}
 
 its_rdata : (rrset : ReceivedRrset) → rrset.rtype ≡ 43 → rdata_of_type 43 rrset ≡ rrset.rdata
 its_rdata rrset is = ap (λ (b : Bool). if b then rrset.rdata else []) ((Decides-eqb rrset.rtype 43).1 is)
-
-one_list : (xs : List (List ℕ)) (a b : List Ds) → AllZip IsDs xs a → AllZip IsDs xs b → a ≡ b
-one_list [] [] [] p q = refl
-one_list [] [] (y ∷ b) p q = absurd q
-one_list [] (x ∷ a) b p q = absurd p
-one_list (o ∷ xs) [] b p q = absurd p
-one_list (o ∷ xs) (x ∷ a) [] p q = absurd q
-one_list (o ∷ xs) (x ∷ a) (y ∷ b) p q = ap (λ z. z ∷ a) (one_ds o x y p.0 q.0) ∙ ap (λ zs. y ∷ zs) (one_list xs a b p.1 q.1)
 
 pub ds_read : (rrset : ReceivedRrset) (records : List Ds) → rrset.rtype ≡ 43 → AllZip IsDs (rdata_of_type 43 rrset) records → AllZip IsDs rrset.rdata records
 ds_read rrset records is each = subst (λ (rdata : List (List ℕ)). AllZip IsDs rdata records) (its_rdata rrset is) each
@@ -31,7 +23,7 @@ ds_read rrset records is each = subst (λ (rdata : List (List ℕ)). AllZip IsDs
 pub none_usable : (Secured : ℕ → Type 0) (rrset : ReceivedRrset) (name : Labels) (records : List Ds) → AllZip IsDs (rdata_of_type 43 rrset) records
     → IsUnusableDs Secured rrset name → ¬ HasUsable records
 none_usable Secured rrset name records each is =
-    subst (λ (list : List Ds). ¬ HasUsable list) (one_list rrset.rdata is.records records is.read (ds_read rrset records is.rtype each)) is.none
+    subst (λ (list : List Ds). ¬ HasUsable list) (same_ds rrset.rdata is.records records is.read (ds_read rrset records is.rtype each)) is.none
 
 pub some_number : (xs : List ℕ) (empty : Bool) → empty ≡ (length xs == 0) → empty ≡ false → (s : ℕ) × Contains xs s
 some_number [] empty test fails = let bad : ⊥ = cc in absurd bad

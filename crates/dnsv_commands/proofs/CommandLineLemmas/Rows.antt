@@ -144,22 +144,15 @@ action_in action.SetTrue c again a vs rows set at some e all = set_in c again a 
 action_in action.SetFalse c again a vs rows set at some e all = set_in c again a vs rows at some e all
 action_in action.Append c again a vs rows set at some e all = cc
 action_in action.Count c again a vs rows set at some e all = cc
-action_in action.Help c again a vs rows set at some e all = all
-action_in action.HelpShort c again a vs rows set at some e all = all
-action_in action.HelpLong c again a vs rows set at some e all = all
-action_in action.Version c again a vs rows set at some e all = all
+action_in x c again a vs rows set at some e all = all
 
 request_in : (x : ArgAction) (c : List Rule) (a : Rule) (vs : List Text) (rows : List Row) → is_request x ≡ true → AreRowsIn c rows
     → AreRowsIn c (used_as x a.id (reading_by a) vs rows)
-request_in action.Set c a vs rows asks all = cc
-request_in action.SetTrue c a vs rows asks all = cc
-request_in action.SetFalse c a vs rows asks all = cc
-request_in action.Append c a vs rows asks all = cc
-request_in action.Count c a vs rows asks all = cc
 request_in action.Help c a vs rows asks all = all
 request_in action.HelpShort c a vs rows asks all = all
 request_in action.HelpLong c a vs rows asks all = all
 request_in action.Version c a vs rows asks all = all
+request_in x c a vs rows asks all = cc
 
 pub both_true : (a b : Bool) → (a && b) ≡ true → (a ≡ true) × (b ≡ true)
 both_true true b e = (refl, e)

@@ -1,25 +1,19 @@
 -- What is kept of answers from wildcards, by zones however they are spelled.
-use Rattle.std.proofs.Common.{◌≡◌, ◌+◌, length, ℕ, Bool, true, false, cond, List, [], Option, Some, None, is_some, not, refl, sym, ap, ◌∙◌, subst}
+use Rattle.std.proofs.Common.{◌≡◌, ◌+◌, length, ℕ, Bool, true, false, cond, List, Option, Some, None, is_some, not, refl, sym, ◌∙◌, subst}
 use Rattle.std.proofs.lemmas.Bool.{false≢true}
 use Rattle.std.proofs.lemmas.Cmp.{ranked}
-use Rattle.std.specs.BTreeMap.{BTreeMap, Updates, get, is_at}
+use Rattle.std.specs.BTreeMap.{BTreeMap, Updates, get}
 use Rattle.std.specs.Cmp.{Equal-is}
-use Rattle.std.specs.Map.{lookup}
 use Rattle.std.specs.Prelude.{MatchOption}
-use Rattle.std.specs.Ordering.{is_eq, nat_cmp, ordering_then}
-use Rattle.std.specs.declared.cmp.Ordering.{Ordering}
-use Rattle.std.specs.declared.cmp.Ordering.TheVariants.{Less, Equal, Greater}
+use Rattle.std.specs.Ordering.{is_eq, nat_cmp}
+use Rattle.std.specs.declared.cmp.Ordering.TheVariants.{Equal}
 use Rattle.dnsv_names.specs.Name.{IsAtOrBelow, Labels, SameName, rightmost}
 use Rattle.dnsv_names.specs.Tree.AncestorLaws.{rightmost_same}
 use Rattle.dnsv_canonical.specs.Rrsets.{ReceivedRrset}
+use Rattle.dnsv_chain.proofs.ChainLemmas.KnownLemmas.{both_equal}
 use Rattle.dnsv_denial.specs.WildcardAnswers.{AreAnswers, IsShown, asked_cmp}
 use Rattle.dnsv_denial.specs.declared.wildcard_answers.Shown.{Shown}
 use Rattle.dnsv_denial.proofs.lemmas.proving.RespelledZoneLemmas.{above_as, closer_as, opted_out_as}
-
-both_equal : (a b : Ordering) → is_eq (ordering_then a b) ≡ true → (is_eq a ≡ true) × (is_eq b ≡ true)
-both_equal Less b same = absurd (false≢true same)
-both_equal Equal b same = (refl, same)
-both_equal Greater b same = absurd (false≢true same)
 
 pub none_of : {X : Type 0} (found : Option X) (No : Type 0) (Yes : X → Type 0) → is_some found ≡ false → MatchOption found No Yes → No
 none_of None No Yes is tells = tells
@@ -63,15 +57,6 @@ module _ (Secured : ℕ → ℕ → Type 0) (rrsets : List ReceivedRrset) (name 
       shown_as labels (rightmost name count) zone shown
       (subst (λ (n : ℕ). SameName (rightmost name n) zone) (sym same) (rightmost_same name zone under))
       (are.each (count, labels) shown found)
-
-  pub none_answered : (answers : BTreeMap (ℕ × ℕ) Shown) → answers.entries ≡ [] → AreAnswers Secured rrsets name answers
-  none_answered answers none = record {
-    each = λ asked shown found.
-        absurd (nothing shown (sym (ap (λ (entries : List ((ℕ × ℕ) × Shown)). lookup (is_at (asked_cmp asked)) entries) none) ∙ found));
-  }
-    where
-      nothing : (shown : Shown) → ◌≡◌ {A = Option Shown} None (Some shown) → ⊥
-      nothing shown e = cc
 
   -- one more
   pub answer_more : (old new : BTreeMap (ℕ × ℕ) Shown) (key : ℕ × ℕ) (shown : Shown) → AreAnswers Secured rrsets name old

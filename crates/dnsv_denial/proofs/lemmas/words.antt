@@ -6,6 +6,5 @@ pub mod AnyNameLemmas
 pub mod FirstAmongLemmas
 pub mod FirstLemmas
 pub mod IndexLemmas
-pub mod PlaceLemmas
 pub mod SaidWithinLemmas
 pub mod SourceLemmas

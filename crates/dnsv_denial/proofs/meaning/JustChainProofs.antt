@@ -1,5 +1,5 @@
 -- Where the evidence has just a zone's whole chain, it proves what the zone denies and nothing else.
-use Rattle.std.proofs.Common.{◌≡◌, ◌≢◌, ℕ, ◌≤◌, List, length, refl, subst, inl, inr}
+use Rattle.std.proofs.Common.{◌≡◌, ◌≢◌, ℕ, ◌≤◌, List, length, refl, subst}
 use Rattle.std.specs.Prelude.{Option, Some, None, IsSome, MatchOption, ◌↔◌}
 use Rattle.dnsv_names.specs.Name.{Labels, rightmost}
 use Rattle.dnsv_zones.specs.chains.HashedNames.{sha1_hash}
@@ -23,8 +23,6 @@ use Rattle.dnsv_denial.specs.proving.FirstProof.{CanBeProved, CanProveNoData, Ca
 use Rattle.dnsv_denial.specs.proving.WholeChain.{HasWholeChainWithoutOptOut, IsJustChainWithoutOptOut, IsJustNsecChain, IsJustNsec3Chain}
 use Rattle.dnsv_denial.specs.proving.WholeChain.HasWholeChainWithoutOptOut.{by_nsec as without_opt_out_by_nsec, by_nsec3 as without_opt_out_by_nsec3}
 use Rattle.dnsv_denial.specs.proving.WholeChain.IsJustChainWithoutOptOut.{by_nsec, by_nsec3}
-use Rattle.dnsv_denial.specs.unsigned_cuts.Cuts.{HasUnsignedCut, IsUnsignedCut}
-use Rattle.dnsv_denial.specs.unsigned_cuts.Cuts.IsUnsignedCut.{no_ds, no_usable_ds, opt_out}
 use Rattle.dnsv_denial.specs.words.EvidenceWords.{Chain, nsec_said, nsec3_said}
 use Rattle.dnsv_denial.specs.words.EvidenceWords.Chain.{ByNsec, ByNsec3}
 use Rattle.dnsv_canonical.specs.declared.number.RecordNumber.{RecordNumber}
@@ -161,8 +159,3 @@ pub can_be : (Secured : ℕ → ℕ → Type 0) (rrsets : List ReceivedRrset) (n
     → IsFirstProof Secured rrsets name Form Parts proof → CanBeProved Secured rrsets name Form
 can_be Secured rrsets name Form Parts proof first =
     (first.labels, first.at_or_above, first.chain, subst (λ (z : Labels). StandsBy Secured rrsets Form z first.chain) first.zone first.stands)
-
-pub cut_stands : (Secured : ℕ → ℕ → Type 0) (rrsets : List ReceivedRrset) (name cut : Labels) → IsUnsignedCut Secured rrsets name cut → HasUnsignedCut Secured rrsets name
-cut_stands Secured rrsets name _ (no_ds labels fewest) = (labels, inl fewest.holds)
-cut_stands Secured rrsets name _ (no_usable_ds labels none fewest) = (labels, inr (inl fewest.holds))
-cut_stands Secured rrsets name _ (opt_out labels none usable most) = (labels, inr (inr most.holds))

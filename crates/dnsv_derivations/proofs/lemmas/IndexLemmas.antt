@@ -9,7 +9,7 @@ use Rattle.dnsv_names.specs.Name.{Labels}
 use Rattle.dnsv_canonical.specs.Index.{is_at, numbers_at}
 use Rattle.dnsv_canonical.specs.Index.Grouping.{Numbered}
 use Rattle.dnsv_canonical.specs.Rrsets.{ReceivedRrset}
-use Rattle.dnsv_derivations.proofs.lemmas.NumberLemmas.{IsOneAt, each_number, has_number}
+use Rattle.dnsv_canonical.proofs.NumberLemmas.{IsOneAt, each_number, has_number}
 use Rattle.dnsv_derivations.specs.derivations.WaySearch.{number_or_end}
 use Rattle.dnsv_derivations.proofs.lemmas.derivations.WayLemmas.KeysLemmas.{each_at}
 

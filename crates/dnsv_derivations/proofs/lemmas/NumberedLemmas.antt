@@ -9,11 +9,6 @@ pub among : {X : Type 0} (xs : List X) (number : ℕ) (x : X) → IsNumbered xs 
 among xs number x numbered =
     (number - 1, slice_get_within xs (number - 1) x numbered.1, get_or_from_slice_get xs (number - 1) x x numbered.1)
 
--- a number is that of one member
-pub same_number : {X : Type 0} (xs : List X) (number : ℕ) (x y : X) → IsNumbered xs number x → IsNumbered xs number y → x ≡ y
-same_number xs number x y first second =
-    sym (get_or_from_slice_get xs (number - 1) x x first.1) ∙ get_or_from_slice_get xs (number - 1) y x second.1
-
 -- what stands at a place has the number behind it
 pub numbered_at : {X : Type 0} (all xs : List X) (i : ℕ) (x : X) → xs ≡ all → i < length xs → x ≡ get_or xs i x
     → IsNumbered all (i + 1) x

@@ -118,9 +118,6 @@ filter_contains p (y ∷ xs) x there passes =
 
 -- ---- places
 
-pub no_places : (rrsets : List ReceivedRrset) → ArePlacedBy rrsets [] []
-no_places rrsets = record { each = λ place there. absurd (omega (arith, there.1)); are = refl }
-
 -- one number more
 pub placed_more : (rrsets : List ReceivedRrset) (numbers : List ℕ) (i number : ℕ) (old new : List RrsetPlace)
     → i < length numbers → number ≡ get_or numbers i 0 → ArePlacedBy rrsets (take i numbers) old

@@ -16,8 +16,7 @@ use Rattle.dnsv_denial.specs.words.EvidenceWords.{number_cmp}
 use Rattle.dnsv_derivations.specs.Explained.{IsTodo, Setting}
 use Rattle.dnsv_derivations.specs.Following.{IsGoodUnder, IsNamed}
 use Rattle.dnsv_derivations.specs.derivations.NewKeys.{AreNewKeys}
-use Rattle.dnsv_derivations.specs.derivations.Ways.{HasSecured, IsFirstWay, IsWayInto, Way, voucher_rank}
-use Rattle.dnsv_canonical.specs.declared.number.RecordNumber.{RecordNumber}
+use Rattle.dnsv_derivations.specs.derivations.Ways.{HasSecured, IsFirstWay, IsWayInto, Way, record_at, voucher_rank}
 use Rattle.dnsv_canonical.specs.declared.number.SignatureNumber.{SignatureNumber}
 use Rattle.dnsv_lines.specs.declared.line.derivation.Voucher.{Voucher}
 use Rattle.dnsv_lines.specs.declared.line.derivation.Voucher.TheVariants as voucher
@@ -145,10 +144,6 @@ pub record IsKeptWay (setting : Setting) (k : ℕ) (kept : KeptWay) : Type 0 whe
 -- each of these is so for the RRset with its number
 abbrev pub AreFirstWays : Setting → List KeptWay → Type 0
 AreFirstWays setting ways = (k : ℕ) (kept : KeptWay) → IsNumbered ways k kept → IsKeptWay setting k kept
-
--- the record of the RRset at the place, from 1 on; an anchor, where the RRset is 0
-abbrev pub record_at : ℕ → ℕ → RecordNumber
-record_at rrset place = record { rrset = rrset; place = place }
 
 -- no way goes before it
 abbrev pub IsNoWayBefore : Setting → ℕ → ℕ → ℕ → Type 0

@@ -40,6 +40,10 @@ pub record IsWayInto (setting : Setting) (k : ℕ) (way : Way) : Type 0 where
 
 -- ---- the first way
 
+-- the record of the RRset at the place, from 1 on; an anchor, where the RRset is 0
+abbrev pub record_at : ℕ → ℕ → RecordNumber
+record_at rrset place = record { rrset = rrset; place = place }
+
 -- anchors come before DS records, as if they were the records of an RRset 0
 abbrev pub voucher_rank : Voucher → RecordNumber
 voucher_rank (voucher.KeyAnchor number) = record { rrset = 0; place = number }

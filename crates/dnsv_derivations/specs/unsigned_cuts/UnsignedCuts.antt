@@ -7,13 +7,12 @@ use Rattle.dnsv_records.specs.declared.ds.Ds.{Ds}
 use Rattle.dnsv_canonical.specs.Rrsets.{IsNumbered, ReceivedRrset}
 use Rattle.dnsv_chain.specs.Ds.{HasUsable}
 use Rattle.dnsv_denial.specs.gathering.Evidence.{IsRecordAt}
-use Rattle.dnsv_canonical.specs.declared.number.RecordNumber.{RecordNumber}
 use Rattle.dnsv_derivations.specs.Explained.{Setting}
 use Rattle.dnsv_derivations.specs.derivations.OwnDerivations.{IsSignatureTold}
 use Rattle.dnsv_derivations.specs.derivations.Derivations.{IsLowestSecured}
 use Rattle.dnsv_derivations.specs.Following.Parts.{IsUnusableRecord}
 use Rattle.dnsv_derivations.specs.Saying.{AreBoth}
-use Rattle.dnsv_derivations.specs.derivations.Ways.{HasSecured}
+use Rattle.dnsv_derivations.specs.derivations.Ways.{HasSecured, record_at}
 use Rattle.dnsv_lines.specs.declared.line.Line.{Line}
 use Rattle.dnsv_lines.specs.declared.line.Line.TheVariants as line
 use Rattle.dnsv_lines.specs.declared.line.cut.Cut.{Cut}
@@ -48,15 +47,11 @@ pub record IsFirstUnusable (setting : Setting) (name : Labels) (k : ℕ) : Type 
   pub is : IsUnusableSet setting name k
   pub first : (j : ℕ) → IsUnusableSet setting name j → k ≤ j
 
--- the record of RRset k at a place, from 1 on
-abbrev pub record_of : ℕ → ℕ → RecordNumber
-record_of k place = record { rrset = k; place = place }
-
 -- these are told of the records of RRset k from one place on, one after another: why they can't be used
 abbrev pub AreToldFrom : List ReceivedRrset → ℕ → ℕ → List UnusableDs → Type 0
 AreToldFrom rrsets k place [] = Unit {0}
 AreToldFrom rrsets k place (unusable ∷ rest) =
-    (unusable.number ≡ record_of k place) × IsUnusableRecord rrsets unusable × AreToldFrom rrsets k (place + 1) rest
+    (unusable.number ≡ record_at k place) × IsUnusableRecord rrsets unusable × AreToldFrom rrsets k (place + 1) rest
 
 -- that is told of its first n records
 pub record AreFirstTold (rrsets : List ReceivedRrset) (k n : ℕ) (before lines : List Line) : Type 0 where
@@ -69,7 +64,7 @@ pub record AreFirstTold (rrsets : List ReceivedRrset) (k n : ℕ) (before lines 
 pub record AreAllTold (rrsets : List ReceivedRrset) (k : ℕ) (before lines : List Line) : Type 0 where
   pub n : ℕ
   pub first : AreFirstTold rrsets k n before lines
-  pub every : (place : ℕ) (rrset : ReceivedRrset) (rdata : List ℕ) → IsRecordAt rrsets (record_of k place) rrset rdata
+  pub every : (place : ℕ) (rrset : ReceivedRrset) (rdata : List ℕ) → IsRecordAt rrsets (record_at k place) rrset rdata
       → place ≤ n
 
 -- of the first such RRset its lowest signature is derived, the case is told, and then why its records can't be used

@@ -19,12 +19,12 @@ use Rattle.dnsv_canonical.specs.Rrsets.{IsNumbered, ReceivedRrset}
 use Rattle.dnsv_chain.proofs.ZipLemmas.{zip_at, zip_length}
 use Rattle.dnsv_verdict.specs.Verdict.{Basis}
 use Rattle.dnsv_verdict.proofs.SearchLemmas.{numbers_are}
-use Rattle.dnsv_verdict.proofs.SearchLemmas.NumberLemmas.{IsOneAt}
+use Rattle.dnsv_canonical.proofs.NumberLemmas.{IsOneAt}
 use Rattle.dnsv_verifier.proofs.AskLemmas.{adds_nothing, adds_same}
 use Rattle.dnsv_verifier.specs.Admissible.{IsSignatureOf}
 use Rattle.dnsv_verifier.specs.Asking.{AddsJust, ComesOfSome}
 use Rattle.dnsv_faults.specs.KnownZones.KnownSearch.{AreKnownTo, AreSpoken, IsAbove, IsSignedFromAbove, IsSignerAbove, IsSpokenBy}
-use Rattle.dnsv_faults.specs.KnownZones.{AreKnownZones, HasOwnAnchor, HasRrset, IsFromAbove, IsKnownZone, IsSpeaker, IsSpeakerOf, MaySpeak}
+use Rattle.dnsv_faults.specs.KnownZones.{HasOwnAnchor, HasRrset, IsFromAbove, IsKnownZone, IsSpeaker, IsSpeakerOf, MaySpeak}
 use Rattle.dnsv_zone_keys.specs.Keys.{HasKeys}
 use Rattle.dnsv_zone_keys.proofs.lemmas.IndexLemmas.{numbered_at}
 
@@ -210,9 +210,6 @@ module _ (basis : Basis) (name : Labels) (t labels : ℕ) (within : labels ≤ l
     last (inr (inr (inl has))) = absurd (keys has)
     last (inr (inr (inr speaker))) = speaker
 
-pub none_known : (basis : Basis) (name : Labels) (t : ℕ) (known : List Bool) → known ≡ [] → AreKnownTo basis name t 0 known
-none_known basis name t known none = record { count = ap length none; each = λ m below. absurd (omega (arith, below)) }
-
 pub more_known : (basis : Basis) (name : Labels) (t n : ℕ) (old : List Bool) (b : Bool) → AreKnownTo basis name t n old
     → (IsTrue b ↔ IsKnownZone basis name t (rightmost name n)) → AreKnownTo basis name t (n + 1) (old ++ b ∷ [])
 more_known basis name t n old b so_far one = record {
@@ -230,13 +227,6 @@ more_known basis name t n old b so_far one = record {
       subst (λ (x : Bool). IsTrue x ↔ IsKnownZone basis name t (rightmost name m)) (sym at)
       (subst (λ (k : ℕ). IsTrue b ↔ IsKnownZone basis name t (rightmost name k)) number one))
       (cases_lt m n);
-}
-
-pub all_known : (basis : Basis) (name : Labels) (t n : ℕ) (known : List Bool) → n ≡ length name + 1 → AreKnownTo basis name t n known
-    → AreKnownZones basis name t known
-all_known basis name t n known is so_far = record {
-  count = so_far.count ∙ is;
-  each = λ m within. so_far.each m (omega (arith, is, within));
 }
 
 -- an RRset of keys is there where there are keys

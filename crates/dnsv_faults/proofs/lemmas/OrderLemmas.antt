@@ -13,13 +13,13 @@ use Rattle.dnsv_records.specs.Rrsig.{IsRrsig}
 use Rattle.dnsv_records.specs.declared.rrsig.Rrsig.{Rrsig}
 use Rattle.dnsv_canonical.specs.Rrsets.{IsNumbered, ReceivedRrset}
 use Rattle.dnsv_canonical.proofs.OrderLemmas.{each_member, each_of, whole_by_count, zip_at}
+use Rattle.dnsv_canonical.proofs.GroupLemmas.{placed-push}
 use Rattle.dnsv_mending.specs.declared.facts.signature.RrsetFacts.{RrsetFacts}
 use Rattle.dnsv_verdict.specs.Verdict.{Basis}
 use Rattle.dnsv_faults.specs.Rrsets.{AreInOrder, AreRrsetFacts, Rank, rank_cmp, rank_of}
 use Rattle.dnsv_faults.specs.Rrsets.RrsetSearch.{rank, seen_signature}
 use Rattle.dnsv_faults.specs.Signatures.{AreSignatureFacts, IsSignatureAt}
 use Rattle.dnsv_faults.specs.declared.rrset.NumberedSignature.{NumberedSignature}
-use Rattle.dnsv_zone_keys.proofs.lemmas.OnceLemmas.{placed-push}
 
 pub rank_cmp_total : IsTotalOrder rank_cmp
 rank_cmp_total = then_total (back_total (on_total (λ (r : Rank). r.labels) nat_cmp_total)) (on_total (λ (r : Rank). r.number) nat_cmp_total)
@@ -87,7 +87,7 @@ all_moved P old new moved each =
 pub whole : (xs : List Rrsig) (i : ℕ) → length xs ≤ i → take i xs ≡ xs
 whole xs i past = whole_by_count xs i past
 
-zip_mapped : {A B C : Type 0} (R : A → C → Type 0) (f : B → A) (xs : List B) (ys : List C) → AllZip (λ x y. R (f x) y) xs ys → AllZip R (map f xs) ys
+pub zip_mapped : {A B C : Type 0} (R : A → C → Type 0) (f : B → A) (xs : List B) (ys : List C) → AllZip (λ x y. R (f x) y) xs ys → AllZip R (map f xs) ys
 zip_mapped R f [] [] each = tt
 zip_mapped R f [] (y ∷ ys) each = absurd each
 zip_mapped R f (x ∷ xs) [] each = absurd each

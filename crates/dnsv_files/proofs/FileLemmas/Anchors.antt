@@ -29,31 +29,15 @@ refused_text text (anchors.Syntax line) (fault.Refused why place) (inr is) tells
 refused_text text (anchors.TooMany line) (fault.Refused why place) (inl is) tells = cc
 refused_text text (anchors.TooMany line) (fault.Refused why place) (inr is) tells = (anchors.TooMany line, is, tells)
 refused_text text (anchors.Syntax line) fault.OutOfMemory why tells = absurd tells
-refused_text text (anchors.Syntax line) (fault.ReadFailed file) why tells = absurd tells
-refused_text text (anchors.Syntax line) (fault.TooLong file) why tells = absurd tells
-refused_text text (anchors.Syntax line) (fault.OpenFailed file) why tells = absurd tells
-refused_text text (anchors.Syntax line) fault.WriteFailed why tells = absurd tells
 refused_text text (anchors.TooMany line) fault.OutOfMemory why tells = absurd tells
-refused_text text (anchors.TooMany line) (fault.ReadFailed file) why tells = absurd tells
-refused_text text (anchors.TooMany line) (fault.TooLong file) why tells = absurd tells
-refused_text text (anchors.TooMany line) (fault.OpenFailed file) why tells = absurd tells
-refused_text text (anchors.TooMany line) fault.WriteFailed why tells = absurd tells
+refused_text text error found why tells = absurd tells
 
 -- a refusal that tells an error is the one that it is told as
 told_as : (error : AnchorsError) (found : Fault) → IsAnchorsFault error found → (why : Refusal) (place : Place) → TellsAnchorsError error why place → found ≡ fault.Refused why place
 told_as anchors.OutOfMemory found is why place tells = absurd tells
 told_as (anchors.Syntax line) (fault.Refused a p) is why place tells = one_telling (anchors.Syntax line) a why p place is tells
-told_as (anchors.Syntax line) fault.OutOfMemory is why place tells = absurd is
-told_as (anchors.Syntax line) (fault.ReadFailed file) is why place tells = absurd is
-told_as (anchors.Syntax line) (fault.TooLong file) is why place tells = absurd is
-told_as (anchors.Syntax line) (fault.OpenFailed file) is why place tells = absurd is
-told_as (anchors.Syntax line) fault.WriteFailed is why place tells = absurd is
 told_as (anchors.TooMany line) (fault.Refused a p) is why place tells = one_telling (anchors.TooMany line) a why p place is tells
-told_as (anchors.TooMany line) fault.OutOfMemory is why place tells = absurd is
-told_as (anchors.TooMany line) (fault.ReadFailed file) is why place tells = absurd is
-told_as (anchors.TooMany line) (fault.TooLong file) is why place tells = absurd is
-told_as (anchors.TooMany line) (fault.OpenFailed file) is why place tells = absurd is
-told_as (anchors.TooMany line) fault.WriteFailed is why place tells = absurd is
+told_as error found is why place tells = absurd is
 
 -- what refuses the text is told, or memory was refused before it
 pub every_anchors_fault : {T U : Type 0} (text : List ℕ) (error : AnchorsError) (found : Fault) → IsAnchorsFault error found
@@ -77,5 +61,4 @@ one_anchors_fault text a b one =
 pub wanted_for_anchors : {T : Type 0} (text : List ℕ) (error : AnchorsError) (found : Fault) → IsAnchorsFault error found → (error ≡ anchors.OutOfMemory → BeginsWithAnchor text)
     → Path (Result T Fault) (Err found) (Err fault.OutOfMemory) → BeginsWithAnchor text
 wanted_for_anchors text anchors.OutOfMemory found tells begins is = begins refl
-wanted_for_anchors text (anchors.Syntax line) found tells begins is = let same : found ≡ fault.OutOfMemory = cc in absurd (subst (IsAnchorsFault (anchors.Syntax line)) same tells)
-wanted_for_anchors text (anchors.TooMany line) found tells begins is = let same : found ≡ fault.OutOfMemory = cc in absurd (subst (IsAnchorsFault (anchors.TooMany line)) same tells)
+wanted_for_anchors text error found tells begins is = let same : found ≡ fault.OutOfMemory = cc in absurd (subst (IsAnchorsFault error) same tells)

@@ -47,23 +47,9 @@ one_telling (answers.Count number) a b p q x y = at_some_line number (refusal.An
 refused_as : (error : AnswersError) (found : Fault) → IsAnswersFault error found → (why : Refusal) (place : Place) → TellsAnswersError error why place → found ≡ fault.Refused why place
 refused_as answers.OutOfMemory found is why place tells = absurd tells
 refused_as (answers.Syntax line) (fault.Refused a p) is why place tells = one_telling (answers.Syntax line) a why p place is tells
-refused_as (answers.Syntax line) fault.OutOfMemory is why place tells = absurd is
-refused_as (answers.Syntax line) (fault.ReadFailed file) is why place tells = absurd is
-refused_as (answers.Syntax line) (fault.TooLong file) is why place tells = absurd is
-refused_as (answers.Syntax line) (fault.OpenFailed file) is why place tells = absurd is
-refused_as (answers.Syntax line) fault.WriteFailed is why place tells = absurd is
 refused_as (answers.OtherList line) (fault.Refused a p) is why place tells = one_telling (answers.OtherList line) a why p place is tells
-refused_as (answers.OtherList line) fault.OutOfMemory is why place tells = absurd is
-refused_as (answers.OtherList line) (fault.ReadFailed file) is why place tells = absurd is
-refused_as (answers.OtherList line) (fault.TooLong file) is why place tells = absurd is
-refused_as (answers.OtherList line) (fault.OpenFailed file) is why place tells = absurd is
-refused_as (answers.OtherList line) fault.WriteFailed is why place tells = absurd is
 refused_as (answers.Count line) (fault.Refused a p) is why place tells = one_telling (answers.Count line) a why p place is tells
-refused_as (answers.Count line) fault.OutOfMemory is why place tells = absurd is
-refused_as (answers.Count line) (fault.ReadFailed file) is why place tells = absurd is
-refused_as (answers.Count line) (fault.TooLong file) is why place tells = absurd is
-refused_as (answers.Count line) (fault.OpenFailed file) is why place tells = absurd is
-refused_as (answers.Count line) fault.WriteFailed is why place tells = absurd is
+refused_as error found is why place tells = absurd is
 
 -- what holds of an error is what the fault that tells it is a refusal for
 abbrev TellsSome : (AnswersError → Type 0) → Refusal → Place → Type 0
@@ -75,24 +61,13 @@ refused_for P answers.OutOfMemory found tells is = subst (IsFaultFor (TellsSome 
 refused_for P (answers.Syntax line) (fault.Refused a p) tells (inl is) = absurd (cc)
 refused_for P (answers.Syntax line) (fault.Refused a p) tells (inr is) = (answers.Syntax line, is, tells)
 refused_for P (answers.Syntax line) fault.OutOfMemory tells is = absurd tells
-refused_for P (answers.Syntax line) (fault.ReadFailed file) tells is = absurd tells
-refused_for P (answers.Syntax line) (fault.TooLong file) tells is = absurd tells
-refused_for P (answers.Syntax line) (fault.OpenFailed file) tells is = absurd tells
-refused_for P (answers.Syntax line) fault.WriteFailed tells is = absurd tells
 refused_for P (answers.OtherList line) (fault.Refused a p) tells (inl is) = absurd (cc)
 refused_for P (answers.OtherList line) (fault.Refused a p) tells (inr is) = (answers.OtherList line, is, tells)
 refused_for P (answers.OtherList line) fault.OutOfMemory tells is = absurd tells
-refused_for P (answers.OtherList line) (fault.ReadFailed file) tells is = absurd tells
-refused_for P (answers.OtherList line) (fault.TooLong file) tells is = absurd tells
-refused_for P (answers.OtherList line) (fault.OpenFailed file) tells is = absurd tells
-refused_for P (answers.OtherList line) fault.WriteFailed tells is = absurd tells
 refused_for P (answers.Count line) (fault.Refused a p) tells (inl is) = absurd (cc)
 refused_for P (answers.Count line) (fault.Refused a p) tells (inr is) = (answers.Count line, is, tells)
 refused_for P (answers.Count line) fault.OutOfMemory tells is = absurd tells
-refused_for P (answers.Count line) (fault.ReadFailed file) tells is = absurd tells
-refused_for P (answers.Count line) (fault.TooLong file) tells is = absurd tells
-refused_for P (answers.Count line) (fault.OpenFailed file) tells is = absurd tells
-refused_for P (answers.Count line) fault.WriteFailed tells is = absurd tells
+refused_for P error found tells is = absurd tells
 
 -- what refuses the text is told, or memory was refused before it
 pub every_answers_fault : {T U : Type 0} (text : List ℕ) (error : AnswersError) (found : Fault) → IsAnswersFault error found
@@ -106,9 +81,7 @@ every_answers_fault text error found is every =
 pub wanted_for_answers : {T : Type 0} (text : List ℕ) (error : AnswersError) (found : Fault) → IsAnswersFault error found → (error ≡ answers.OutOfMemory → BeginsWithHeading text)
     → Path (Result T Fault) (Err found) (Err fault.OutOfMemory) → BeginsWithHeading text
 wanted_for_answers text answers.OutOfMemory found tells begins is = begins refl
-wanted_for_answers text (answers.Syntax line) found tells begins is = let same : found ≡ fault.OutOfMemory = cc in absurd (subst (IsAnswersFault (answers.Syntax line)) same tells)
-wanted_for_answers text (answers.OtherList line) found tells begins is = let same : found ≡ fault.OutOfMemory = cc in absurd (subst (IsAnswersFault (answers.OtherList line)) same tells)
-wanted_for_answers text (answers.Count line) found tells begins is = let same : found ≡ fault.OutOfMemory = cc in absurd (subst (IsAnswersFault (answers.Count line)) same tells)
+wanted_for_answers text error found tells begins is = let same : found ≡ fault.OutOfMemory = cc in absurd (subst (IsAnswersFault error) same tells)
 
 -- ---- one fault
 
@@ -190,11 +163,7 @@ module _ (capture : List ℕ) (moments : Moments) (text : List ℕ) where
 -- answers of another list are refused, so no read has failed
 other_found : (line : ℕ) (found : Fault) → IsAnswersFault (answers.OtherList line) found → IsRefusalOf (λ why place. ⊤) found
 other_found line (fault.Refused why place) tells = tt
-other_found line fault.OutOfMemory tells = absurd tells
-other_found line (fault.ReadFailed file) tells = absurd tells
-other_found line (fault.TooLong file) tells = absurd tells
-other_found line (fault.OpenFailed file) tells = absurd tells
-other_found line fault.WriteFailed tells = absurd tells
+other_found line found tells = absurd tells
 
 pub other_refused : (contents : AnswersContents) (digest : List ℕ) (moments : Moments) (error : AnswersError) (found : Fault) → AreOfOther contents digest moments error
     → IsAnswersFault error found → IsRefusalOf (λ why place. ⊤) found
@@ -202,47 +171,28 @@ other_refused contents digest moments error found other tells = other_found cont
 
 pub refused_unread : (file : InputFile) (told : Fault) → IsRefusalOf (λ why place. ⊤) told → told ≡ fault.ReadFailed file → ⊥
 refused_unread file (fault.Refused why place) refused is = cc
-refused_unread file fault.OutOfMemory refused is = refused
-refused_unread file (fault.ReadFailed other) refused is = refused
-refused_unread file (fault.TooLong other) refused is = refused
-refused_unread file (fault.OpenFailed other) refused is = refused
-refused_unread file fault.WriteFailed refused is = refused
+refused_unread file told refused is = refused
 
 pub refused_about : (file : InputFile) (told : Fault) → IsRefusalOf (λ why place. ⊤) told → IsAbout file told
 refused_about file (fault.Refused why place) refused = tt
-refused_about file fault.OutOfMemory refused = absurd refused
-refused_about file (fault.ReadFailed other) refused = absurd refused
-refused_about file (fault.TooLong other) refused = absurd refused
-refused_about file (fault.OpenFailed other) refused = absurd refused
-refused_about file fault.WriteFailed refused = absurd refused
+refused_about file told refused = absurd refused
 
 pub refused_of_reads : (Holds : InputFile → Type 0) (told : Fault) → IsRefusalOf (λ why place. ⊤) told → OfFailedRead Holds told
 refused_of_reads Holds (fault.Refused why place) refused = tt
-refused_of_reads Holds fault.OutOfMemory refused = absurd refused
-refused_of_reads Holds (fault.ReadFailed other) refused = absurd refused
-refused_of_reads Holds (fault.TooLong other) refused = absurd refused
-refused_of_reads Holds (fault.OpenFailed other) refused = absurd refused
-refused_of_reads Holds fault.WriteFailed refused = absurd refused
+refused_of_reads Holds told refused = absurd refused
 
 -- what the text is at fault for is at fault before entries are counted
 pub text_before : (capture : List ℕ) (moments : Moments) (text : List ℕ) (told : Fault) → OfOctets (IsTextFault Answers AreAnswersRefused text) told
     → OfOctets (IsFaultBeforeCount capture moments text) told
 text_before capture moments text (fault.Refused why place) holds = (holds.0, inl holds.1)
 text_before capture moments text (fault.TooLong file) holds = holds
-text_before capture moments text fault.OutOfMemory holds = tt
-text_before capture moments text (fault.ReadFailed file) holds = tt
-text_before capture moments text (fault.OpenFailed file) holds = tt
-text_before capture moments text fault.WriteFailed holds = tt
+text_before capture moments text told holds = tt
 
 -- and so are answers to another list
 pub other_before : (capture : List ℕ) (moments : Moments) (text : List ℕ) (contents : AnswersContents) → HasAnswers text contents → (told : Fault)
     → IsRefusalOf (AreForOther capture moments contents) told → OfOctets (IsFaultBeforeCount capture moments text) told
 other_before capture moments text contents has (fault.Refused why place) bad = (has.within, inr (contents, has.are, bad))
-other_before capture moments text contents has fault.OutOfMemory bad = absurd bad
-other_before capture moments text contents has (fault.ReadFailed file) bad = absurd bad
-other_before capture moments text contents has (fault.TooLong file) bad = absurd bad
-other_before capture moments text contents has (fault.OpenFailed file) bad = absurd bad
-other_before capture moments text contents has fault.WriteFailed bad = absurd bad
+other_before capture moments text contents has told bad = absurd bad
 
 -- ---- the capture that they are said of
 
@@ -267,8 +217,4 @@ other_told capture moments digest contents is error found other tells =
 
     go : (found : Fault) → IsAnswersFault (answers.OtherList contents.line) found → IsRefusalOf (AreForOther capture moments contents) found
     go (fault.Refused why place) tells = (answers.OtherList contents.line, there, tells)
-    go fault.OutOfMemory tells = absurd tells
-    go (fault.ReadFailed file) tells = absurd tells
-    go (fault.TooLong file) tells = absurd tells
-    go (fault.OpenFailed file) tells = absurd tells
-    go fault.WriteFailed tells = absurd tells
+    go found tells = absurd tells

@@ -1,8 +1,8 @@
 -- The messages of frames, one after another.
-use Rattle.std.proofs.Common.{◌≡◌, ℕ, suc, ◌+◌, ◌<◌, ◌≤◌, List, [], ◌∷◌, ◌++◌, length, get_or, take, drop, refl, sym, ap, subst, ◌∙◌, inl, inr, arith}
-use Rattle.std.proofs.lemmas.List.{drop_more, take_all, take_more, length-map, length-take-le, get_or-map}
+use Rattle.std.proofs.Common.{◌≡◌, ℕ, suc, ◌+◌, ◌<◌, List, [], ◌∷◌, ◌++◌, length, get_or, take, drop, refl, sym, ap, subst, ◌∙◌, inl, inr, arith}
+use Rattle.std.proofs.lemmas.List.{drop_more, take_more, length-map, length-take-le, get_or-map}
 use Rattle.std.specs.List.{fold}
-use Rattle.std.specs.Prelude.{Result, Ok, Err, OnOk}
+use Rattle.std.specs.Prelude.{Result, Err}
 use Rattle.std.specs.Borrow.{Bor}
 use Rattle.dnsv_message.specs.Streams.Frames.{octets_at_each}
 use Rattle.dnsv_message.specs.Message.{Contents}
@@ -38,18 +38,7 @@ AllTaken-push demand opening held number at (x' ∷ xs) (y' ∷ ys) x y same all
 pub IsFaultOf-weaker : (P Q : Refusal → Place → Type 0) (told : Fault) → ((why : Refusal) (place : Place) → P why place → Q why place) → IsFaultOf P told → IsFaultOf Q told
 IsFaultOf-weaker P Q (fault.Refused why place) weaker holds = weaker why place holds
 IsFaultOf-weaker P Q fault.OutOfMemory weaker holds = tt
-IsFaultOf-weaker P Q (fault.ReadFailed file) weaker holds = holds
-IsFaultOf-weaker P Q (fault.TooLong file) weaker holds = holds
-IsFaultOf-weaker P Q (fault.OpenFailed file) weaker holds = holds
-IsFaultOf-weaker P Q fault.WriteFailed weaker holds = holds
-
--- a refusal is told alike whatever else the result may be
-pub told_alike : {T U : Type 0} (told : Fault) (P : Refusal → Place → Type 0)
-    → ((why : Refusal) (place : Place) → Path (Result T Fault) (Err told) (Err (fault.Refused why place)) → P why place)
-    → (why : Refusal) (place : Place) → Path (Result U Fault) (Err told) (Err (fault.Refused why place)) → P why place
-told_alike told P refused why place is =
-    let same : told ≡ fault.Refused why place = cc in
-    refused why place (ap (λ (e : Fault). Err e) same)
+IsFaultOf-weaker P Q told weaker holds = holds
 
 -- what a capture doesn't take is refused
 module _ (opening : Opening) (held : Evidence) (frame : List ℕ) (number : ℕ) (message : Contents) (is : IsInFrame opening number frame message) where
@@ -59,49 +48,18 @@ module _ (opening : Opening) (held : Evidence) (frame : List ℕ) (number : ℕ)
   capture_refused capture.Truncated (fault.Refused why place) refused tells = (inr (message, is, (capture.Truncated, refused, tells.0)), tells.1, tells.2)
   capture_refused (capture.BadRdata k) (fault.Refused why place) refused tells = (inr (message, is, (capture.BadRdata k, refused, tells.0)), tells.1, tells.2)
   capture_refused capture.Limit (fault.Refused why place) refused tells = (inr (message, is, (capture.Limit, refused, tells.0)), tells.1, tells.2)
-  capture_refused capture.NotAResponse fault.OutOfMemory refused tells = absurd tells
-  capture_refused capture.NotAResponse (fault.ReadFailed file) refused tells = absurd tells
-  capture_refused capture.NotAResponse (fault.TooLong file) refused tells = absurd tells
-  capture_refused capture.NotAResponse (fault.OpenFailed file) refused tells = absurd tells
-  capture_refused capture.NotAResponse fault.WriteFailed refused tells = absurd tells
-  capture_refused capture.Truncated fault.OutOfMemory refused tells = absurd tells
-  capture_refused capture.Truncated (fault.ReadFailed file) refused tells = absurd tells
-  capture_refused capture.Truncated (fault.TooLong file) refused tells = absurd tells
-  capture_refused capture.Truncated (fault.OpenFailed file) refused tells = absurd tells
-  capture_refused capture.Truncated fault.WriteFailed refused tells = absurd tells
-  capture_refused (capture.BadRdata k) fault.OutOfMemory refused tells = absurd tells
-  capture_refused (capture.BadRdata k) (fault.ReadFailed file) refused tells = absurd tells
-  capture_refused (capture.BadRdata k) (fault.TooLong file) refused tells = absurd tells
-  capture_refused (capture.BadRdata k) (fault.OpenFailed file) refused tells = absurd tells
-  capture_refused (capture.BadRdata k) fault.WriteFailed refused tells = absurd tells
-  capture_refused capture.Limit fault.OutOfMemory refused tells = absurd tells
-  capture_refused capture.Limit (fault.ReadFailed file) refused tells = absurd tells
-  capture_refused capture.Limit (fault.TooLong file) refused tells = absurd tells
-  capture_refused capture.Limit (fault.OpenFailed file) refused tells = absurd tells
-  capture_refused capture.Limit fault.WriteFailed refused tells = absurd tells
-
-  -- what it takes is
-  pub message_added : {T E : Type 0} (now : Evidence) (result : Result T E) → OnOk result (Meets NewEvidence held message × (now ≡ with_message held message))
-      → OnOk result ((added : Contents) × (IsInFrame opening number frame added × Meets NewEvidence held added) × (now ≡ with_message held added))
-  message_added now (Ok x) added = (message, (is, added.0), added.1)
-  message_added now (Err e) added = tt
+  capture_refused error told refused tells = absurd tells
 
 -- memory is wanted for a whole response alone
 pub whole_wanted : {T : Type 0} (held : Evidence) (message : Contents) (number : ℕ) (error : CaptureError) (told : Fault) → IsReasonAgainst held message error
     → IsCaptureFault error number told → Path (Result T Fault) (Err told) (Err fault.OutOfMemory) → IsWhole message
 whole_wanted held message number capture.OutOfMemory told refused tells is = refused
-whole_wanted held message number capture.NotAResponse told refused tells is = let same : told ≡ fault.OutOfMemory = cc in absurd (subst (IsCaptureFault capture.NotAResponse number) same tells)
-whole_wanted held message number capture.Truncated told refused tells is = let same : told ≡ fault.OutOfMemory = cc in absurd (subst (IsCaptureFault capture.Truncated number) same tells)
-whole_wanted held message number (capture.BadRdata k) told refused tells is = let same : told ≡ fault.OutOfMemory = cc in absurd (subst (IsCaptureFault (capture.BadRdata k) number) same tells)
-whole_wanted held message number capture.Limit told refused tells is = let same : told ≡ fault.OutOfMemory = cc in absurd (subst (IsCaptureFault capture.Limit number) same tells)
+whole_wanted held message number error told refused tells is = let same : told ≡ fault.OutOfMemory = cc in absurd (subst (IsCaptureFault error number) same tells)
 
 -- the messages before the place are taken, and what is refused from there on is the first that is
 pub record MessagesSoFar (demand : Demand) (opening : Opening) (frames : List (List ℕ)) (done : ℕ) (messages : List Contents) : Type 0 where
   pub taken : AllTaken demand opening no_evidence 1 (take done frames) messages
   pub refused : (why : Refusal) (place : Place) → FirstRefused demand opening (evidence_of messages) (done + 1) (drop done frames) why place → FirstRefused demand opening no_evidence 1 frames why place
-
-pub MessagesSoFar-start : (demand : Demand) (opening : Opening) (frames : List (List ℕ)) → MessagesSoFar demand opening frames 0 []
-MessagesSoFar-start demand opening frames = record { taken = tt; refused = λ why place refused. refused }
 
 module _ {demand : Demand} {opening : Opening} {frames : List (List ℕ)} {done : ℕ} {messages : List Contents} (judged : MessagesSoFar demand opening frames done messages) (octets : List ℕ) (within : done < length frames) (here : get_or frames done [] ≡ octets) where
   next : drop done frames ≡ octets ∷ drop (done + 1) frames
@@ -134,17 +92,11 @@ module _ {demand : Demand} {opening : Opening} {frames : List (List ℕ)} {done 
   pub MessagesSoFar-no_message : (why : Refusal) (place : Place) → IsNoMessageAt opening octets (done + 1) why place → FirstRefused demand opening no_evidence 1 frames why place
   MessagesSoFar-no_message why place refused = MessagesSoFar-refused why place (inl refused.0, refused.1, refused.2)
 
-pub MessagesSoFar-all : (demand : Demand) (opening : Opening) (frames : List (List ℕ)) (done : ℕ) (messages : List Contents) → length frames ≤ done → MessagesSoFar demand opening frames done messages → AllTaken demand opening no_evidence 1 frames messages
-MessagesSoFar-all demand opening frames done messages all judged = subst (λ xs. AllTaken demand opening no_evidence 1 xs messages) (take_all done frames all) judged.taken
-
 -- the evidence is that of the messages before the place
 pub record EvidenceSoFar (opening : Opening) (frames : List (List ℕ)) (done : ℕ) (held : Evidence) : Type 0 where
   pub messages : List Contents
   pub judged : MessagesSoFar NewEvidence opening frames done messages
   pub same : held ≡ evidence_of messages
-
-pub EvidenceSoFar-start : (opening : Opening) (frames : List (List ℕ)) (held : Evidence) → held ≡ no_evidence → EvidenceSoFar opening frames 0 held
-EvidenceSoFar-start opening frames held none = record { messages = []; judged = MessagesSoFar-start NewEvidence opening frames; same = none }
 
 module _ {opening : Opening} {frames : List (List ℕ)} {done : ℕ} {held : Evidence} (gathered : EvidenceSoFar opening frames done held) (octets : List ℕ) (within : done < length frames) (here : get_or frames done [] ≡ octets) where
   pub EvidenceSoFar-next : (after : Evidence) → (message : Contents) × (IsInFrame opening (done + 1) octets message × Meets NewEvidence held message) × (after ≡ with_message held message) → EvidenceSoFar opening frames (done + 1) after
@@ -157,10 +109,6 @@ module _ {opening : Opening} {frames : List (List ℕ)} {done : ℕ} {held : Evi
   pub EvidenceSoFar-refused : (why : Refusal) (place : Place) → IsRefusedAt NewEvidence opening held octets (done + 1) why place → FirstRefused NewEvidence opening no_evidence 1 frames why place
   EvidenceSoFar-refused why place refused =
       MessagesSoFar-refused gathered.judged octets within here why place (subst (λ held. IsRefusedAt NewEvidence opening held octets (done + 1) why place) gathered.same refused)
-
-pub EvidenceSoFar-all : (opening : Opening) (frames : List (List ℕ)) (done : ℕ) (held : Evidence) → length frames ≤ done → EvidenceSoFar opening frames done held
-    → (messages : List Contents) × AllTaken NewEvidence opening no_evidence 1 frames messages × (held ≡ evidence_of messages)
-EvidenceSoFar-all opening frames done held all gathered = (gathered.messages, MessagesSoFar-all NewEvidence opening frames done gathered.messages all gathered.judged, gathered.same)
 
 -- the octets of the frame at a place
 pub frame_at : (frames : List (Bor (List ℕ))) (i : ℕ) (other : Bor (List ℕ)) → i < length frames → (i < length (octets_at_each frames)) × (get_or (octets_at_each frames) i [] ≡ (get_or frames i other).now)

@@ -69,10 +69,7 @@ module _ {file : InputFile} {IsFault : List ℕ → Fault → Type 0} {octets : 
       record { told = means why place holds; reads = reads_then x (Err (fault.Refused why place)) tells.reads (λ is. cc); about = tt }
   later P x fault.OutOfMemory tells means holds =
       record { told = some_unit octets; reads = reads_then x (Err fault.OutOfMemory) tells.reads (λ is. cc); about = tt }
-  later P x (fault.ReadFailed other) tells means holds = absurd holds
-  later P x (fault.TooLong other) tells means holds = absurd holds
-  later P x (fault.OpenFailed other) tells means holds = absurd holds
-  later P x fault.WriteFailed tells means holds = absurd holds
+  later P x told tells means holds = absurd holds
 
   -- the file was read, and the answer is that of the next call
   pub TellsFileFaults-then : (P : Refusal → Place → Type 0) (x : T) (result : Result U Fault) → TellsFileFaults file IsFault octets before after (Ok x)
@@ -94,10 +91,7 @@ frames_refused demand opening (Some file) frames is why place refused = inr (inr
 pub OfOctets-weaker : (P Q : Fault → Type 0) (told : Fault) → ((fault : Fault) → P fault → Q fault) → OfOctets P told → OfOctets Q told
 OfOctets-weaker P Q (fault.Refused why place) weaker holds = weaker (fault.Refused why place) holds
 OfOctets-weaker P Q (fault.TooLong file) weaker holds = weaker (fault.TooLong file) holds
-OfOctets-weaker P Q fault.OutOfMemory weaker holds = tt
-OfOctets-weaker P Q (fault.ReadFailed file) weaker holds = tt
-OfOctets-weaker P Q (fault.OpenFailed file) weaker holds = tt
-OfOctets-weaker P Q fault.WriteFailed weaker holds = tt
+OfOctets-weaker P Q told weaker holds = tt
 
 pub about_opened : (file : InputFile) (told : Fault) → IsAbout file told → (other : InputFile) → told ≡ fault.OpenFailed other → ⊥
 about_opened file told about other is = subst (IsAbout file) is about
@@ -181,10 +175,7 @@ refused_behind IsFirst x fault.OutOfMemory P tells first is = record {
   reads = reads_after x (Err fault.OutOfMemory) tells.reads (λ file. λ same. cc) (λ file same. cc);
   unread = λ same. cc;
 }
-refused_behind IsFirst x (fault.ReadFailed file) P tells first is = absurd is
-refused_behind IsFirst x (fault.TooLong file) P tells first is = absurd is
-refused_behind IsFirst x (fault.OpenFailed file) P tells first is = absurd is
-refused_behind IsFirst x fault.WriteFailed P tells first is = absurd is
+refused_behind IsFirst x told P tells first is = absurd is
 
 -- readers that weren't called
 pub reads_of_none : {R T : Type 0} {before after : Inputs R} (result : Result T Fault) → after.capture ≡ before.capture → after.anchors ≡ before.anchors

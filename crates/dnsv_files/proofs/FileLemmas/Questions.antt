@@ -28,17 +28,8 @@ one_telling (questions.TooMany number) a b p q x y = one_at_line number (refusal
 told_as : (error : QuestionsError) (found : Fault) → IsQuestionsFault error found → (why : Refusal) (place : Place) → TellsQuestionsError error why place → found ≡ fault.Refused why place
 told_as questions.OutOfMemory found is why place tells = absurd tells
 told_as (questions.Syntax line) (fault.Refused a p) is why place tells = one_telling (questions.Syntax line) a why p place is tells
-told_as (questions.Syntax line) fault.OutOfMemory is why place tells = absurd is
-told_as (questions.Syntax line) (fault.ReadFailed file) is why place tells = absurd is
-told_as (questions.Syntax line) (fault.TooLong file) is why place tells = absurd is
-told_as (questions.Syntax line) (fault.OpenFailed file) is why place tells = absurd is
-told_as (questions.Syntax line) fault.WriteFailed is why place tells = absurd is
 told_as (questions.TooMany line) (fault.Refused a p) is why place tells = one_telling (questions.TooMany line) a why p place is tells
-told_as (questions.TooMany line) fault.OutOfMemory is why place tells = absurd is
-told_as (questions.TooMany line) (fault.ReadFailed file) is why place tells = absurd is
-told_as (questions.TooMany line) (fault.TooLong file) is why place tells = absurd is
-told_as (questions.TooMany line) (fault.OpenFailed file) is why place tells = absurd is
-told_as (questions.TooMany line) fault.WriteFailed is why place tells = absurd is
+told_as error found is why place tells = absurd is
 
 -- what refuses the text is told, or memory was refused before it
 pub every_questions_fault : {T U : Type 0} (text : List ℕ) (error : QuestionsError) (found : Fault) → IsQuestionsFault error found
@@ -63,5 +54,4 @@ one_questions_fault text =
 pub wanted_for_questions : {T : Type 0} (text : List ℕ) (error : QuestionsError) (found : Fault) → IsQuestionsFault error found → (error ≡ questions.OutOfMemory → BeginsWithQuestion text)
     → Path (Result T Fault) (Err found) (Err fault.OutOfMemory) → BeginsWithQuestion text
 wanted_for_questions text questions.OutOfMemory found tells begins is = begins refl
-wanted_for_questions text (questions.Syntax line) found tells begins is = let same : found ≡ fault.OutOfMemory = cc in absurd (subst (IsQuestionsFault (questions.Syntax line)) same tells)
-wanted_for_questions text (questions.TooMany line) found tells begins is = let same : found ≡ fault.OutOfMemory = cc in absurd (subst (IsQuestionsFault (questions.TooMany line)) same tells)
+wanted_for_questions text error found tells begins is = let same : found ≡ fault.OutOfMemory = cc in absurd (subst (IsQuestionsFault error) same tells)

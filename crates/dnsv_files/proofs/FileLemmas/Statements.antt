@@ -49,17 +49,8 @@ one_telling (statements.Contradiction number) a b p q x y = one_at_line number (
 told_as : (error : StatementsError) (found : Fault) → IsStatementsFault error found → (why : Refusal) (place : Place) → TellsStatementsError error why place → found ≡ fault.Refused why place
 told_as statements.OutOfMemory found is why place tells = absurd tells
 told_as (statements.Syntax line) (fault.Refused a p) is why place tells = one_telling (statements.Syntax line) a why p place is tells
-told_as (statements.Syntax line) fault.OutOfMemory is why place tells = absurd is
-told_as (statements.Syntax line) (fault.ReadFailed file) is why place tells = absurd is
-told_as (statements.Syntax line) (fault.TooLong file) is why place tells = absurd is
-told_as (statements.Syntax line) (fault.OpenFailed file) is why place tells = absurd is
-told_as (statements.Syntax line) fault.WriteFailed is why place tells = absurd is
 told_as (statements.Contradiction line) (fault.Refused a p) is why place tells = one_telling (statements.Contradiction line) a why p place is tells
-told_as (statements.Contradiction line) fault.OutOfMemory is why place tells = absurd is
-told_as (statements.Contradiction line) (fault.ReadFailed file) is why place tells = absurd is
-told_as (statements.Contradiction line) (fault.TooLong file) is why place tells = absurd is
-told_as (statements.Contradiction line) (fault.OpenFailed file) is why place tells = absurd is
-told_as (statements.Contradiction line) fault.WriteFailed is why place tells = absurd is
+told_as error found is why place tells = absurd is
 
 -- what refuses the text is told, or memory was refused before it
 pub every_statements_fault : {T U : Type 0} (text : List ℕ) (error : StatementsError) (found : Fault) → IsStatementsFault error found
@@ -84,5 +75,4 @@ one_statements_fault text =
 pub wanted_for_statements : {T : Type 0} (text : List ℕ) (error : StatementsError) (found : Fault) → IsStatementsFault error found → (error ≡ statements.OutOfMemory → BeginsWithStatement text)
     → Path (Result T Fault) (Err found) (Err fault.OutOfMemory) → BeginsWithStatement text
 wanted_for_statements text statements.OutOfMemory found tells begins is = begins refl
-wanted_for_statements text (statements.Syntax line) found tells begins is = let same : found ≡ fault.OutOfMemory = cc in absurd (subst (IsStatementsFault (statements.Syntax line)) same tells)
-wanted_for_statements text (statements.Contradiction line) found tells begins is = let same : found ≡ fault.OutOfMemory = cc in absurd (subst (IsStatementsFault (statements.Contradiction line)) same tells)
+wanted_for_statements text error found tells begins is = let same : found ≡ fault.OutOfMemory = cc in absurd (subst (IsStatementsFault error) same tells)

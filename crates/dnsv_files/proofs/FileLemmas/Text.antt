@@ -99,10 +99,7 @@ module _ (file : InputFile) (IsRefused : List ℕ → Refusal → Place → Type
       → (told : Fault) → IsTextFault file IsRefused text told → ⊥
   no_text_fault within stands (fault.Refused why place) bad = stands why place bad.1
   no_text_fault within stands (fault.TooLong other) bad = too_many (length text) file_limit within bad.1
-  no_text_fault within stands fault.OutOfMemory bad = bad
-  no_text_fault within stands (fault.ReadFailed other) bad = bad
-  no_text_fault within stands (fault.OpenFailed other) bad = bad
-  no_text_fault within stands fault.WriteFailed bad = bad
+  no_text_fault within stands told bad = bad
 
   -- a text that is refused in one way has one fault
   pub one_text_fault : ((a b : Refusal) (p q : Place) → IsRefused text a p → IsRefused text b q → fault.Refused a p ≡ fault.Refused b q)

@@ -23,13 +23,7 @@ module _ (number : ℕ) where
   message_told_as : (error : DecodeError) (why : Refusal) (place : Place) → IsDecodeFault error number (fault.Refused why place)
       → TellsMessageError error why place.«record» × (place.message ≡ Some number) × (place.line ≡ None)
   message_told_as decode.OutOfMemory why place is = cc
-  message_told_as decode.Short why place is = is
-  message_told_as decode.BadLabel why place is = is
-  message_told_as decode.BadPointer why place is = is
-  message_told_as decode.TooManyPointers why place is = is
-  message_told_as decode.LongName why place is = is
-  message_told_as (decode.BadRdata k) why place is = is
-  message_told_as decode.TrailingBytes why place is = is
+  message_told_as error why place is = is
 
   -- no fault of another kind is told
   abbrev IsNotOfMessage : Fault → Type 0
@@ -37,43 +31,19 @@ module _ (number : ℕ) where
 
   no_message_read : (file : InputFile) → IsNotOfMessage (fault.ReadFailed file)
   no_message_read file decode.OutOfMemory is = cc
-  no_message_read file decode.Short is = is
-  no_message_read file decode.BadLabel is = is
-  no_message_read file decode.BadPointer is = is
-  no_message_read file decode.TooManyPointers is = is
-  no_message_read file decode.LongName is = is
-  no_message_read file (decode.BadRdata k) is = is
-  no_message_read file decode.TrailingBytes is = is
+  no_message_read file message is = is
 
   no_message_long : (file : InputFile) → IsNotOfMessage (fault.TooLong file)
   no_message_long file decode.OutOfMemory is = cc
-  no_message_long file decode.Short is = is
-  no_message_long file decode.BadLabel is = is
-  no_message_long file decode.BadPointer is = is
-  no_message_long file decode.TooManyPointers is = is
-  no_message_long file decode.LongName is = is
-  no_message_long file (decode.BadRdata k) is = is
-  no_message_long file decode.TrailingBytes is = is
+  no_message_long file message is = is
 
   no_message_unopened : (file : InputFile) → IsNotOfMessage (fault.OpenFailed file)
   no_message_unopened file decode.OutOfMemory is = cc
-  no_message_unopened file decode.Short is = is
-  no_message_unopened file decode.BadLabel is = is
-  no_message_unopened file decode.BadPointer is = is
-  no_message_unopened file decode.TooManyPointers is = is
-  no_message_unopened file decode.LongName is = is
-  no_message_unopened file (decode.BadRdata k) is = is
-  no_message_unopened file decode.TrailingBytes is = is
+  no_message_unopened file message is = is
 
   no_message_unwritten : IsNotOfMessage fault.WriteFailed
   no_message_unwritten decode.OutOfMemory is = cc
-  no_message_unwritten decode.Short is = is
-  no_message_unwritten decode.BadLabel is = is
-  no_message_unwritten decode.BadPointer is = is
-  no_message_unwritten decode.TooManyPointers is = is
-  no_message_unwritten decode.LongName is = is
-  no_message_unwritten (decode.BadRdata k) is = is
-  no_message_unwritten decode.TrailingBytes is = is
+  no_message_unwritten message is = is
 
   unreadable_told : (octets : List ℕ) (error : DecodeError) (told : Fault) → FaultOf octets error → IsDecodeFault error number told
       → IsFaultOf (IsUnreadableAt octets number) told
@@ -98,13 +68,7 @@ module _ (number : ℕ) where
       → TellsTsigError error why place.«record» × (place.message ≡ Some number) × (place.line ≡ None)
   frame_told_as tsig.OutOfMemory why place is = cc
   frame_told_as (tsig.Unreadable error) why place is = message_told_as error why place is
-  frame_told_as tsig.NoTsig why place is = is
-  frame_told_as tsig.Form why place is = is
-  frame_told_as tsig.BadKey why place is = is
-  frame_told_as tsig.BadMac why place is = is
-  frame_told_as tsig.BadTime why place is = is
-  frame_told_as tsig.TruncatedMac why place is = is
-  frame_told_as tsig.PeerError why place is = is
+  frame_told_as error why place is = is
 
   abbrev IsNotOfFrame : Fault → Type 0
   IsNotOfFrame told = (error : TsigError) → IsTsigFault error number told → ⊥
@@ -112,46 +76,22 @@ module _ (number : ℕ) where
   no_frame_read : (file : InputFile) → IsNotOfFrame (fault.ReadFailed file)
   no_frame_read file tsig.OutOfMemory is = cc
   no_frame_read file (tsig.Unreadable error) is = no_message_read file error is
-  no_frame_read file tsig.NoTsig is = is
-  no_frame_read file tsig.Form is = is
-  no_frame_read file tsig.BadKey is = is
-  no_frame_read file tsig.BadMac is = is
-  no_frame_read file tsig.BadTime is = is
-  no_frame_read file tsig.TruncatedMac is = is
-  no_frame_read file tsig.PeerError is = is
+  no_frame_read file frame is = is
 
   no_frame_long : (file : InputFile) → IsNotOfFrame (fault.TooLong file)
   no_frame_long file tsig.OutOfMemory is = cc
   no_frame_long file (tsig.Unreadable error) is = no_message_long file error is
-  no_frame_long file tsig.NoTsig is = is
-  no_frame_long file tsig.Form is = is
-  no_frame_long file tsig.BadKey is = is
-  no_frame_long file tsig.BadMac is = is
-  no_frame_long file tsig.BadTime is = is
-  no_frame_long file tsig.TruncatedMac is = is
-  no_frame_long file tsig.PeerError is = is
+  no_frame_long file frame is = is
 
   no_frame_unopened : (file : InputFile) → IsNotOfFrame (fault.OpenFailed file)
   no_frame_unopened file tsig.OutOfMemory is = cc
   no_frame_unopened file (tsig.Unreadable error) is = no_message_unopened file error is
-  no_frame_unopened file tsig.NoTsig is = is
-  no_frame_unopened file tsig.Form is = is
-  no_frame_unopened file tsig.BadKey is = is
-  no_frame_unopened file tsig.BadMac is = is
-  no_frame_unopened file tsig.BadTime is = is
-  no_frame_unopened file tsig.TruncatedMac is = is
-  no_frame_unopened file tsig.PeerError is = is
+  no_frame_unopened file frame is = is
 
   no_frame_unwritten : IsNotOfFrame fault.WriteFailed
   no_frame_unwritten tsig.OutOfMemory is = cc
   no_frame_unwritten (tsig.Unreadable error) is = no_message_unwritten error is
-  no_frame_unwritten tsig.NoTsig is = is
-  no_frame_unwritten tsig.Form is = is
-  no_frame_unwritten tsig.BadKey is = is
-  no_frame_unwritten tsig.BadMac is = is
-  no_frame_unwritten tsig.BadTime is = is
-  no_frame_unwritten tsig.TruncatedMac is = is
-  no_frame_unwritten tsig.PeerError is = is
+  no_frame_unwritten frame is = is
 
   unopened_told : (keys : List SharedKey) (now : ℕ) (request : Option (List ℕ)) (frame : List ℕ) (error : TsigError) (told : Fault)
       → tsig_answer_of frame keys now request (Err error) → IsTsigFault error number told

@@ -25,17 +25,8 @@ one_telling (key_file.DuplicateKey number) a b p q x y = one_at_line number (ref
 told_as : (error : KeyFileError) (found : Fault) → IsKeysFault error found → (why : Refusal) (place : Place) → TellsKeysError error why place → found ≡ fault.Refused why place
 told_as key_file.OutOfMemory found is why place tells = absurd tells
 told_as (key_file.Syntax line) (fault.Refused a p) is why place tells = one_telling (key_file.Syntax line) a why p place is tells
-told_as (key_file.Syntax line) fault.OutOfMemory is why place tells = absurd is
-told_as (key_file.Syntax line) (fault.ReadFailed file) is why place tells = absurd is
-told_as (key_file.Syntax line) (fault.TooLong file) is why place tells = absurd is
-told_as (key_file.Syntax line) (fault.OpenFailed file) is why place tells = absurd is
-told_as (key_file.Syntax line) fault.WriteFailed is why place tells = absurd is
 told_as (key_file.DuplicateKey line) (fault.Refused a p) is why place tells = one_telling (key_file.DuplicateKey line) a why p place is tells
-told_as (key_file.DuplicateKey line) fault.OutOfMemory is why place tells = absurd is
-told_as (key_file.DuplicateKey line) (fault.ReadFailed file) is why place tells = absurd is
-told_as (key_file.DuplicateKey line) (fault.TooLong file) is why place tells = absurd is
-told_as (key_file.DuplicateKey line) (fault.OpenFailed file) is why place tells = absurd is
-told_as (key_file.DuplicateKey line) fault.WriteFailed is why place tells = absurd is
+told_as error found is why place tells = absurd is
 
 -- what refuses the text is told, or memory was refused before it
 pub every_keys_fault : {T U : Type 0} (text : List ℕ) (error : KeyFileError) (found : Fault) → IsKeysFault error found
@@ -81,5 +72,4 @@ module _ (one_ring : (text : List ℕ) (a b : List SharedKey) → IsRingOf text 
 pub wanted_for_keys : {T : Type 0} (text : List ℕ) (error : KeyFileError) (found : Fault) → IsKeysFault error found → (error ≡ key_file.OutOfMemory → BeginsWithKey text)
     → Path (Result T Fault) (Err found) (Err fault.OutOfMemory) → BeginsWithKey text
 wanted_for_keys text key_file.OutOfMemory found tells begins is = begins refl
-wanted_for_keys text (key_file.Syntax line) found tells begins is = let same : found ≡ fault.OutOfMemory = cc in absurd (subst (IsKeysFault (key_file.Syntax line)) same tells)
-wanted_for_keys text (key_file.DuplicateKey line) found tells begins is = let same : found ≡ fault.OutOfMemory = cc in absurd (subst (IsKeysFault (key_file.DuplicateKey line)) same tells)
+wanted_for_keys text error found tells begins is = let same : found ≡ fault.OutOfMemory = cc in absurd (subst (IsKeysFault error) same tells)

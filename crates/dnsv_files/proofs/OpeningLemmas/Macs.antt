@@ -1,5 +1,5 @@
 -- Files of the MACs of requests, a line at a time.
-use Rattle.std.proofs.Common.{◌≡◌, ◌⊎◌, ◌<◌, ◌≤◌, ℕ, List, [], ◌∷◌, ◌++◌, Option, Some, None, Result, Ok, Err, codes, refl, sym, ap, subst, inl, inr, ⊎_elim, append_assoc, append-nil, ◌∙◌, arith, length}
+use Rattle.std.proofs.Common.{◌≡◌, ◌⊎◌, ◌<◌, ◌≤◌, ℕ, List, [], ◌∷◌, ◌++◌, Option, Some, None, Result, Ok, Err, codes, refl, sym, ap, subst, inl, inr, ⊎_elim, append-nil, ◌∙◌, arith, length}
 use Rattle.hex.specs.Hex.{decode_of, decode_sized}
 use Rattle.hex.specs.declared.error.FromHexError.{FromHexError}
 use Rattle.hex.proofs.HexLemmas.{decode_sized-ok, decode_sized-twice}
@@ -29,30 +29,9 @@ pub record GoesOn (all : List NumberedLine) (macs : List (Option (List ℕ))) (l
   pub refused : (why : Refusal) (place : Place) → IsFirstRefused left why place → IsFirstRefused all why place
   pub begun : (left ≡ all) ⊎ SaysFirst all
 
-pub GoesOn-start : (all : List NumberedLine) → GoesOn all [] all
-GoesOn-start all = record { gives = λ more say. say; refused = λ why place r. r; begun = inl refl }
-
-first_says : {all : List NumberedLine} (line : NumberedLine) (left : List NumberedLine) (mac : Option (List ℕ)) → ((line ∷ left) ≡ all) ⊎ SaysFirst all → IsMacLine line.octets mac → SaysFirst all
-first_says line left mac (inl same) is = subst SaysFirst same (mac, is)
-first_says line left mac (inr begun) is = begun
-
--- after one more line
-pub GoesOn-more : {all : List NumberedLine} {macs : List (Option (List ℕ))} (line : NumberedLine) (left : List NumberedLine) (mac : Option (List ℕ))
-    → GoesOn all macs (line ∷ left) → IsMacLine line.octets mac → GoesOn all (macs ++ mac ∷ []) left
-GoesOn-more {all} {macs} line left mac so_far is = record {
-  gives = λ more say. subst (λ each. SayMacs all each) (sym (append_assoc macs (mac ∷ []) more)) (so_far.gives (mac ∷ more) (is, say));
-  refused = λ why place r. so_far.refused why place (inr (mac, is, r));
-  begun = inr (first_says line left mac so_far.begun is);
-}
-
 -- after the last
 pub GoesOn-end : {all : List NumberedLine} {macs : List (Option (List ℕ))} → GoesOn all macs [] → SayMacs all macs
 GoesOn-end {all} {macs} so_far = subst (λ each. SayMacs all each) (append-nil macs) (so_far.gives [] tt)
-
--- a line that is refused is the first
-pub GoesOn-refused : {all : List NumberedLine} {macs : List (Option (List ℕ))} (line : NumberedLine) (left : List NumberedLine) (why : Refusal) (place : Place)
-    → GoesOn all macs (line ∷ left) → IsMacRefused line why place → IsFirstRefused all why place
-GoesOn-refused line left why place so_far refused = so_far.refused why place (inl refused)
 
 -- ---- a line
 
@@ -113,11 +92,6 @@ no_macs_fault text macs told x =
     (λ why place bad. list_stands x.lines macs why place x.say
     (subst (λ lines. IsFirstRefused lines why place) (HasLines-only text bad.0 x.lines bad.1 x.has) bad.2)) told
 
--- a text whose first line says a MAC begins with one
-begins : {text : List ℕ} (lines : List NumberedLine) → HasLines text lines → SaysFirst lines → BeginsWithMac text
-begins [] has first = absurd first
-begins (line ∷ lines) has first = record { line = line; behind = lines; has = has; value = first.0; says = first.1 }
-
 one_macs_refusal : (text : List ℕ) (a b : Refusal) (p q : Place) → AreMacsRefused text a p → AreMacsRefused text b q → fault.Refused a p ≡ fault.Refused b q
 one_macs_refusal text a b p q x y =
     one_refusal x.0 a b p q x.2 (subst (λ lines. IsFirstRefused lines b q) (HasLines-only text y.0 x.0 y.1 x.1) y.2)
@@ -127,27 +101,13 @@ one_macs_fault text = one_text_fault Macs AreMacsRefused text (one_macs_refusal 
 
 -- ---- what is refused is told
 
--- a line says a MAC, or that there was none, so the first does
-pub begins_so : {text : List ℕ} (all : List NumberedLine) (has : HasLines text all) {macs : List (Option (List ℕ))} (line : NumberedLine)
-    (left : List NumberedLine) (mac : Option (List ℕ)) → GoesOn all macs (line ∷ left) → IsMacLine line.octets mac → BeginsWithMac text
-begins_so all has line left mac so_far is = begins all has (first_says line left mac so_far.begun is)
-
 module _ {T : Type 0} (text : List ℕ) (all : List NumberedLine) (has : HasLines text all) where
   -- a line that is refused
   pub line_told : {macs : List (Option (List ℕ))} (line : NumberedLine) (left : List NumberedLine) (told : Fault)
       → GoesOn all macs (line ∷ left) → IsRefusalOf (IsMacRefused line) told → TellsRefusals {T = T} (AreMacsRefused text) (BeginsWithMac text) (Err told)
   line_told line left (fault.Refused a p) so_far is why place bad =
       inl (ap (λ (f : Fault). Err f) (one_macs_refusal text a why p place (all, has, so_far.refused a p (inl is)) bad))
-  line_told line left fault.OutOfMemory so_far is why place bad = absurd is
-  line_told line left (fault.ReadFailed file) so_far is why place bad = absurd is
-  line_told line left (fault.TooLong file) so_far is why place bad = absurd is
-  line_told line left (fault.OpenFailed file) so_far is why place bad = absurd is
-  line_told line left fault.WriteFailed so_far is why place bad = absurd is
-
-  -- memory that was refused to a line
-  pub memory_told : {macs : List (Option (List ℕ))} (line : NumberedLine) (left : List NumberedLine) (mac : Option (List ℕ))
-      → GoesOn all macs (line ∷ left) → IsMacLine line.octets mac → TellsRefusals {T = T} (AreMacsRefused text) (BeginsWithMac text) (Err fault.OutOfMemory)
-  memory_told line left mac so_far is why place bad = inr (refl, begins_so all has line left mac so_far is)
+  line_told line left told so_far is why place bad = absurd is
 
   -- nothing is refused
   pub none_told : (macs : List (Option (List ℕ))) (x : T) → SayMacs all macs → TellsRefusals {T = T} (AreMacsRefused text) (BeginsWithMac text) (Ok x)

@@ -1,18 +1,14 @@
 -- What wildcards' signatures ask for beside them.
-use Rattle.std.proofs.Common.{◌≡◌, ◌↔◌, ◌⊎◌, ◌&&◌, ◌+◌, ◌-◌, ◌<◌, ◌≤◌, ◌==◌, ℕ, Bool, true, false, inl, inr, ⊎_elim, List, [], ◌∷◌, ◌++◌, Option, Some, None, if◌then◌else◌, length, get_or, map, take, refl, sym, ap, ◌∙◌, subst, arith, IsTrue}
-use Rattle.std.proofs.lemmas.Bool.{and_from, and_parts, eqb-true, false≢true}
-use Rattle.std.proofs.lemmas.Cmp.{nat_cmp_total, nat_eq_equiv, on_total, then_total}
-use Rattle.std.proofs.lemmas.List.Elements.{All-contains, All-from_recursion, Contains-append_cases, Contains-append_left, Contains-append_right, Contains-get_or}
+use Rattle.std.proofs.Common.{◌≡◌, ◌↔◌, ◌⊎◌, ◌+◌, ◌-◌, ◌<◌, ◌≤◌, ◌==◌, ℕ, Bool, true, false, inl, inr, ⊎_elim, List, [], ◌∷◌, ◌++◌, Option, Some, None, if◌then◌else◌, length, get_or, map, take, refl, sym, ap, ◌∙◌, subst, arith, IsTrue}
+use Rattle.std.proofs.lemmas.Bool.{false≢true}
+use Rattle.std.proofs.lemmas.List.Elements.{All-contains, All-from_recursion, Contains-append_cases, Contains-append_left, Contains-append_right}
 use Rattle.std.proofs.lemmas.List.Kept.{Contains-dedup, Contains-from_dedup, IsStrictlySortedBy-dedup}
 use Rattle.std.proofs.lemmas.List.Sorted.{Contains-permutation, IsPermutation-sym}
 use Rattle.std.proofs.lemmas.Option.{slice_get-get_or, slice_get_within}
-use Rattle.std.specs.Cmp.{IsEquivalence, IsTotalOrder, unsigned_ties}
-use Rattle.std.specs.Cmp.Derive.{on_tied, then_tied, tie}
 use Rattle.std.specs.List.{AllByRecursion, AllZip, Contains, dedup}
 use Rattle.std.specs.List.Sorted.{IsPermutation, IsSorted, IsStrictlySortedBy}
 use Rattle.std.specs.Option.{is_some}
-use Rattle.std.specs.Ordering.{eq_by_cmp, nat_cmp}
-use Rattle.std.specs.Prelude.{MatchOption, nat_eq, not, slice_get}
+use Rattle.std.specs.Prelude.{MatchOption, not, slice_get}
 use Rattle.dnsv_names.specs.Name.{IsAtOrBelow, Labels, SameName, rightmost}
 use Rattle.dnsv_names.specs.Tree.{is_wildcard}
 use Rattle.dnsv_names.specs.Tree.TreeLaws.{at_or_below_length, same_labels}
@@ -29,6 +25,7 @@ use Rattle.dnsv_records.proofs.OneRecord.{one_rrsig}
 use Rattle.dnsv_verifier.specs.Admissible.{IsSignatureOf}
 use Rattle.dnsv_chain.specs.Trust.{KeptTrust, SecuredIn}
 use Rattle.dnsv_chain.specs.Trusted.{IsSecured}
+use Rattle.dnsv_denial.proofs.lemmas.proving.NumberLemmas.{number_cmp_total, number_eq, number_eq_equiv, number_eq_ties, same_number}
 use Rattle.dnsv_denial.specs.proving.FirstProof.{CanProveNoCloser}
 use Rattle.dnsv_denial.specs.words.EvidenceWords.{Chain, number_cmp}
 use Rattle.dnsv_denial.specs.words.EvidenceWords.Chain.{ByNsec, ByNsec3}
@@ -65,17 +62,6 @@ in_range rrset signatures number rrsig read its =
 
 -- what is read of the signatures of an RRset
 module _ (rrset : ReceivedRrset) (rrsigs : List Rrsig) (each : AllZip IsRrsig rrset.signatures rrsigs) where
-  pub signature_read : (rrsig : Rrsig) → Contains rrsigs rrsig → IsSignatureOf rrset rrsig
-  signature_read rrsig there =
-      let size = zip_length IsRrsig rrset.signatures rrsigs each in
-      let within = there.1 in
-      let inside : there.0 < length rrset.signatures = omega (arith, size, within) in (
-        get_or rrset.signatures there.0 [],
-        Contains-get_or rrset.signatures there.0 [] inside,
-        subst (λ (r : Rrsig). IsRrsig (get_or rrset.signatures there.0 []) r) there.2
-            (pairs_at IsRrsig rrset.signatures rrsigs there.0 [] rrsig each inside),
-      )
-
   pub signature_among : (rrsig : Rrsig) → IsSignatureOf rrset rrsig → Contains rrsigs rrsig
   signature_among rrsig its =
       let size = zip_length IsRrsig rrset.signatures rrsigs each in
@@ -121,29 +107,6 @@ none_proved (Some proof) false Can Denied Is to from shows first test =
     (λ yes. absurd (false≢true yes), λ never. absurd (never (to (shows proof first))))
 
 -- ---- numbers of records in their order
-
-pub number_cmp_total : IsTotalOrder number_cmp
-number_cmp_total = then_total (on_total (λ (n : RecordNumber). n.rrset) nat_cmp_total) (on_total (λ (n : RecordNumber). n.place) nat_cmp_total)
-
-abbrev pub number_eq : RecordNumber → RecordNumber → Bool
-number_eq a b = nat_eq a.rrset b.rrset && nat_eq a.place b.place
-
-same_number : (a b : RecordNumber) → number_eq a b ≡ true → a ≡ b
-same_number a b same =
-    let parts = and_parts _ _ same in
-    let rrset : a.rrset ≡ b.rrset = eqb-true _ _ parts.0 in
-    let place : a.place ≡ b.place = eqb-true _ _ parts.1 in
-    λ i. record { rrset = rrset i; place = place i }
-
-number_eq_ties : (a b : RecordNumber) → number_eq a b ≡ eq_by_cmp number_cmp a b
-number_eq_ties = (then_tied (on_tied (λ (n : RecordNumber). n.rrset) (tie nat_cmp unsigned_ties)) (on_tied (λ (n : RecordNumber). n.place) (tie nat_cmp unsigned_ties))).ties
-
-number_eq_equiv : IsEquivalence number_eq
-number_eq_equiv = record {
-  refl = λ a. and_from _ _ (nat_eq_equiv.refl a.rrset) (nat_eq_equiv.refl a.place);
-  symm = λ a b. ap (λ c. c && nat_eq a.place b.place) (nat_eq_equiv.symm a.rrset b.rrset) ∙ ap (λ c. nat_eq b.rrset a.rrset && c) (nat_eq_equiv.symm a.place b.place);
-  congr = λ a b c same. ap (λ n. number_eq n c) (same_number a b same);
-}
 
 -- sorted, and each once
 pub rising_once : (sorted : List RecordNumber) → IsSorted number_cmp sorted → IsStrictlySortedBy number_cmp (dedup number_eq sorted)

@@ -15,6 +15,7 @@ use Rattle.dnsv_denial.specs.declared.words.asked.AskedTypes.TheVariants as type
 use Rattle.dnsv_denial.specs.declared.words.asked.AskedWord.TheVariants as word
 use Rattle.dnsv_zones.specs.zones.Types.{IsDelegation, IsUnsignedDelegation}
 use Rattle.dnsv_faults.specs.KnownZones.{HasRrset, IsKnownZone}
+use Rattle.dnsv_faults.proofs.lemmas.KnownLemmas.{read_of}
 use Rattle.dnsv_remedies.specs.declared.facts.cut.CutCase.{CutCase}
 use Rattle.dnsv_remedies.specs.declared.facts.cut.CutFacts.{CutFacts}
 use Rattle.dnsv_remedies.specs.declared.facts.cut.ParentFacts.{ParentFacts}
@@ -26,7 +27,7 @@ use Rattle.dnsv_gaps.specs.questions.CutSearch.{HasOneFromAbove, IsCaseOfCut, Is
 use Rattle.dnsv_gaps.specs.declared.asked.AskedQuestion.{AskedQuestion}
 use Rattle.dnsv_gaps.specs.declared.sources.HeldSource.{HeldSource}
 use Rattle.dnsv_gaps.specs.declared.sources.ZoneSource.{ZoneSource}
-use Rattle.dnsv_gaps.proofs.QuestionLemmas.CloserLemmas.{signature_among, signature_read}
+use Rattle.dnsv_gaps.proofs.QuestionLemmas.CloserLemmas.{signature_among}
 use Rattle.dnsv_gaps.proofs.QuestionLemmas.DnameLemmas.{range_more}
 use Rattle.dnsv_gaps.proofs.QuestionLemmas.ListingLemmas.{AreTo, all_there, none_yet}
 use Rattle.dnsv_gaps.proofs.QuestionLemmas.SayingLemmas.{held_there, opted_out_there, typed_there}
@@ -159,14 +160,6 @@ one_source_more {X} {Y} {Z} R f xs i x zs z within at so_far one =
 
 -- ---- delegations
 
--- none of what shows one is so
-pub not_here : (a : Asking) (zone : Labels) (next : Option ℕ) (cut : Labels) → ¬ HasRrset a.basis.rrsets cut 2 → ¬ HasRrset a.basis.rrsets cut 6
-    → ¬ IsTypedBySome a zone cut IsDelegation → ¬ ((HasGoal a ⊎ IsThere next) × IsOptedOutBySome a zone cut) → ¬ IsSeenHere a zone next cut
-not_here a zone next cut ns soa typed out (inl has) = ns has
-not_here a zone next cut ns soa typed out (inr (inl has)) = soa has
-not_here a zone next cut ns soa typed out (inr (inr (inl is))) = typed is
-not_here a zone next cut ns soa typed out (inr (inr (inr is))) = out is
-
 -- and where nothing else shows one, Opt-Out may leave it out
 pub here_left_out : (a : Asking) (zone : Labels) (next : Option ℕ) (cut : Labels) → ¬ HasRrset a.basis.rrsets cut 2 → ¬ HasRrset a.basis.rrsets cut 6
     → ¬ IsTypedBySome a zone cut IsDelegation → IsSeenHere a zone next cut → (HasGoal a ⊎ IsThere next) × IsOptedOutBySome a zone cut
@@ -229,7 +222,7 @@ one_goal a goal not = ⊎_elim
 pub one_from_above : (rrset : ReceivedRrset) (rrsigs : List Rrsig) → AllZip IsRrsig rrset.signatures rrsigs → (zone : Labels)
     → SameName rrset.owner zone → rrset.rtype ≡ 43 → HasOneFromAbove rrsigs zone ↔ IsDsFromAbove zone rrset
 one_from_above rrset rrsigs read zone owner rtype = (
-  λ has. record { owner = owner; its_type = rtype; rrsig = has.rrsig; its = signature_read rrset rrsigs read has.rrsig has.among; above = has.above },
+  λ has. record { owner = owner; its_type = rtype; rrsig = has.rrsig; its = read_of rrset rrsigs read has.rrsig has.among; above = has.above },
   λ is. record { rrsig = is.rrsig; among = signature_among rrset rrsigs read is.rrsig is.its; above = is.above },
 )
 

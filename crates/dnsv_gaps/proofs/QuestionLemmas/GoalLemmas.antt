@@ -6,6 +6,7 @@ use Rattle.std.proofs.lemmas.Option.{slice_get-get_or, slice_get_within}
 use Rattle.std.specs.Prelude.{slice_get}
 use Rattle.std.specs.List.{AllByRecursion, AllZip}
 use Rattle.dnsv_canonical.specs.Rrsets.{IsNumbered, ReceivedRrset}
+use Rattle.dnsv_canonical.proofs.NumberLemmas.{one_numbered}
 use Rattle.dnsv_mending.specs.declared.facts.signature.RrsetFacts.{RrsetFacts}
 use Rattle.dnsv_mending.specs.declared.facts.signature.SignatureFacts.{SignatureFacts}
 use Rattle.dnsv_records.specs.declared.rrsig.Rrsig.{Rrsig}
@@ -19,10 +20,6 @@ use Rattle.dnsv_gaps.specs.questions.CloserSearch.{IsOneOf}
 use Rattle.dnsv_gaps.specs.questions.Goals.{AreGoalFacts, AreGoals, IsGoalNumber}
 use Rattle.dnsv_gaps.specs.questions.Listing.{AddsWhere}
 use Rattle.dnsv_gaps.proofs.QuestionLemmas.ListingLemmas.{AreTo, all_there, none_added, none_yet}
-
--- one element has a number
-pub one_numbered : {X : Type 0} (xs : List X) (k : ℕ) (x y : X) → IsNumbered xs k x → IsNumbered xs k y → x ≡ y
-one_numbered xs k x y first second = let same : Some x ≡ Some y = sym first.1 ∙ second.1 in cc same
 
 -- a test of a number
 pub is_number : (b : Bool) (m n k : ℕ) → b ≡ eqb m k → m ≡ n → IsTrue b ↔ (n ≡ k)

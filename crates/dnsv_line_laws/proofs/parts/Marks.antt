@@ -11,9 +11,8 @@ pub data Mark : Type 0 where
 -- the words of one value
 abbrev pub piece : Mark → Option (List ℕ) → List (List ℕ)
 piece mark None = []
-piece Absent (Some value) = value ∷ []
-piece Bare (Some value) = value ∷ []
 piece (Labelled label) (Some value) = label ∷ value ∷ []
+piece mark (Some value) = value ∷ []
 
 -- the words that are written
 abbrev pub words : List Mark → List (Option (List ℕ)) → List (List ℕ)

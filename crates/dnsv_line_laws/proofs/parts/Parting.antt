@@ -13,8 +13,7 @@ pub data Mode : Type 0 where
 abbrev pub is_cut : Mode → ℕ → Bool
 is_cut Words c = c == 32
 is_cut Outside c = c == 44 || c == 58
-is_cut Inside c = false
-is_cut Behind c = false
+is_cut mode c = false
 
 -- where one stands behind this octet
 abbrev pub next : Mode → ℕ → Mode

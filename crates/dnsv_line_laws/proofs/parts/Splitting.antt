@@ -9,7 +9,7 @@ use Rattle.dnsv_lines.proofs.JsonLemmas.{parted_behind}
 use Rattle.dnsv_lines.specs.Json.{member, parted, quoted}
 use Rattle.dnsv_lines.specs.Salt.{salt_text}
 use Rattle.dnsv_lines.specs.Sentence.{Said, Name, Number, Rrset, Word, Salt, Nothing, field_members, field_text, keyed_members, label_text, labelled_text, lower_text}
-use Rattle.dnsv_line_laws.proofs.told.Forms.{AName, ANumber, AnRrset, AWord, ASalt, Kind, Slot, clean, clean_mark, clean_slots, json_marks, json_piece, json_value, keyed, kinds, label_of, laid, mark_of, of_kind, text_marks, text_piece, text_value}
+use Rattle.dnsv_line_laws.proofs.told.Forms.{AWord, Kind, Slot, clean, clean_mark, clean_slots, json_marks, json_piece, json_value, keyed, kinds, label_of, laid, mark_of, of_kind, text_marks, text_piece, text_value}
 use Rattle.dnsv_line_laws.proofs.parts.Marks.{Mark, Absent, Bare, Labelled, both_first, both_then, piece, stands, words}
 use Rattle.dnsv_line_laws.proofs.parts.Parting.{Mode, Words, Outside, Passes, is_cut, one_part, split}
 use Rattle.dnsv_line_laws.proofs.parts.Passing.{clean_inside, clean_words, decimal_outside, decimal_words, name_words, quoted_outside, salt_clean, string_outside}
@@ -50,21 +50,13 @@ CleanSaid _ = Unit {0}
 
 -- so is what stands in a good form
 clean_label : (mark : Mark) → clean_mark mark ≡ true → CleanLabel (label_of mark)
-clean_label Absent is = tt
-clean_label Bare is = tt
 clean_label (Labelled label) is = is
+clean_label mark is = tt
 
 clean_said : (kind : Kind) (said : Said) → of_kind kind said ≡ true → CleanSaid said
-clean_said kind (Name name) is = tt
-clean_said kind (Number number) is = tt
-clean_said kind (Rrset number) is = tt
-clean_said kind (Salt salt) is = tt
-clean_said kind Nothing is = tt
 clean_said AWord (Word word) is = is
-clean_said AName (Word word) is = cc
-clean_said ANumber (Word word) is = cc
-clean_said AnRrset (Word word) is = cc
-clean_said ASalt (Word word) is = cc
+clean_said kind (Word word) is = cc
+clean_said kind said is = tt
 
 -- ---- text
 
@@ -138,12 +130,10 @@ json_laid (slot ∷ slots) (x ∷ xs) is fit =
 
 -- of one field
 text_piece_by_mark : (mark : Mark) (value : Option (List ℕ)) → piece (mark_of (label_of mark)) value ≡ piece mark value
-text_piece_by_mark Absent None = refl
-text_piece_by_mark Absent (Some value) = refl
 text_piece_by_mark Bare None = refl
 text_piece_by_mark Bare (Some value) = refl
-text_piece_by_mark (Labelled label) None = refl
-text_piece_by_mark (Labelled label) (Some value) = refl
+text_piece_by_mark mark None = refl
+text_piece_by_mark mark (Some value) = refl
 
 -- of all fields
 pub text_by_marks : (slots : List Slot) (xs : List Said) → flat_map text_piece (laid slots xs) ≡ words (text_marks slots) (map text_value xs)
@@ -166,10 +156,8 @@ stands_on : (mark : Mark) (key : List ℕ) (value : Option (List ℕ)) (there : 
     → stands there (keyed mark key ∷ marks) (value ∷ values) ≡ true → (on : Bool) × (stands on marks values ≡ true)
 stands_on Absent key None there marks values is = (there, is)
 stands_on Absent key (Some value) there marks values is = cc
-stands_on Bare key None there marks values is = (false, is)
-stands_on Bare key (Some value) there marks values is = (true, is)
-stands_on (Labelled label) key None there marks values is = (false, is)
-stands_on (Labelled label) key (Some value) there marks values is = (true, is)
+stands_on mark key None there marks values is = (false, is)
+stands_on mark key (Some value) there marks values is = (true, is)
 
 -- of all fields in JSON
 pub json_by_marks : (slots : List Slot) (xs : List Said) (there : Bool) → stands there (json_marks slots) (map json_value xs) ≡ true

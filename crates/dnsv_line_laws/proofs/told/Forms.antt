@@ -133,17 +133,15 @@ text_marks slots = map (λ slot. slot.mark) slots
 -- in JSON each stands behind its key
 abbrev pub keyed : Mark → List ℕ → Mark
 keyed Absent key = Absent
-keyed Bare key = Labelled (quoted key)
-keyed (Labelled label) key = Labelled (quoted key)
+keyed other key = Labelled (quoted key)
 
 abbrev pub json_marks : List Slot → List Mark
 json_marks slots = map (λ slot. keyed slot.mark slot.key) slots
 
 -- the label of a field
 abbrev pub label_of : Mark → Option (List ℕ)
-label_of Absent = None
-label_of Bare = None
 label_of (Labelled label) = Some label
+label_of other = None
 
 -- the fields of a form with what they say
 abbrev pub laid : List Slot → List Said → List SaidField
@@ -159,9 +157,8 @@ kinds _ _ = false
 
 -- labels and keys part nothing
 abbrev pub clean_mark : Mark → Bool
-clean_mark Absent = true
-clean_mark Bare = true
 clean_mark (Labelled label) = clean label
+clean_mark other = true
 
 abbrev pub clean_slots : List Slot → Bool
 clean_slots [] = true

@@ -61,8 +61,7 @@ ds_unproved_told x = (refl, refl, refl, refl, refl, refl)
 -- what a zone lacks
 zone_with : (x : ZoneFault) (y : WhyZone) → Told zone_form (line.Reason (why.Zone (record x { why = y })))
 zone_with x zone.NoAnchor = (refl, refl, refl, refl, refl, refl)
-zone_with x zone.DnskeyMissing = (refl, refl, refl, refl, refl, refl)
-zone_with x zone.DsMissing = (refl, refl, refl, refl, refl, refl)
+zone_with x y = (refl, refl, refl, refl, refl, refl)
 
 pub zone_told : (x : ZoneFault) → Told zone_form (line.Reason (why.Zone x))
 zone_told x = zone_with x x.why
@@ -93,17 +92,9 @@ nsec3_told x = nsec3_with x x.why
 
 -- why a signature proves nothing
 signature_with : (x : SignatureFault) (y : WhySignature) → Told signature_form (line.Reason (why.Signature (record x { why = y })))
-signature_with x signature.Labels = (refl, refl, refl, refl, refl, refl)
-signature_with x signature.Signer = (refl, refl, refl, refl, refl, refl)
-signature_with x signature.Expanded = (refl, refl, refl, refl, refl, refl)
 signature_with x signature.Algorithm = (refl, refl, refl, ap (λ letter. cond letter entry_form signature_form) (no_letter x.signature.rtype.0), refl, refl)
-signature_with x (signature.NotYet times) = (refl, refl, refl, refl, refl, refl)
-signature_with x (signature.Expired times) = (refl, refl, refl, refl, refl, refl)
 signature_with x signature.KeyMissing = (refl, refl, refl, ap (λ letter. cond letter entry_form signature_form) (no_letter x.signature.rtype.0), refl, refl)
-signature_with x signature.NotZoneKey = (refl, refl, refl, refl, refl, refl)
-signature_with x signature.Bad = (refl, refl, refl, refl, refl, refl)
-signature_with x signature.Unanswered = (refl, refl, refl, refl, refl, refl)
-signature_with x signature.KeyUntrusted = (refl, refl, refl, refl, refl, refl)
+signature_with x y = (refl, refl, refl, refl, refl, refl)
 
 pub signature_told : (x : SignatureFault) → Told signature_form (line.Reason (why.Signature x))
 signature_told x = signature_with x x.why
@@ -114,42 +105,20 @@ entry_with x entry.Algorithm (number.Anchor anchor) None = (refl, refl, refl, re
 entry_with x entry.Algorithm (number.Anchor anchor) (Some digest) = (refl, refl, refl, refl, refl, refl)
 entry_with x entry.Algorithm (number.Ds ds) None = (refl, refl, refl, refl, refl, refl)
 entry_with x entry.Algorithm (number.Ds ds) (Some digest) = (refl, refl, refl, refl, refl, refl)
-entry_with x entry.DigestType (number.Anchor anchor) None = (refl, refl, refl, refl, refl, refl)
-entry_with x entry.DigestType (number.Anchor anchor) (Some digest) = (refl, refl, refl, refl, refl, refl)
-entry_with x entry.DigestType (number.Ds ds) None = (refl, refl, refl, refl, refl, refl)
-entry_with x entry.DigestType (number.Ds ds) (Some digest) = (refl, refl, refl, refl, refl, refl)
-entry_with x entry.DigestIgnored (number.Anchor anchor) None = (refl, refl, refl, refl, refl, refl)
-entry_with x entry.DigestIgnored (number.Anchor anchor) (Some digest) = (refl, refl, refl, refl, refl, refl)
-entry_with x entry.DigestIgnored (number.Ds ds) None = (refl, refl, refl, refl, refl, refl)
-entry_with x entry.DigestIgnored (number.Ds ds) (Some digest) = (refl, refl, refl, refl, refl, refl)
-entry_with x entry.KeyMissing (number.Anchor anchor) None = (refl, refl, refl, refl, refl, refl)
-entry_with x entry.KeyMissing (number.Anchor anchor) (Some digest) = (refl, refl, refl, refl, refl, refl)
-entry_with x entry.KeyMissing (number.Ds ds) None = (refl, refl, refl, refl, refl, refl)
-entry_with x entry.KeyMissing (number.Ds ds) (Some digest) = (refl, refl, refl, refl, refl, refl)
-entry_with x entry.KeyAlgorithm (number.Anchor anchor) None = (refl, refl, refl, refl, refl, refl)
-entry_with x entry.KeyAlgorithm (number.Anchor anchor) (Some digest) = (refl, refl, refl, refl, refl, refl)
-entry_with x entry.KeyAlgorithm (number.Ds ds) None = (refl, refl, refl, refl, refl, refl)
-entry_with x entry.KeyAlgorithm (number.Ds ds) (Some digest) = (refl, refl, refl, refl, refl, refl)
-entry_with x entry.DigestDiffers (number.Anchor anchor) None = (refl, refl, refl, refl, refl, refl)
-entry_with x entry.DigestDiffers (number.Anchor anchor) (Some digest) = (refl, refl, refl, refl, refl, refl)
-entry_with x entry.DigestDiffers (number.Ds ds) None = (refl, refl, refl, refl, refl, refl)
-entry_with x entry.DigestDiffers (number.Ds ds) (Some digest) = (refl, refl, refl, refl, refl, refl)
+entry_with x y (number.Anchor anchor) None = (refl, refl, refl, refl, refl, refl)
+entry_with x y (number.Anchor anchor) (Some digest) = (refl, refl, refl, refl, refl, refl)
+entry_with x y (number.Ds ds) None = (refl, refl, refl, refl, refl, refl)
+entry_with x y (number.Ds ds) (Some digest) = (refl, refl, refl, refl, refl, refl)
 
 pub entry_told : (x : EntryFault) → Told entry_form (line.Reason (why.Entry x))
 entry_told x = entry_with x x.why x.entry.number x.entry.digest_type
 
 -- what keeps the records of a zone from proving a denial
 source_with : (x : SourceFault) (y : WhySource) (p : Option Nsec3Parameters) → Told source_form (line.Reason (why.Source (record x { why = y; source = record x.source { parameters = p } })))
-source_with x (source.Delegation record_number) None = (refl, refl, refl, refl, refl, refl)
-source_with x (source.Delegation record_number) (Some parameters) = (refl, refl, refl, refl, refl, refl)
-source_with x (source.TypeHeld record_number held) None = (refl, refl, refl, refl, refl, refl)
-source_with x (source.TypeHeld record_number held) (Some parameters) = (refl, refl, refl, refl, refl, refl)
-source_with x source.MatchMissing None = (refl, refl, refl, refl, refl, refl)
-source_with x source.MatchMissing (Some parameters) = (refl, refl, refl, refl, refl, refl)
-source_with x source.EncloserMissing None = (refl, refl, refl, refl, refl, refl)
-source_with x source.EncloserMissing (Some parameters) = (refl, refl, refl, refl, refl, refl)
 source_with x (source.CoverMissing role) None = (refl, refl, rw (role_clean role), refl, refl, rw (role_read role))
+source_with x y None = (refl, refl, refl, refl, refl, refl)
 source_with x (source.CoverMissing role) (Some parameters) = (refl, refl, rw (role_clean role), refl, refl, rw (role_read role))
+source_with x y (Some parameters) = (refl, refl, refl, refl, refl, refl)
 
 pub source_told : (x : SourceFault) → Told source_form (line.Reason (why.Source x))
 source_told x = source_with x x.why x.source.parameters

@@ -42,81 +42,51 @@ use Rattle.dnsv_line_laws.proofs.told.Tables.{Told, case_form, follows_form, hol
 -- each is clean
 form_clean : (x : Form) → clean (form_word x) ≡ true
 form_clean form.NoName = refl
-form_clean form.NoData1 = refl
-form_clean form.NoData2 = refl
-form_clean form.NoData3 = refl
-form_clean form.NoData4 = refl
-form_clean form.NoCloser = refl
-form_clean form.OptOut = refl
+form_clean x = refl
 
 pub chain_clean : (x : Chain) → clean (chain_word x) ≡ true
 chain_clean chain.Nsec = refl
 chain_clean chain.Nsec3 = refl
 
 pub role_clean : (x : Role) → clean (role_word x) ≡ true
-role_clean role.ClosestEncloser = refl
-role_clean role.NextCloser = refl
-role_clean role.Wildcard = refl
-role_clean role.Name = refl
 role_clean role.Cut = refl
+role_clean x = refl
 
 relation_clean : (x : Relation) → clean (relation_word x) ≡ true
-relation_clean relation.Matched = refl
-relation_clean relation.Exists = refl
-relation_clean relation.Covered = refl
-relation_clean relation.NonTerminal = refl
-relation_clean relation.OptOut = refl
 relation_clean relation.Apex = refl
+relation_clean x = refl
 
 -- each is read back
 form_read : (x : Form) → form_in (form_word x) ≡ x
 form_read form.NoName = refl
-form_read form.NoData1 = refl
-form_read form.NoData2 = refl
-form_read form.NoData3 = refl
-form_read form.NoData4 = refl
-form_read form.NoCloser = refl
-form_read form.OptOut = refl
+form_read x = refl
 
 chain_read : (x : Chain) → chain_in (chain_word x) ≡ x
 chain_read chain.Nsec = refl
 chain_read chain.Nsec3 = refl
 
 pub role_read : (x : Role) → role_in (role_word x) ≡ x
-role_read role.ClosestEncloser = refl
-role_read role.NextCloser = refl
-role_read role.Wildcard = refl
-role_read role.Name = refl
 role_read role.Cut = refl
+role_read x = refl
 
 relation_read : (x : Relation) → relation_in (relation_word x) ≡ x
-relation_read relation.Matched = refl
-relation_read relation.Exists = refl
-relation_read relation.Covered = refl
-relation_read relation.NonTerminal = refl
-relation_read relation.OptOut = refl
 relation_read relation.Apex = refl
+relation_read x = refl
 
 section_read : (x : Section) → section_in (section_number x) ≡ x
 section_read section.Answer = refl
-section_read section.Authority = refl
-section_read section.Additional = refl
+section_read x = refl
 
 case_number_read : (x : InsecureCase) → case_in (case_number x) ≡ x
-case_number_read case.UnsignedDelegation = refl
-case_number_read case.UnusableDs = refl
 case_number_read case.OptOut = refl
-case_number_read case.OptOutWildcard = refl
+case_number_read x = refl
 
 -- ---- the lines
 
 -- a verdict that is hoped for
 pub hope_told : (x : Kind) → Told hope_form (line.Hope x)
-hope_told kind.SecureAnswer = (refl, refl, refl, refl, refl, refl)
-hope_told kind.SecureAlias = (refl, refl, refl, refl, refl, refl)
-hope_told kind.SecureNoName = (refl, refl, refl, refl, refl, refl)
-hope_told kind.SecureNoData = (refl, refl, refl, refl, refl, refl)
 hope_told kind.Insecure = (refl, refl, refl, refl, refl, refl)
+hope_told x = (refl, refl, refl, refl, refl, refl)
 
 -- the moments at which signatures are valid
 pub holds_told : (x : Interval) → Told holds_form (line.Holds x)
@@ -132,12 +102,10 @@ follows_told x = (refl, refl, refl, refl, refl, refl)
 
 -- a DNSKEY RRset that is trusted, and what matches its key
 trusted_with : (x : TrustedKeys) (by : Voucher) (todo : Option ℕ) → Told trusted_form (line.Trusted (record x { voucher = by; todo = record { 0 = todo } }))
-trusted_with x (voucher.KeyAnchor anchor) None = (refl, refl, refl, refl, refl, refl)
-trusted_with x (voucher.KeyAnchor anchor) (Some number) = (refl, refl, refl, refl, refl, refl)
-trusted_with x (voucher.DsAnchor anchor digest) None = (refl, refl, refl, refl, refl, refl)
-trusted_with x (voucher.DsAnchor anchor digest) (Some number) = (refl, refl, refl, refl, refl, refl)
 trusted_with x (voucher.Ds ds digest) None = (refl, refl, refl, refl, refl, refl)
+trusted_with x by None = (refl, refl, refl, refl, refl, refl)
 trusted_with x (voucher.Ds ds digest) (Some number) = (refl, refl, refl, refl, refl, refl)
+trusted_with x by (Some number) = (refl, refl, refl, refl, refl, refl)
 
 pub trusted_told : (x : TrustedKeys) → Told trusted_form (line.Trusted x)
 trusted_told x = trusted_with x x.voucher x.todo.0
@@ -161,8 +129,7 @@ case_told x = case_with x x.zone
 -- a record of a DS RRset that can't be used
 unusable_with : (x : UnusableDs) (y : WhyUnusable) → Told unusable_form (line.Unusable (record x { why = y }))
 unusable_with x unusable.Algorithm = (refl, refl, refl, refl, refl, refl)
-unusable_with x unusable.DigestType = (refl, refl, refl, refl, refl, refl)
-unusable_with x unusable.DigestIgnored = (refl, refl, refl, refl, refl, refl)
+unusable_with x y = (refl, refl, refl, refl, refl, refl)
 
 pub unusable_told : (x : UnusableDs) → Told unusable_form (line.Unusable x)
 unusable_told x = unusable_with x x.why

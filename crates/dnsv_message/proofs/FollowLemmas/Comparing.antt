@@ -9,23 +9,19 @@ use Rattle.std.specs.Char.{to_ascii_lowercase}
 use Rattle.std.specs.Cmp.Lexicographic.{slice_cmp, texts_ties, bytes_decides, pointwise}
 use Rattle.std.specs.Ordering.{is_eq, ordering_then, nat_cmp}
 use Rattle.std.specs.declared.cmp.Ordering.{Ordering}
-use Rattle.std.specs.declared.cmp.Ordering.TheVariants.{Less, Equal, Greater}
+use Rattle.std.specs.declared.cmp.Ordering.TheVariants.{Equal}
 use Rattle.dnsv_names.specs.Name.{Labels, wire, lower_case, SameName}
 use Rattle.dnsv_names.specs.Octets.{octets_cmp}
 use Rattle.dnsv_names.specs.Order.{label_cmp, from_the_right}
 use Rattle.dnsv_names.specs.Order.ByWireLaws.{same_wire}
 use Rattle.dnsv_names.proofs.LowerLemmas.{untied}
+use Rattle.dnsv_names.proofs.CompareLemmas.{then_assoc}
 use Rattle.dnsv_message.specs.Following.{labels_at, StandsAt, label_at}
 use Rattle.dnsv_message.proofs.FollowLemmas.{has_root, has_label}
 
 -- the octets that a name in lower case is compared by
 abbrev pub lower_wire : Labels → List ℕ
 lower_wire labels = wire (lower_case labels)
-
-then_assoc : (o p q : Ordering) → ordering_then (ordering_then o p) q ≡ ordering_then o (ordering_then p q)
-then_assoc Less p q = refl
-then_assoc Equal p q = refl
-then_assoc Greater p q = refl
 
 -- of two lists cut at one place, what stands in front decides first
 pub cmp_cut : (p q s t : List ℕ) → length p ≡ length q → octets_cmp (p ++ s) (q ++ t) ≡ ordering_then (octets_cmp p q) (octets_cmp s t)
@@ -66,11 +62,10 @@ tied : (m n : ℕ) → nat_cmp m n ≡ Equal → m ≡ n
 tied m n same = grind (arith, nat_tests, same)
 
 decided : (o : Ordering) (m n : ℕ) (r s : List ℕ) → nat_cmp m n ≡ o → (m ≡ n → (r ≡ []) × (s ≡ [])) → ordering_then o (octets_cmp r s) ≡ o
-decided Less m n r s is none = refl
-decided Greater m n r s is none = refl
 decided Equal m n r s is none =
     let both = none (tied m n is) in
     λ i. octets_cmp (both.0 i) (both.1 i)
+decided o m n r s is none = refl
 
 -- where the octets differ, or both are roots, they decide
 pub octets_decide : (a b : List ℕ) (j k : ℕ) (order : Ordering) → StandsAt a j → StandsAt b k → (get_or a j 0 ≡ get_or b k 0 → get_or a j 0 ≡ 0)

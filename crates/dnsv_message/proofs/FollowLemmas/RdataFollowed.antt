@@ -18,6 +18,7 @@ use Rattle.dnsv_message.proofs.NameLaws.{octet_of_number, octet_of_label, octet_
 use Rattle.dnsv_message.proofs.RdataLemmas.{rdata_name}
 use Rattle.dnsv_message.proofs.RdataLemmas.RdataWritten.{labels_are}
 use Rattle.dnsv_message.proofs.FollowLemmas.{below_64, not_below_64, labels_found}
+use Rattle.dnsv_message.proofs.FrameLemmas.{take_nil}
 
 end_root : (steps : ℕ) (octets : List ℕ) (place : ℕ) → get_or octets place 0 ≡ 0 → end_from (suc steps) octets place ≡ place + 1
 unfolding end_from
@@ -99,10 +100,6 @@ no_name_past octets fit limit pointers place name end at past other after also =
     let from = rdata_name octets limit pointers place other after also in
     omega (arith, past, from.1, (NameAt_same octets fit place place pointer_limit other name after end from.0.0 at.0).1)
 
-take_none : (n : ℕ) → take {A = ℕ} n [] ≡ []
-take_none zero = refl
-take_none (suc n) = refl
-
 -- parts that stand one after another are one part
 parts_join : (octets : List ℕ) (place a b : ℕ) → part_of octets place a ++ part_of octets (place + a) b ≡ part_of octets place (a + b)
 parts_join octets place a b =
@@ -110,7 +107,7 @@ parts_join octets place a b =
   where
     take_split : (a b : ℕ) (xs : List ℕ) → take (a + b) xs ≡ take a xs ++ take b (drop a xs)
     take_split zero b xs = ap (λ n. take n xs) (omega arith)
-    take_split (suc a) b [] = take_none (suc a + b) ∙ sym (take_none b)
+    take_split (suc a) b [] = take_nil (suc a + b) ∙ sym (take_nil b)
     take_split (suc a) b (x ∷ xs) =
         let more : suc a + b ≡ suc (a + b) = omega arith in
         ap (λ n. take n (x ∷ xs)) more ∙ ap (λ ys. x ∷ ys) (take_split a b xs)

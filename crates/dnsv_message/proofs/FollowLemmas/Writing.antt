@@ -1,5 +1,5 @@
 -- The text of a name written where it stands, label by label.
-use Rattle.std.proofs.Common.{◌≡◌, ℕ, ◌+◌, ◌*◌, ◌<◌, ◌≤◌, List, [], ◌∷◌, ◌++◌, length, get_or, refl, sym, ap, ◌∙◌, arith, append_assoc, length-append}
+use Rattle.std.proofs.Common.{◌≡◌, ℕ, ◌+◌, ◌*◌, ◌<◌, ◌≤◌, List, [], ◌∷◌, ◌++◌, length, get_or, sym, ap, ◌∙◌, arith, length-append}
 use Rattle.std.specs.List.{flat_map}
 use Rattle.std.proofs.lemmas.List.{append-nil}
 use Rattle.dnsv_names.specs.Name.{Labels, wire}
@@ -18,10 +18,6 @@ pub record Writes (octets : List ℕ) (place : ℕ) (before : List ℕ) (start :
   pub written : before ++ texts (labels_at octets place) ≡ text ++ texts (labels_at octets next)
   pub room : size + 4 * length (wire (labels_at octets next)) ≤ start + 1020
 
-pub Writes-start : (octets : List ℕ) (place : ℕ) (before : List ℕ) (start : ℕ) → StandsAt octets place → length (wire (labels_at octets place)) ≤ 255
-    → Writes octets place before start before start place
-Writes-start octets place before start stands short = record { stands = stands; written = refl; room = omega (arith, short) }
-
 module _ (octets : List ℕ) (place : ℕ) (before : List ℕ) (start : ℕ) (text : List ℕ) (size next : ℕ) (so_far : Writes octets place before start text size next) (some : 0 < get_or octets next 0) where
   pub room_for_text : (label : List ℕ) → label ≡ label_at octets next → size + 4 * length label + 1 ≤ start + 1016
   room_for_text label is =
@@ -34,17 +30,6 @@ module _ (octets : List ℕ) (place : ℕ) (before : List ℕ) (start : ℕ) (te
         length-append (label_at octets next) (wire (labels_at octets (next + (1 + get_or octets next 0)))),
         wire_not_empty (labels_at octets (next + (1 + get_or octets next 0))),
       )
-
-  pub Writes-label : (label more : List ℕ) (larger after : ℕ) → label ≡ label_at octets next → more ≡ text ++ (label_text label ++ 46 ∷ []) → larger ≤ size + 4 * length label + 1
-      → StandsAt octets after → labels_at octets next ≡ label_at octets next ∷ labels_at octets after → Writes octets place before start more larger after
-  Writes-label label more larger after is written bound stands on = record {
-    stands = stands;
-    written = so_far.written ∙ ap (λ labels. text ++ texts labels) on
-        ∙ sym (append_assoc text (label_text (label_at octets next) ++ 46 ∷ []) (texts (labels_at octets after)))
-        ∙ ap (λ first. (text ++ (label_text first ++ 46 ∷ [])) ++ texts (labels_at octets after)) (sym is)
-        ∙ ap (λ front. front ++ texts (labels_at octets after)) (sym written);
-    room = omega (arith, so_far.room, bound, ap length is, ap (λ labels. length (wire labels)) on, length-append (label_at octets next) (wire (labels_at octets after)));
-  }
 
 pub text_of_some : (labels : Labels) (first : List ℕ) (rest : Labels) → labels ≡ first ∷ rest → texts labels ≡ text_of labels
 text_of_some labels first rest is = ap texts is ∙ sym (ap text_of is)

@@ -1,9 +1,9 @@
 -- What a framer keeps between pieces, and that the cutting of a stream doesn't matter.
-use Rattle.std.proofs.Common.{◌≡◌, ◌≢◌, ℕ, ◌≤◌, List, [], ◌∷◌, ◌++◌, length, refl, sym, ap, subst, ◌∙◌, inl, inr, arith, append_assoc, Option, Some, None}
+use Rattle.std.proofs.Common.{◌≡◌, ◌≢◌, ℕ, List, [], ◌∷◌, ◌++◌, refl, sym, ap, subst, ◌∙◌, inl, inr, append_assoc, Option, Some, None}
 use Rattle.std.proofs.lemmas.List.{append-nil}
 use Rattle.std.specs.List.{flat_map}
 use Rattle.dnsv_message.specs.declared.errors.ReadError.{ReadError}
-use Rattle.dnsv_message.specs.declared.errors.ReadError.TheVariants.{OutOfMemory, Read, TooLong, ZeroLength, TornFrame}
+use Rattle.dnsv_message.specs.declared.errors.ReadError.TheVariants.{Read, ZeroLength, TornFrame}
 use Rattle.dnsv_message.specs.Streams.Frames.{frame, BeginsNoFrame, BeginsWith, Frames, IsZero}
 use Rattle.dnsv_message.specs.Streams.Framer.{Framing, Gains, IsEndError, IsPieceError, KeepsRest, Feeds, FeedsAll}
 use Rattle.dnsv_message.specs.Streams.OpenFrame.{rest_of}
@@ -15,13 +15,6 @@ length_zero = ([], refl)
 
 nothing_not_zero : ¬ IsZero []
 nothing_not_zero = λ came. absurd (cc came.1)
-
--- what is left, where no length 0 came, is kept
-pub Feeds-open : (rest piece : List ℕ) (old new : List (List ℕ)) (left : List ℕ) → Gains old new (rest ++ piece) left → ¬ IsZero left → Feeds rest piece old new left
-Feeds-open rest piece old new left gains not_zero = record { left = left; gains = gains; keeps = inl (not_zero, refl) }
-
-pub Feeds-zero : (rest piece : List ℕ) (old new : List (List ℕ)) (left kept : List ℕ) → Gains old new (rest ++ piece) left → IsZero left → kept ≡ 0 ∷ (0 ∷ []) → Feeds rest piece old new kept
-Feeds-zero rest piece old new left kept gains zero_left same = record { left = left; gains = gains; keeps = inr (zero_left, same) }
 
 kept_open : (left kept : List ℕ) → KeepsRest left kept → ¬ IsZero kept → (kept ≡ left) × ¬ IsZero left
 kept_open left kept (inl x) not_zero = (x.1, x.0)
@@ -123,15 +116,6 @@ first_messages stream (m ∷ messages) (n ∷ all) rest x y =
     (record { more = x.more; whole = sym first.1; each = x.each.1 })
     (record { whole = refl; each = y.each.1; no_more = y.no_more }) in
     (found.0, ap (λ message. message ∷ all) (sym first.0) ∙ ap (λ others. m ∷ others) found.1)
-
--- what a framer shows of its frame is no longer than the frame, or a length
-pub rest_of-bound : (failed : Option ReadError) (rest : List ℕ) → length rest ≤ 65536 → length (rest_of failed rest) ≤ 65536
-rest_of-bound None rest within = within
-rest_of-bound (Some ZeroLength) rest within = omega arith
-rest_of-bound (Some OutOfMemory) rest within = within
-rest_of-bound (Some Read) rest within = within
-rest_of-bound (Some TooLong) rest within = within
-rest_of-bound (Some TornFrame) rest within = within
 
 -- a framer that met a length 0 adds nothing
 pub Feeds-failed : (rest piece : List ℕ) (failed : Option ReadError) (frame : List ℕ) (old : List (List ℕ)) → rest_of failed frame ≡ rest → failed ≡ Some ZeroLength

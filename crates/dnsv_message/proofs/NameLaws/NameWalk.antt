@@ -20,9 +20,6 @@ pub record Walked (octets : List ℕ) (start place run pointers : ℕ) (written 
   pub name : {tail : Labels} {after : ℕ} → NameAt octets place run pointers tail after → NameAt octets start start 32 (front ++ tail) (unwrap_or end after)
   pub fault : {fault : NameFault} → NameFaultAt octets place run pointers (length written) fault → NameFaultAt octets start start 32 0 fault
 
-pub Walked-start : (octets : List ℕ) (start : ℕ) → Walked octets start start start 32 [] None
-Walked-start octets start = record { front = []; each = tt; spelling = λ tail. refl; small = omega arith; name = λ at. at; fault = λ at. at }
-
 each_push : (front : Labels) (last : List ℕ) → AllByRecursion IsLabel front → IsLabel last → AllByRecursion IsLabel (front ++ last ∷ [])
 each_push [] last each is_label = (is_label, tt)
 each_push (first ∷ front) last each is_label = (each.0, each_push front last each.1 is_label)

@@ -24,15 +24,15 @@ decimal_unmarked n small =
       | inr above ↦ above_zero (decimal n) (first_decimal n (omega arith) small)
     ]
 
-own : IsNumeralModel (λ ds. all_ascii_digits ds ≡ true) (digits_value 10)
+pub own : IsNumeralModel (λ ds. all_ascii_digits ds ≡ true) (digits_value 10)
 own = numerals_by_value (λ ds. all_ascii_digits ds ≡ true) tells_all_ascii_digits
 
-no_plus : (text : List ℕ) → is_marked text ≡ false → get_or text 0 0 ≢ 43
+pub no_plus : (text : List ℕ) → is_marked text ≡ false → get_or text 0 0 ≢ 43
 no_plus [] plain e = omega arith
 no_plus (x ∷ []) plain e = grind (arith, nat_tests)
 no_plus (x ∷ y ∷ text) plain e = grind (arith, nat_tests)
 
-no_zero : (text : List ℕ) → 0 < length text → is_marked text ≡ false → get_or text 0 0 ≡ 48 → length text ≡ 1
+pub no_zero : (text : List ℕ) → 0 < length text → is_marked text ≡ false → get_or text 0 0 ≡ 48 → length text ≡ 1
 no_zero [] some plain e = omega arith
 no_zero (x ∷ []) some plain e = refl
 no_zero (x ∷ y ∷ text) some plain e = grind (arith, nat_tests)

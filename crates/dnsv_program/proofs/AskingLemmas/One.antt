@@ -30,11 +30,7 @@ statuses = Done ∷ Done ∷ Done ∷ Insecure ∷ Pending ∷ Bogus ∷ Indeter
 
 told : (s : Status) → slice_get statuses (status_code s) ≡ Some s
 told Done = refl
-told Insecure = refl
-told Pending = refl
-told Bogus = refl
-told Indeterminate = refl
-told Refused = refl
+told s = refl
 
 same_status : (s t : Status) → status_code s ≡ status_code t → s ≡ t
 same_status s t same =

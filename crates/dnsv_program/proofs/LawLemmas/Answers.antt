@@ -22,13 +22,8 @@ use Rattle.dnsv_files.specs.Told.{nowhere}
 message_told : (octets : List ℕ) → (FaultOf octets decode.OutOfMemory → ⊥) → (error : DecodeError) → FaultOf octets error
     → (why : Refusal) × (k : Option ℕ) × TellsMessageError error why k
 message_told octets no_fault decode.OutOfMemory fault = absurd (no_fault fault)
-message_told octets no_fault decode.Short fault = (refusal.Message decode.Short, None, (refl, refl))
-message_told octets no_fault decode.BadLabel fault = (refusal.Message decode.BadLabel, None, (refl, refl))
-message_told octets no_fault decode.BadPointer fault = (refusal.Message decode.BadPointer, None, (refl, refl))
-message_told octets no_fault decode.TooManyPointers fault = (refusal.Message decode.TooManyPointers, None, (refl, refl))
-message_told octets no_fault decode.LongName fault = (refusal.Message decode.LongName, None, (refl, refl))
 message_told octets no_fault (decode.BadRdata k) fault = (refusal.Message (decode.BadRdata k), Some k, (refl, refl))
-message_told octets no_fault decode.TrailingBytes fault = (refusal.Message decode.TrailingBytes, None, (refl, refl))
+message_told octets no_fault error fault = (refusal.Message error, None, (refl, refl))
 
 -- octets are a message or have a fault, and a message is as it is asked to be or is refused
 module _ (demand : Demand)

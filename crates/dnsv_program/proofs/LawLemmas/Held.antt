@@ -85,24 +85,12 @@ module _ (octets : List ℕ) (keys : List SharedKey) (now : ℕ) (request : Opti
 
 told_once : (error : DecodeError) (a b : Refusal) (m n : Option ℕ) → TellsMessageError error a m → TellsMessageError error b n → (a ≡ b) × (m ≡ n)
 told_once decode.OutOfMemory a b m n x y = absurd x
-told_once decode.Short a b m n x y = (x.0 ∙ sym y.0, x.1 ∙ sym y.1)
-told_once decode.BadLabel a b m n x y = (x.0 ∙ sym y.0, x.1 ∙ sym y.1)
-told_once decode.BadPointer a b m n x y = (x.0 ∙ sym y.0, x.1 ∙ sym y.1)
-told_once decode.TooManyPointers a b m n x y = (x.0 ∙ sym y.0, x.1 ∙ sym y.1)
-told_once decode.LongName a b m n x y = (x.0 ∙ sym y.0, x.1 ∙ sym y.1)
-told_once (decode.BadRdata k) a b m n x y = (x.0 ∙ sym y.0, x.1 ∙ sym y.1)
-told_once decode.TrailingBytes a b m n x y = (x.0 ∙ sym y.0, x.1 ∙ sym y.1)
+told_once error a b m n x y = (x.0 ∙ sym y.0, x.1 ∙ sym y.1)
 
 tsig_told_once : (error : TsigError) (a b : Refusal) (m n : Option ℕ) → TellsTsigError error a m → TellsTsigError error b n → (a ≡ b) × (m ≡ n)
 tsig_told_once tsig.OutOfMemory a b m n x y = absurd x
 tsig_told_once (tsig.Unreadable error) a b m n x y = told_once error a b m n x y
-tsig_told_once tsig.NoTsig a b m n x y = (x.0 ∙ sym y.0, x.1 ∙ sym y.1)
-tsig_told_once tsig.Form a b m n x y = (x.0 ∙ sym y.0, x.1 ∙ sym y.1)
-tsig_told_once tsig.BadKey a b m n x y = (x.0 ∙ sym y.0, x.1 ∙ sym y.1)
-tsig_told_once tsig.BadMac a b m n x y = (x.0 ∙ sym y.0, x.1 ∙ sym y.1)
-tsig_told_once tsig.BadTime a b m n x y = (x.0 ∙ sym y.0, x.1 ∙ sym y.1)
-tsig_told_once tsig.TruncatedMac a b m n x y = (x.0 ∙ sym y.0, x.1 ∙ sym y.1)
-tsig_told_once tsig.PeerError a b m n x y = (x.0 ∙ sym y.0, x.1 ∙ sym y.1)
+tsig_told_once error a b m n x y = (x.0 ∙ sym y.0, x.1 ∙ sym y.1)
 
 -- ---- what a frame holds
 

@@ -27,10 +27,8 @@ use Rattle.dnsv_files.specs.Status.{TellsCaptureError}
 
 reason_told : (error : CaptureError) → (error ≡ capture.OutOfMemory → ⊥) → (why : Refusal) × (k : Option ℕ) × TellsCaptureError error why k
 reason_told capture.OutOfMemory other = absurd (other refl)
-reason_told capture.NotAResponse other = (refusal.Evidence capture.NotAResponse, None, (refl, refl))
-reason_told capture.Truncated other = (refusal.Evidence capture.Truncated, None, (refl, refl))
 reason_told (capture.BadRdata k) other = (refusal.Evidence (capture.BadRdata k), Some k, (refl, refl))
-reason_told capture.Limit other = (refusal.Evidence capture.Limit, None, (refl, refl))
+reason_told error other = (refusal.Evidence error, None, (refl, refl))
 
 reason_fails : (held : Evidence) (message : Contents) (error : CaptureError) → IsReasonAgainst held message error
     → (why : Refusal) × (k : Option ℕ) × TellsCaptureError error why k → (why : Refusal) × (k : Option ℕ) × Fails NewEvidence held message why k

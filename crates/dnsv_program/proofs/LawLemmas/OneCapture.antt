@@ -33,17 +33,11 @@ same_nowhere p q x y = same_place p q (x.0 ∙ sym y.0) (x.1 ∙ sym y.1) (x.2 �
 
 no_want_of_memory : (error : CaptureError) (why : Refusal) (n : Option ℕ) → TellsCaptureError error why n → error ≢ capture.OutOfMemory
 no_want_of_memory capture.OutOfMemory why n told = absurd told
-no_want_of_memory capture.NotAResponse why n told = λ same. cc
-no_want_of_memory capture.Truncated why n told = λ same. cc
-no_want_of_memory (capture.BadRdata k) why n told = λ same. cc
-no_want_of_memory capture.Limit why n told = λ same. cc
+no_want_of_memory error why n told = λ same. cc
 
 capture_told_once : (error : CaptureError) (a b : Refusal) (m n : Option ℕ) → TellsCaptureError error a m → TellsCaptureError error b n → (a ≡ b) × (m ≡ n)
 capture_told_once capture.OutOfMemory a b m n x y = absurd x
-capture_told_once capture.NotAResponse a b m n x y = (x.0 ∙ sym y.0, x.1 ∙ sym y.1)
-capture_told_once capture.Truncated a b m n x y = (x.0 ∙ sym y.0, x.1 ∙ sym y.1)
-capture_told_once (capture.BadRdata k) a b m n x y = (x.0 ∙ sym y.0, x.1 ∙ sym y.1)
-capture_told_once capture.Limit a b m n x y = (x.0 ∙ sym y.0, x.1 ∙ sym y.1)
+capture_told_once error a b m n x y = (x.0 ∙ sym y.0, x.1 ∙ sym y.1)
 
 module _ (laws : LayerLaws) where
   meets_or_fails : (demand : Demand) (held : Evidence) (message : Contents) (why : Refusal) (n : Option ℕ) → Meets demand held message → Fails demand held message why n → ⊥

@@ -64,10 +64,7 @@ module _ (laws : LayerLaws) where
   question_stands asked rtype name (fault.Refused why place) spells may (inr bad) =
       bad.2.0 (subst (λ (each : Labels). IsQuestion each rtype) (one_question laws asked name bad.0 spells bad.1) may)
   question_stands asked rtype name fault.OutOfMemory spells may bad = bad
-  question_stands asked rtype name (fault.ReadFailed file) spells may bad = bad
-  question_stands asked rtype name (fault.TooLong file) spells may bad = bad
-  question_stands asked rtype name (fault.OpenFailed file) spells may bad = bad
-  question_stands asked rtype name fault.WriteFailed spells may bad = bad
+  question_stands asked rtype name told spells may bad = bad
 
   refused_once : (asked : List ℕ) (rtype : ℕ) (a b : Refusal) (p q : Place) → IsQuestionRefused asked rtype a p → IsQuestionRefused asked rtype b q → fault.Refused a p ≡ fault.Refused b q
   refused_once asked rtype a b p q (inl x) (inl y) =

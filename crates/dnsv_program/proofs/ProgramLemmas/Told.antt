@@ -34,11 +34,7 @@ told_by_run request (Err told) tells = λ refused asks.
 -- or a file didn't open
 pub not_opened : (request : Request) (told : Fault) → IsOpenFault told → TellsQuestion request told
 not_opened request (fault.OpenFailed file) is = λ refused asks. inr (file, refl)
-not_opened request fault.OutOfMemory is = absurd is
-not_opened request (fault.ReadFailed file) is = absurd is
-not_opened request (fault.TooLong file) is = absurd is
-not_opened request fault.WriteFailed is = absurd is
-not_opened request (fault.Refused why place) is = absurd is
+not_opened request told is = absurd is
 
 -- ---- where the words ask for something
 
@@ -46,11 +42,8 @@ leaves : {W Grew : Type 0} (old new : Counted W) (told : Fault) → ((told ≡ f
     → (told ≡ fault.WriteFailed → failures_of old < 2 ^ 64 - 1 → failures_of old < failures_of new) → (told ≡ fault.OutOfMemory → (new ≡ old) ⊎ Grew)
     → LeavesOutput old new Grew told
 leaves old new fault.OutOfMemory untouched failed grew = grew refl
-leaves old new (fault.ReadFailed file) untouched failed grew = untouched (λ is. cc) (λ is. cc)
-leaves old new (fault.TooLong file) untouched failed grew = untouched (λ is. cc) (λ is. cc)
-leaves old new (fault.OpenFailed file) untouched failed grew = untouched (λ is. cc) (λ is. cc)
 leaves old new fault.WriteFailed untouched failed grew = failed refl
-leaves old new (fault.Refused why place) untouched failed grew = untouched (λ is. cc) (λ is. cc)
+leaves old new told untouched failed grew = untouched (λ is. cc) (λ is. cc)
 
 module _ (octets_at : List ℕ → Option (List ℕ)) (opens_at : List ℕ → Option Bool) (request : Request) where
   -- what the answer says of files, by their octets and by which of them open
@@ -119,11 +112,8 @@ ends_with_1 error told (inr (is, asked)) = ap fault_code is
 left_so : {W : Type 0} (Grew : Type 0) (old new : Counted W) (told : Fault) → LeavesOutput old new (⊥) told → LeavesOutput old new Grew told
 left_so Grew old new fault.OutOfMemory (inl same) = inl same
 left_so Grew old new fault.OutOfMemory (inr never) = absurd never
-left_so Grew old new (fault.ReadFailed file) same = same
-left_so Grew old new (fault.TooLong file) same = same
-left_so Grew old new (fault.OpenFailed file) same = same
 left_so Grew old new fault.WriteFailed failed = failed
-left_so Grew old new (fault.Refused why place) same = same
+left_so Grew old new told same = same
 
 module _ (error : CommandLineError) (code : ℕ) (ends : EndsSo error code) where
   failed_words : (words : List (List ℕ)) (told : Fault) → IsRefused words error → code ≡ 1 → EndsSo error code → IsWordsFault error told → FailedWords words told
@@ -156,8 +146,3 @@ module _ (error : CommandLineError) (code : ℕ) (ends : EndsSo error code) wher
 
   pub words_quiet : {Same : Type 0} → (code ≡ 0 → Same) → IsEnd code → Same
   words_quiet = quiet_so ends
-
--- ---- where help isn't written
-
-apart : (told : Fault) → told ≡ fault.OutOfMemory → told ≡ fault.WriteFailed → ⊥
-apart told memory written = cc

@@ -25,25 +25,12 @@ no_end_of_2 code is_2 (inr between) = omega (arith, is_2, between.0)
 -- of the words that ask for nothing, those that ask for help end as a whole text does
 end_of_words : (error : CommandLineError) (code : ℕ) → code ≡ command_line_code error → IsEnd code → code ≡ 0
 end_of_words line.OutOfMemory code is ends = absurd (no_end_of_1 code is ends)
-end_of_words line.NotText code is ends = absurd (no_end_of_2 code is ends)
 end_of_words (line.Help refusal) code is ends = is
-end_of_words (line.Misused refusal) code is ends = absurd (no_end_of_2 code is ends)
-end_of_words line.Unclear code is ends = absurd (no_end_of_2 code is ends)
-end_of_words line.Undated code is ends = absurd (no_end_of_2 code is ends)
-end_of_words line.TwoLists code is ends = absurd (no_end_of_2 code is ends)
-end_of_words line.AllOfRange code is ends = absurd (no_end_of_2 code is ends)
-end_of_words line.BothKnown code is ends = absurd (no_end_of_2 code is ends)
+end_of_words error code is ends = absurd (no_end_of_2 code is ends)
 
 pub at_most_2 : (error : CommandLineError) → command_line_code error ≤ 2
-at_most_2 line.OutOfMemory = omega arith
 at_most_2 line.NotText = omega arith
-at_most_2 (line.Help refusal) = omega arith
-at_most_2 (line.Misused refusal) = omega arith
-at_most_2 line.Unclear = omega arith
-at_most_2 line.Undated = omega arith
-at_most_2 line.TwoLists = omega arith
-at_most_2 line.AllOfRange = omega arith
-at_most_2 line.BothKnown = omega arith
+at_most_2 error = omega arith
 
 pub at_most_7 : (error : CommandLineError) (code : ℕ) → EndsSo error code → code ≤ 7
 at_most_7 error code (inl is) = omega (arith, is, at_most_2 error)

@@ -94,7 +94,4 @@ pub faulty_before : (capture : List ℕ) (moments : Moments) (stated answered : 
 faulty_before capture moments stated None told given holds = absurd (given refl)
 faulty_before capture moments stated (Some text) (fault.Refused why place) given holds = holds
 faulty_before capture moments stated (Some text) (fault.TooLong file) given holds = holds
-faulty_before capture moments stated (Some text) fault.OutOfMemory given holds = tt
-faulty_before capture moments stated (Some text) (fault.ReadFailed file) given holds = tt
-faulty_before capture moments stated (Some text) (fault.OpenFailed file) given holds = tt
-faulty_before capture moments stated (Some text) fault.WriteFailed given holds = tt
+faulty_before capture moments stated (Some text) told given holds = tt

@@ -6,7 +6,7 @@ use Rattle.dnsv_canonical.specs.Evidence.{no_evidence}
 use Rattle.dnsv_files.specs.Files.Capture.{AnyMessage, AllTaken}
 use Rattle.dnsv_files.specs.Opening.{IsInFrame}
 use Rattle.dnsv_files.specs.declared.opening.Opening.TheVariants.{Plain}
-use Rattle.dnsv_files.proofs.FileLemmas.Capture.{MessagesSoFar, MessagesSoFar-start, MessagesSoFar-next, MessagesSoFar-all}
+use Rattle.dnsv_files.proofs.FileLemmas.Capture.{MessagesSoFar, MessagesSoFar-next}
 use Rattle.dnsv_texts.specs.Showing.{message_text, texts_from}
 use Rattle.dnsv_texts.proofs.ShowingLemmas.{texts_from-append}
 

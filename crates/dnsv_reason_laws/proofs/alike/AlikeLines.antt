@@ -67,46 +67,16 @@ read_reason (reason.DsUnproved cut) = said.DsUnproved (record { name = length cu
 abbrev pub read : Line → Said
 read (line.Reason each) = read_reason each
 read (line.Follows untrusted) = said.Trust (told.Follows untrusted.signature.number)
-read (line.Trusted keys) = said.AnswerMissing None
-read (line.Signed signed) = said.AnswerMissing None
-read (line.Proof proof) = said.AnswerMissing None
-read (line.Part part) = said.AnswerMissing None
-read (line.Case cut) = said.AnswerMissing None
-read (line.Unusable ds) = said.AnswerMissing None
-read (line.Hope kind) = said.AnswerMissing None
-read (line.Holds interval) = said.AnswerMissing None
-read (line.Key key) = said.AnswerMissing None
-read (line.Rrset place) = said.AnswerMissing None
+read other = said.AnswerMissing None
 
 -- what the hashes of a source are made with
 abbrev read_parameters_of : Reason → Option Nsec3Parameters
 read_parameters_of (reason.Source fault) = fault.source.parameters
-read_parameters_of (reason.Zone fault) = None
-read_parameters_of (reason.Entry fault) = None
-read_parameters_of (reason.NotSelfSigned key) = None
-read_parameters_of (reason.Unsigned rrset) = None
-read_parameters_of (reason.Signature fault) = None
-read_parameters_of (reason.NoCloser closer) = None
-read_parameters_of (reason.Dname dname) = None
-read_parameters_of (reason.Nsec3 fault) = None
-read_parameters_of (reason.AnswerMissing missing) = None
-read_parameters_of (reason.DenialUnproved denial) = None
-read_parameters_of (reason.NotVouched keys) = None
-read_parameters_of (reason.DsUnproved cut) = None
+read_parameters_of other = None
 
 abbrev pub read_parameters : Line → Option Nsec3Parameters
 read_parameters (line.Reason each) = read_parameters_of each
-read_parameters (line.Follows untrusted) = None
-read_parameters (line.Trusted keys) = None
-read_parameters (line.Signed signed) = None
-read_parameters (line.Proof proof) = None
-read_parameters (line.Part part) = None
-read_parameters (line.Case cut) = None
-read_parameters (line.Unusable ds) = None
-read_parameters (line.Hope kind) = None
-read_parameters (line.Holds interval) = None
-read_parameters (line.Key key) = None
-read_parameters (line.Rrset place) = None
+read_parameters other = None
 
 -- what is told, as far as lines tell it
 abbrev pub labels_of : AskedName → ℕ
@@ -163,14 +133,13 @@ module _ (a : Asking) where
       ap (λ (l : Line). read (lower_line l)) is.2
       ∙ ap (λ (k : EntryNumber). said.Trust (told.Entry why k)) (entry_number a.basis.rrsets a.basis.anchors n is.0 is.1)
   trust_read (told.NotSelfSigned n) x is = ap (λ (l : Line). read (lower_line l)) is.4
-  trust_read (told.NotVouched k) x is = ap (λ (l : Line). read (lower_line l)) is.2
-  trust_read (told.Unsigned k) x is = ap (λ (l : Line). read (lower_line l)) is.2
   trust_read (told.Signature why n) x is =
       ap (λ (l : Line). read (lower_line l)) is.2
       ∙ ap (λ (k : SignatureNumber). said.Trust (told.Signature why k)) (shown_number a.basis.rrsets n is.0 is.1)
   trust_read (told.Follows n) x is =
       ap (λ (l : Line). read (lower_line l)) is.2
       ∙ ap (λ (k : SignatureNumber). said.Trust (told.Follows k)) (shown_number a.basis.rrsets n is.0 is.1)
+  trust_read each x is = ap (λ (l : Line). read (lower_line l)) is.2
 
   dname_read : (n k : ℕ) (place : Option ℕ) (x : Line) → IsDnameLine a n k place x → read (lower_line x) ≡ read_dname n k place
   dname_read n k place x is =

@@ -24,31 +24,20 @@ use Rattle.dnsv_remedies.specs.declared.facts.name.AskedName.TheVariants.{At, Wi
 use Rattle.dnsv_remedies.specs.declared.facts.name.SourceNumber.{SourceNumber}
 use Rattle.dnsv_remedies.specs.declared.said.Said.{Said}
 use Rattle.dnsv_remedies.specs.declared.said.Said.TheVariants as said
-use Rattle.dnsv_reason_laws.proofs.OnePlace.{IsOrdered, no_self, one_list, tail}
+use Rattle.dnsv_reasons.proofs.SourceLemmas.{IsOrdered, no_self, one_list, tail}
 use Rattle.dnsv_reason_laws.proofs.alike.AlikeLines.{as_read, labels_of, read, read_parameters, said_read, some_record, some_source}
 use Rattle.dnsv_reason_laws.proofs.kept.KeptRemedies.{Fits, is_of_wildcard}
 
 -- ---- what is read is what is told, but of keys and sources
 
 abbrev is_plain_trust : Told → Bool
-is_plain_trust (told.Zone w n) = true
-is_plain_trust (told.Entry w n) = true
 is_plain_trust (told.NotSelfSigned n) = false
-is_plain_trust (told.NotVouched k) = true
-is_plain_trust (told.Unsigned k) = true
-is_plain_trust (told.Signature w n) = true
-is_plain_trust (told.Follows n) = true
+is_plain_trust some_other = true
 
 abbrev pub is_plain : Said → Bool
 is_plain (said.Trust each) = is_plain_trust each
-is_plain (said.NoCloser number n) = true
-is_plain (said.Dname above) = true
-is_plain (said.DnameHeld n number) = true
-is_plain (said.Nsec3 w number) = true
 is_plain (said.Source w number asked) = false
-is_plain (said.AnswerMissing n) = true
-is_plain (said.DenialUnproved n) = true
-is_plain (said.DsUnproved cut) = true
+is_plain some_other = true
 
 plain_read : (t : Said) → is_plain (as_read t) ≡ true → as_read t ≡ t
 plain_read (said.Trust (told.Zone w n)) h = refl
@@ -122,11 +111,6 @@ record IsSourceLike (w : WhySource) (n : SourceNumber) (asked : AskedName) (t : 
 
 source_like : (w : WhySource) (n : SourceNumber) (asked : AskedName) (t : Said)
     → said.Source w (some_source n.zone) (At (labels_of asked)) ≡ as_read t → IsSourceLike w n asked t
-source_like w n asked (said.Trust each) e = cc
-source_like w n asked (said.NoCloser number k) e = cc
-source_like w n asked (said.Dname above) e = cc
-source_like w n asked (said.DnameHeld k number) e = cc
-source_like w n asked (said.Nsec3 v number) e = cc
 source_like w n asked (said.Source v p other) e = record {
   v = v;
   p = p;
@@ -136,9 +120,7 @@ source_like w n asked (said.Source v p other) e = record {
   zone = ap source_zone e;
   labels = ap source_labels e;
 }
-source_like w n asked (said.AnswerMissing k) e = cc
-source_like w n asked (said.DenialUnproved k) e = cc
-source_like w n asked (said.DsUnproved cut) e = cc
+source_like w n asked t e = cc
 
 -- which chain it is, by its parameters
 one_chain : (c d : Chain) (o : Option Nsec3Parameters) → IsParametersOf c o → IsParametersOf d o → c ≡ d

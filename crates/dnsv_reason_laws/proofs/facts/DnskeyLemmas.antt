@@ -20,7 +20,7 @@ use Rattle.dnsv_zone_keys.specs.Answers.{IsKeyAnswer}
 use Rattle.dnsv_faults.specs.Dnskeys.{AreAllDnskeyFacts, AreDnskeyFacts, AreHeldKeys, AreOwnSignatures, IsHeldKey, IsNamedIn, IsOwnSignature, signature_number}
 use Rattle.dnsv_zone_keys.specs.Keys.{IsZoneKey}
 use Rattle.dnsv_faults.specs.Signatures.{AreSignatureFaults, IsSignatureAt}
-use Rattle.dnsv_zone_keys.proofs.lemmas.ZoneKeyLemmas.{same_number}
+use Rattle.dnsv_canonical.proofs.NumberLemmas.{one_numbered}
 use Rattle.dnsv_faults.proofs.lemmas.zones.PlaceLemmas.{placed_once, same_record}
 use Rattle.dnsv_remedy_laws.specs.AlikeZones.{AreAlikeDnskeys, AreAlikeHeldKeys}
 use Rattle.dnsv_reason_laws.proofs.facts.AnswerLemmas.{one_answer}
@@ -88,7 +88,7 @@ module _ (basis : Basis) (zone : Labels) where
   pub one_dnskey_facts : (k : ℕ) (a b : DnskeyFacts) → AreDnskeyFacts basis zone k a → AreDnskeyFacts basis zone k b
       → AreAlikeDnskeys a b
   one_dnskey_facts k a b x y =
-      let set : x.set ≡ y.set = same_number basis.rrsets k x.set y.set x.numbered y.numbered in
+      let set : x.set ≡ y.set = one_numbered basis.rrsets k x.set y.set x.numbered y.numbered in
       let Trusted : ReceivedRrset → Type 0 = λ each.
       IsTrue a.is_trusted ↔ IsTrusted basis.meaning basis.moment basis.rrsets basis.anchors each in
       let Signed : ReceivedRrset → Type 0 = λ each. IsTrue a.has_signatures ↔ (each.signatures ≢ []) in

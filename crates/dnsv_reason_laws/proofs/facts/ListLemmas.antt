@@ -90,14 +90,6 @@ alike_zip {A = A} {B = B} R Alike one (x ∷ xs) (a ∷ ys) [] p q = absurd q
 alike_zip {A = A} {B = B} R Alike one (x ∷ xs) (a ∷ ys) (b ∷ zs) p q =
     (one x a b p.0 q.0, alike_zip R Alike one xs ys zs p.1 q.1)
 
--- the first list by what its members are
-pub zip_mapped : {A B C : Type 0} (R : A → C → Type 0) (f : B → A) (xs : List B) (ys : List C) → AllZip (λ x y. R (f x) y) xs ys
-    → AllZip R (map f xs) ys
-zip_mapped R f [] [] each = tt
-zip_mapped R f [] (y ∷ ys) each = absurd each
-zip_mapped R f (x ∷ xs) [] each = absurd each
-zip_mapped R f (x ∷ xs) (y ∷ ys) each = (each.0, zip_mapped R f xs ys each.1)
-
 -- by their places
 pub zip_by_place : {B : Type 0} (Alike : B → B → Type 0) (ys zs : List B) → length ys ≡ length zs
     → ((n : ℕ) (a b : B) → slice_get ys n ≡ Some a → slice_get zs n ≡ Some b → Alike a b) → AllZip Alike ys zs

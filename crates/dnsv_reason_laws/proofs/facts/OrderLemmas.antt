@@ -11,7 +11,7 @@ use Rattle.std.specs.List.{AllByRecursion, AllZip, IsDistinct, dedup, dedup_from
 use Rattle.std.specs.List.Sorted.{IsSorted, IsStrictlySortedBy}
 use Rattle.std.specs.Ordering.{eq_by_cmp, is_eq, nat_cmp, ordering_then}
 use Rattle.std.specs.declared.cmp.Ordering.{Ordering}
-use Rattle.std.specs.declared.cmp.Ordering.TheVariants.{Less, Equal, Greater}
+use Rattle.std.specs.declared.cmp.Ordering.TheVariants.{Equal}
 use Rattle.dnsv_records.specs.Rrsig.{IsRrsig}
 use Rattle.dnsv_records.specs.declared.rrsig.Rrsig.{Rrsig}
 use Rattle.dnsv_records.proofs.OneRecord.{one_rrsig}
@@ -23,19 +23,16 @@ use Rattle.dnsv_faults.proofs.lemmas.OrderLemmas.{rank_cmp_total, sorted_map}
 -- ---- ranks
 
 first_equal : (o p : Ordering) → ordering_then o p ≡ Equal → o ≡ Equal
-first_equal Less p is = is
 first_equal Equal p is = refl
-first_equal Greater p is = is
+first_equal o p is = is
 
 second_equal : (o p : Ordering) → ordering_then o p ≡ Equal → p ≡ Equal
-second_equal Less p is = absurd (cc is)
 second_equal Equal p is = is
-second_equal Greater p is = absurd (cc is)
+second_equal o p is = absurd (cc is)
 
 equal : (o : Ordering) → is_eq o ≡ true → o ≡ Equal
-equal Less is = absurd (cc is)
 equal Equal is = refl
-equal Greater is = absurd (cc is)
+equal o is = absurd (cc is)
 
 one_rank : (a b : Rank) → rank_cmp a b ≡ Equal → a ≡ b
 one_rank a b is =

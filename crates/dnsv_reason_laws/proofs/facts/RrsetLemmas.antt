@@ -8,9 +8,10 @@ use Rattle.dnsv_mending.specs.declared.facts.signature.RrsetFacts.{RrsetFacts}
 use Rattle.dnsv_mending.specs.declared.facts.signature.SignatureFacts.{SignatureFacts}
 use Rattle.dnsv_faults.specs.Rrsets.{AreInOrder, AreRrsetFacts, Rank, rank_of}
 use Rattle.dnsv_faults.specs.Signatures.{AreSignatureFacts}
-use Rattle.dnsv_zone_keys.proofs.lemmas.ZoneKeyLemmas.{same_number}
+use Rattle.dnsv_faults.proofs.lemmas.OrderLemmas.{zip_mapped}
+use Rattle.dnsv_canonical.proofs.NumberLemmas.{one_numbered}
 use Rattle.dnsv_remedy_laws.specs.AlikeZones.{AreAlikeRrsets, AreAlikeSignatures}
-use Rattle.dnsv_reason_laws.proofs.facts.ListLemmas.{alike_zip, zip_mapped}
+use Rattle.dnsv_reason_laws.proofs.facts.ListLemmas.{alike_zip}
 use Rattle.dnsv_reason_laws.proofs.facts.OrderLemmas.{one_order}
 use Rattle.dnsv_reason_laws.proofs.facts.SignatureLemmas.{one_signature_facts}
 
@@ -26,7 +27,7 @@ module _ (basis : Basis) (k : ℕ) where
 
   pub one_rrset_facts : (a b : RrsetFacts) → AreRrsetFacts basis k a → AreRrsetFacts basis k b → AreAlikeRrsets a b
   one_rrset_facts a b x y =
-      let rrset : x.rrset ≡ y.rrset = same_number basis.rrsets k x.rrset y.rrset x.numbered y.numbered in
+      let rrset : x.rrset ≡ y.rrset = one_numbered basis.rrsets k x.rrset y.rrset x.numbered y.numbered in
       let InOrder : ReceivedRrset → Type 0 = λ each. AreInOrder each x.order in
       let order : map rank_of x.order ≡ map rank_of y.order =
       one_order y.rrset x.order y.order (subst InOrder rrset x.in_order) y.in_order in

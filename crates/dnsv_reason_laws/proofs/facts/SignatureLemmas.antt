@@ -11,7 +11,7 @@ use Rattle.dnsv_mending.specs.declared.facts.signature.SignatureFacts.{Signature
 use Rattle.dnsv_mending.specs.declared.facts.signature.SignatureFaults.{SignatureFaults}
 use Rattle.dnsv_zone_keys.specs.Keys.{HasKeys, IsKeyPlaced, NamesKey, NamesZoneKey}
 use Rattle.dnsv_faults.specs.Signatures.{AreNamedKeys, AreSignatureFacts, AreSignatureFaults, IsNamedKey, IsSignatureAt}
-use Rattle.dnsv_zone_keys.proofs.lemmas.ZoneKeyLemmas.{same_number}
+use Rattle.dnsv_canonical.proofs.NumberLemmas.{one_numbered}
 use Rattle.dnsv_faults.proofs.lemmas.zones.PlaceLemmas.{placed_rdata, read_same}
 use Rattle.dnsv_remedy_laws.specs.AlikeZones.{AreAlikeSignatures}
 use Rattle.dnsv_reason_laws.proofs.facts.AnswerLemmas.{answered_too, one_answer}
@@ -20,7 +20,7 @@ use Rattle.dnsv_reason_laws.proofs.facts.ListLemmas.{one_by_number, one_test}
 -- a signature by its number
 pub one_signature_at : (rrset : ReceivedRrset) (s : ℕ) (a b : Rrsig) → IsSignatureAt rrset s a → IsSignatureAt rrset s b → a ≡ b
 one_signature_at rrset s a b x y =
-    let rdata : x.rdata ≡ y.rdata = same_number rrset.signatures s x.rdata y.rdata x.numbered y.numbered in
+    let rdata : x.rdata ≡ y.rdata = one_numbered rrset.signatures s x.rdata y.rdata x.numbered y.numbered in
     let Read : List ℕ → Type 0 = λ octets. IsRrsig octets a in
     one_rrsig y.rdata a b (subst Read rdata x.is) y.is
 

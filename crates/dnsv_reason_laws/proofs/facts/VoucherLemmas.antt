@@ -20,7 +20,7 @@ use Rattle.dnsv_mending.specs.declared.facts.zone.DsFacts.{DsFacts}
 use Rattle.dnsv_faults.specs.Groups.{AreAllDsFacts, AreAnchorFacts, AreAnchorFactsFrom, AreDsFacts, AreRecordFacts, anchor_wanted}
 use Rattle.dnsv_zone_keys.specs.Vouchers.{AreMatches, AreVoucherFacts, IsVoucherFault, Wanted, voucher_faults}
 use Rattle.dnsv_zone_keys.specs.Vouchers.Wanted.{by_digest}
-use Rattle.dnsv_zone_keys.proofs.lemmas.ZoneKeyLemmas.{same_number}
+use Rattle.dnsv_canonical.proofs.NumberLemmas.{one_numbered}
 use Rattle.dnsv_remedy_laws.specs.AlikeZones.{AreAlikeDs, AreAlikeVouchers}
 use Rattle.dnsv_reason_laws.proofs.facts.ListLemmas.{alike_zip, one_first, one_rising_of}
 use Rattle.dnsv_reason_laws.proofs.facts.RrsetLemmas.{one_rrset_facts}
@@ -94,7 +94,7 @@ one_anchor_facts basis zone a b x y = one_anchors_from basis.rrsets zone 1 basis
 module _ (basis : Basis) (zone : Labels) where
   pub one_ds_facts : (k : ℕ) (a b : DsFacts) → AreDsFacts basis zone k a → AreDsFacts basis zone k b → AreAlikeDs a b
   one_ds_facts k a b x y =
-      let set : x.set ≡ y.set = same_number basis.rrsets k x.set y.set x.numbered y.numbered in
+      let set : x.set ≡ y.set = one_numbered basis.rrsets k x.set y.set x.numbered y.numbered in
       let Read : ReceivedRrset → Type 0 = λ each. AllZip IsDs each.rdata x.records in
       let records : x.records ≡ y.records = same_ds y.set.rdata x.records y.records (subst Read set x.read) y.read in
       let InOrder : ReceivedRrset → Type 0 = λ each. IsCanonical each.rdata x.canonical in

@@ -25,13 +25,8 @@ use Rattle.dnsv_reason_laws.proofs.kept.KeptLines.{AreHere, Here, MayBeHere, her
 
 -- a key of the RRset that doesn't sign it is the one with the number
 abbrev pub KeyOf : DnskeyFacts → RecordNumber → Told → Type 0
-KeyOf r number (told.Zone w n) = ⊤
-KeyOf r number (told.Entry w n) = ⊤
 KeyOf r number (told.NotSelfSigned n) = (n ≡ number) × (k : HeldKey) × IsAmong k r.keys.items × (k.number ≡ n)
-KeyOf r number (told.NotVouched k) = ⊤
-KeyOf r number (told.Unsigned k) = ⊤
-KeyOf r number (told.Signature w n) = ⊤
-KeyOf r number (told.Follows n) = ⊤
+KeyOf r number other = ⊤
 
 -- whichever key it is
 abbrev pub Any : RecordNumber → Type 0
@@ -41,13 +36,8 @@ abbrev NoKey : RecordNumber → Type 0
 NoKey n = ⊥
 
 not_a_key : (zones : List ZoneFacts) (r : DnskeyFacts) (number : RecordNumber) (line : Told) → Here zones NoKey line → KeyOf r number line
-not_a_key zones r number (told.Zone w n) is = tt
-not_a_key zones r number (told.Entry w n) is = tt
 not_a_key zones r number (told.NotSelfSigned n) is = absurd is
-not_a_key zones r number (told.NotVouched k) is = tt
-not_a_key zones r number (told.Unsigned k) is = tt
-not_a_key zones r number (told.Signature w n) is = tt
-not_a_key zones r number (told.Follows n) is = tt
+not_a_key zones r number line is = tt
 
 -- that the key signs the RRset
 pub record IsSigning (zones : List ZoneFacts) (Chosen : RecordNumber → Type 0) (r : DnskeyFacts) (k : HeldKey) (m : Mended) : Type 0 where

@@ -95,8 +95,7 @@ module _ (zones : List ZoneFacts) (Chosen : RecordNumber → Type 0) where
 
   pub here_answer : (n : SignatureNumber) (a : KeyAnswer) → AllByRecursion (Here zones Chosen) (answer_lines n a)
   here_answer n answer.Good = tt
-  here_answer n answer.Bad = (tt, tt)
-  here_answer n answer.Unanswered = (tt, tt)
+  here_answer n a = (tt, tt)
 
   pub here_else : (lines others : List Told) → AllByRecursion (Here zones Chosen) lines → AllByRecursion (Here zones Chosen) others
       → AllByRecursion (Here zones Chosen) (or_else lines others)

@@ -12,9 +12,8 @@ use Rattle.dnsv_canonical.specs.Rrsets.{ReceivedRrset}
 use Rattle.dnsv_canonical.specs.declared.number.RecordNumber.{RecordNumber}
 use Rattle.dnsv_canonical.proofs.IndexLemmas.InOrder.{each_get}
 use Rattle.dnsv_canonical.proofs.OrderLemmas.{each_kept, zip_at}
-use Rattle.dnsv_denial.proofs.lemmas.gathering.EvidenceLemmas.{one_numbered}
+use Rattle.dnsv_canonical.proofs.NumberLemmas.{each_number, IsOneAt, one_numbered}
 use Rattle.dnsv_verdict.specs.Verdict.{Basis}
-use Rattle.dnsv_verdict.proofs.SearchLemmas.NumberLemmas.{IsOneAt, each_number}
 use Rattle.dnsv_faults.specs.Dnskeys.{AreDnskeyFacts, AreHeldKeys}
 use Rattle.dnsv_faults.specs.Zones.{AreFactsOfZone, AreZoneFacts}
 use Rattle.dnsv_mending.specs.Mend.{Mended}

@@ -44,15 +44,9 @@ is_of_wildcard (why.CoverMissing role.Cut) = false
 -- where the wildcard is asked about, such words are of it; elsewhere no name is a wildcard
 abbrev pub Fits : List ZoneFacts → (RecordNumber → Type 0) → Bool → Said → Type 0
 Fits zones Chosen wild (said.Trust line) = Here zones Chosen line
-Fits zones Chosen wild (said.NoCloser n name) = ⊤
-Fits zones Chosen wild (said.Dname d) = ⊤
-Fits zones Chosen wild (said.DnameHeld name n) = ⊤
-Fits zones Chosen wild (said.Nsec3 w n) = ⊤
 Fits zones Chosen wild (said.Source w n (At x)) = (wild ≡ false) ⊎ (is_of_wildcard w ≡ false)
 Fits zones Chosen wild (said.Source w n (Wildcard x)) = (wild ≡ true) × (is_of_wildcard w ≡ true)
-Fits zones Chosen wild (said.AnswerMissing z) = ⊤
-Fits zones Chosen wild (said.DenialUnproved z) = ⊤
-Fits zones Chosen wild (said.DsUnproved c) = ⊤
+Fits zones Chosen wild other = ⊤
 
 pub record AllFit (zones : List ZoneFacts) (Chosen : RecordNumber → Type 0) (wild : Bool) (m : Remedied) : Type 0 where
   pub chain : AllByRecursion (Fits zones Chosen wild) m.chain

@@ -62,17 +62,12 @@ module _ (basis : Basis) (said : RecordWords RecordNumber) where
   records_words name t (records.Holding h) are = words_of said name t are.2.numbers h.held.items are.2.each
 
   wildcard_words : (next below : Labels) (t : ℕ) (w : WildcardFacts) → AreWildcardFacts basis said next below t w → AreWildcardWords w
-  wildcard_words next below t wildcard.OptedOut are = tt
   wildcard_words next below t (wildcard.At r) are = records_words below t r are.2
-  wildcard_words next below t (wildcard.Covered rrsets) are = tt
+  wildcard_words next below t w are = tt
 
   case_words : (zone name : Labels) (t : ℕ) (c : SourceCase) → IsSourceCase basis said zone name t c → AreCaseWords c
-  case_words zone name t (case.Closed c) is = tt
-  case_words zone name t (case.At r) is = tt
-  case_words zone name t case.Apex is = tt
-  case_words zone name t (case.NonTerminal rrsets) is = tt
-  case_words zone name t case.NoEncloser is = tt
   case_words zone name t (case.Encloser e) is = wildcard_words (rightmost name e.next) (wildcard_of (rightmost name e.name)) t e.wildcard is.1.wildcard
+  case_words zone name t c is = tt
 
 pub all_among : {X : Type 0} (P : X → Type 0) (xs : List X) (x : X) → AllByRecursion P xs → IsAmong x xs → P x
 all_among {X} P [] x all among = absurd among

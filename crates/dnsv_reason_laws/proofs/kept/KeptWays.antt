@@ -58,17 +58,12 @@ AreHeldWords (records.Denying rrsets) = ⊤
 AreHeldWords (records.Holding h) = AllByRecursion (λ w. is_of_wildcard w ≡ true) h.held.items
 
 abbrev pub AreWildcardWords : WildcardFacts → Type 0
-AreWildcardWords wildcard.OptedOut = ⊤
 AreWildcardWords (wildcard.At r) = AreHeldWords r
-AreWildcardWords (wildcard.Covered rrsets) = ⊤
+AreWildcardWords facts = ⊤
 
 abbrev pub AreCaseWords : SourceCase → Type 0
-AreCaseWords (case.Closed c) = ⊤
-AreCaseWords (case.At r) = ⊤
-AreCaseWords case.Apex = ⊤
-AreCaseWords (case.NonTerminal rrsets) = ⊤
-AreCaseWords case.NoEncloser = ⊤
 AreCaseWords (case.Encloser e) = AreWildcardWords e.wildcard
+AreCaseWords other = ⊤
 
 module _ (zones : List ZoneFacts) (Chosen : RecordNumber → Type 0) (levels : List Leveled)
     (good : AllByRecursion (GoodLevel zones Chosen) levels) where

@@ -4,7 +4,7 @@ use Rattle.std.specs.List.{AllByRecursion, AllZip}
 use Rattle.dnsv_zones.specs.zones.TypeNumbers.{cname}
 use Rattle.dnsv_canonical.specs.Rrsets.{IsNumbered, ReceivedRrset}
 use Rattle.dnsv_canonical.specs.declared.number.SignatureNumber.{SignatureNumber}
-use Rattle.dnsv_denial.proofs.lemmas.gathering.EvidenceLemmas.{one_numbered}
+use Rattle.dnsv_canonical.proofs.NumberLemmas.{one_numbered}
 use Rattle.dnsv_mending.specs.declared.facts.signature.SignatureFacts.{SignatureFacts}
 use Rattle.dnsv_remedies.specs.declared.facts.answer.AnswerSignature.{AnswerSignature}
 use Rattle.dnsv_remedies.specs.declared.facts.answer.GoalFacts.{GoalFacts}

@@ -92,12 +92,10 @@ module _ (basis : Basis) (said : RecordWords RecordNumber) (types : HasOneTypes 
   pub one_wildcard : (next below : Labels) (a b : WildcardFacts) → AreWildcardFacts basis said next below t a
       → AreWildcardFacts basis said next below t b → AreAlikeWildcards a b
   one_wildcard next below wildcard.OptedOut wildcard.OptedOut x y = opted_out
-  one_wildcard next below wildcard.OptedOut (wildcard.At b) x y = absurd (y.0 x)
-  one_wildcard next below wildcard.OptedOut (wildcard.Covered b) x y = absurd (y.0 x)
-  one_wildcard next below (wildcard.At a) wildcard.OptedOut x y = absurd (x.0 y)
   one_wildcard next below (wildcard.At a) (wildcard.At b) x y = at a b (one_records below a b x.2 y.2)
   one_wildcard next below (wildcard.At a) (wildcard.Covered b) x y = absurd (y.1 x.1.0 x.1.1)
-  one_wildcard next below (wildcard.Covered a) wildcard.OptedOut x y = absurd (x.0 y)
+  one_wildcard next below a wildcard.OptedOut x y = absurd (x.0 y)
+  one_wildcard next below wildcard.OptedOut b x y = absurd (y.0 x)
   one_wildcard next below (wildcard.Covered a) (wildcard.At b) x y = absurd (x.1 y.1.0 y.1.1)
   one_wildcard next below (wildcard.Covered a) (wildcard.Covered b) x y =
       covered a b (one_part basis (IsRuledOut said below) a.items b.items x.2 y.2)

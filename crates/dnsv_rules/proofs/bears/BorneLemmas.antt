@@ -25,7 +25,7 @@ use Rattle.dnsv_verdict.specs.declared.verdict.Verdict.TheVariants.{SecureAnswer
 use Rattle.dnsv_derivations.specs.Explained.{Explained, Setting, setting_in}
 use Rattle.dnsv_derivations.specs.Saying.{AreBoth, AreEach}
 use Rattle.dnsv_derivations.specs.derivations.OwnDerivations.{SecuredIn}
-use Rattle.dnsv_derivations.proofs.lemmas.NumberedLemmas.{same_number}
+use Rattle.dnsv_canonical.proofs.NumberLemmas.{one_numbered}
 use Rattle.dnsv_derivations.proofs.lemmas.denials.PartLemmas.{zone_as}
 use Rattle.dnsv_derivations.proofs.lemmas.denials.StandingLemmas.{each_by}
 use Rattle.dnsv_derivations.proofs.lemmas.intervals.MomentLemmas.{first_or_behind}
@@ -68,7 +68,7 @@ module _ (setting : Setting) (all : List Line) where
   set_borne : (name : Labels) (t k s : ℕ) (before lines : List Line) → IsSecureSet (SecuredIn setting) setting.rrsets name t k s
       → IsSetTold setting name (signature_of k s) before lines → AreWithin (before ++ lines) all → IsSetBorne setting.rrsets all name t k s
   set_borne name t k s before lines is (as_owned rrset rrsig at plain told) within =
-      let same_rrset : rrset ≡ is.rrset = same_number setting.rrsets k rrset is.rrset at.is_rrset is.is_rrset in
+      let same_rrset : rrset ≡ is.rrset = one_numbered setting.rrsets k rrset is.rrset at.is_rrset is.is_rrset in
       let same_rrsig : rrsig ≡ is.rrsig =
       one_signature setting.rrsets k s rrset is.rrset at.rdata is.rdata rrsig is.rrsig at.is_rrset is.is_rrset at.is_signature is.is_signature at.read
       is.read in

@@ -11,7 +11,7 @@ use Rattle.dnsv_chain.specs.Trusted.{IsTrusted}
 use Rattle.dnsv_denial.specs.gathering.Evidence.{IsSecuredBy}
 use Rattle.dnsv_derivations.specs.Explained.{Setting}
 use Rattle.dnsv_derivations.specs.Following.{EachFollows, Follows, FollowsSigned}
-use Rattle.dnsv_derivations.proofs.lemmas.NumberedLemmas.{same_number}
+use Rattle.dnsv_canonical.proofs.NumberLemmas.{one_numbered}
 use Rattle.dnsv_derivations.proofs.lemmas.intervals.MomentLemmas.{first_or_behind}
 use Rattle.dnsv_lines.specs.declared.line.Line.{Line}
 use Rattle.dnsv_lines.specs.declared.line.Line.TheVariants as line
@@ -22,9 +22,9 @@ use Rattle.dnsv_rules.specs.Truth.{IsShownSecured}
 pub one_signature : (rrsets : List ReceivedRrset) (k s : ℕ) (a b : ReceivedRrset) (x y : List ℕ) (f g : Rrsig) → IsNumbered rrsets k a
     → IsNumbered rrsets k b → IsNumbered a.signatures s x → IsNumbered b.signatures s y → IsRrsig x f → IsRrsig y g → f ≡ g
 one_signature rrsets k s a b x y f g is_a is_b at_a at_b read_f read_g =
-    let rrset : a ≡ b = same_number rrsets k a b is_a is_b in
+    let rrset : a ≡ b = one_numbered rrsets k a b is_a is_b in
     let At : ReceivedRrset → Type 0 = λ each. IsNumbered each.signatures s x in
-    let rdata : x ≡ y = same_number b.signatures s x y (subst At rrset at_a) at_b in
+    let rdata : x ≡ y = one_numbered b.signatures s x y (subst At rrset at_a) at_b in
     let Of : List ℕ → Type 0 = λ each. IsRrsig each f in
     one_rrsig y f g (subst Of rdata read_f) read_g
 

@@ -5,7 +5,7 @@ ghost use Rattle.dnsv_texts.specs.Todo as specs;
 ghost use Rattle.dnsv_texts.specs.declared.format.Format.TheVariants.{Json};
 
 use crate::json::moments::push_list_of;
-use crate::json::push_octets;
+use crate::json::{push_octets, push_signed};
 use dnsv_answers::Moments;
 use dnsv_lines::push_comma;
 use dnsv_verifier::{Entries, Entry};
@@ -69,7 +69,7 @@ fn push_members(text: &mut String, entry: &Entry<'_>) -> Result<(), AllocError>
     write!(text, "{{\"algorithm\":{algorithm},\"key\":")?;
     push_octets(text, entry.key.as_slice())?;
     text.push_str(",\"data\":")?;
-    push_octets(text, entry.signed_data.as_slice())?;
+    push_signed(text, &entry.signed_data)?;
     text.push_str(",\"signature\":")?;
     push_octets(text, entry.signature.as_slice())?;
     text.push_str("}")?;

@@ -82,19 +82,16 @@ SaysWildcard Fit (wildcard.Covered rrsets) = SaysRrsets Fit rrsets.items
 abbrev pub SaysCase : (RrsetFacts → Type 0) → ℕ → SourceCase → Type 0
 SaysCase Fit labels (case.Closed c) = (c.name ≤ labels) × Fit c.rrset
 SaysCase Fit labels (case.At r) = SaysAt Fit r
-SaysCase Fit labels case.Apex = Unit {0}
 SaysCase Fit labels (case.NonTerminal rrsets) = SaysRrsets Fit rrsets.items
-SaysCase Fit labels case.NoEncloser = Unit {0}
 SaysCase Fit labels (case.Encloser e) =
     (e.name < labels) × (e.next ≤ labels) × SaysRrsets Fit e.shown.items × SaysRrsets Fit e.covers.items × SaysWildcard Fit e.wildcard
+SaysCase Fit labels other = Unit {0}
 
 abbrev pub SaysCut : (RrsetFacts → Type 0) → CutCase → Type 0
 SaysCut Fit (cut.Delegation rrsets) = SaysRrsets Fit rrsets.items
-SaysCut Fit cut.NoCut = Unit {0}
 SaysCut Fit (cut.Signed s) = Fit s.rrset
 SaysCut Fit (cut.OptOut o) = SaysRrsets Fit o.shown.items × SaysRrsets Fit o.covers.items
-SaysCut Fit cut.Uncovered = Unit {0}
-SaysCut Fit cut.Unmatched = Unit {0}
+SaysCut Fit other = Unit {0}
 
 -- what names no facts
 pub record SaysNames (Q : Said → Type 0) (labels : ℕ) : Type 0 where

@@ -19,7 +19,7 @@ use Rattle.dnsv_chain.specs.declared.anchor.Anchor.TheVariants as given
 use Rattle.dnsv_faults.specs.Groups.{anchor_wanted}
 use Rattle.dnsv_zone_keys.specs.Vouchers.{wanted_key}
 use Rattle.dnsv_zone_keys.specs.Vouchers.Wanted.{by_digest}
-use Rattle.dnsv_zone_keys.proofs.lemmas.ZoneKeyLemmas.{same_number}
+use Rattle.dnsv_canonical.proofs.NumberLemmas.{one_numbered}
 use Rattle.dnsv_gaps.specs.Asking.{Asking}
 use Rattle.dnsv_lines.specs.declared.line.Line.{Line}
 use Rattle.dnsv_lines.specs.declared.line.Line.TheVariants as line
@@ -46,25 +46,15 @@ use Rattle.dnsv_true_reasons.proofs.truths.zones.VoucherTruth.{fault_moves}
 
 -- the reason that a line tells is such
 abbrev pub IsLineTrue : (Reason → Type 0) → Line → Type 0
-IsLineTrue IsSo (line.Trusted keys) = ⊤
-IsLineTrue IsSo (line.Signed rrset) = ⊤
-IsLineTrue IsSo (line.Proof proof) = ⊤
-IsLineTrue IsSo (line.Part part) = ⊤
-IsLineTrue IsSo (line.Case cut) = ⊤
-IsLineTrue IsSo (line.Unusable ds) = ⊤
-IsLineTrue IsSo (line.Hope kind) = ⊤
-IsLineTrue IsSo (line.Holds interval) = ⊤
 IsLineTrue IsSo (line.Reason reason) = IsSo reason
-IsLineTrue IsSo (line.Follows signer) = ⊤
-IsLineTrue IsSo (line.Key key) = ⊤
-IsLineTrue IsSo (line.Rrset place) = ⊤
+IsLineTrue IsSo other = ⊤
 
 -- ---- places
 
 pub placed_one : (rrset : ReceivedRrset) (place : ℕ) (x y : List ℕ) → IsPlaced rrset place x → IsPlaced rrset place y → x ≡ y
 placed_one rrset place x y first second =
     let lists = canonical_unique rrset.rdata first.canonical second.canonical first.in_order second.in_order in
-    same_number second.canonical place x y (subst (λ (each : List (List ℕ)). IsNumbered each place x) lists first.numbered) second.numbered
+    one_numbered second.canonical place x y (subst (λ (each : List (List ℕ)). IsNumbered each place x) lists first.numbered) second.numbered
 
 -- ---- entries
 
@@ -77,7 +67,7 @@ entry_true : (basis : Basis) (w : WhyEntry) (n : EntryNumber) (entry : Entry) �
     → IsEntryTrue basis (record { why = w; entry = entry })
 entry_true basis w (number.Anchor a) entry told is =
     let vouches = told.vouches in
-    let same : vouches.anchor ≡ is.anchor = same_number basis.anchors a vouches.anchor is.anchor vouches.numbered is.numbered in
+    let same : vouches.anchor ≡ is.anchor = one_numbered basis.anchors a vouches.anchor is.anchor vouches.numbered is.numbered in
     let asks : told.wanted ≡ anchor_wanted is.anchor = vouches.asks ∙ ap anchor_wanted same in
     let owner : SameName (anchor_owner is.anchor) told.zone = subst (λ (anchor : Anchor). SameName (anchor_owner anchor) told.zone) same
     vouches.owner in
@@ -90,7 +80,7 @@ entry_true basis w (number.Anchor a) entry told is =
     })
 entry_true basis w (number.Ds record_number) entry told is =
     let vouches = told.vouches in
-    let same : vouches.rrset ≡ is.rrset = same_number basis.rrsets record_number.rrset vouches.rrset is.rrset vouches.numbered is.numbered
+    let same : vouches.rrset ≡ is.rrset = one_numbered basis.rrsets record_number.rrset vouches.rrset is.rrset vouches.numbered is.numbered
     in
     let rdata : vouches.rdata ≡ is.rdata =
     placed_one is.rrset record_number.place vouches.rdata is.rdata
@@ -125,7 +115,7 @@ key_true : (basis : Basis) (n : RecordNumber) (set : ReceivedRrset) (key : KeyNa
     → IsNumbered basis.rrsets n.rrset set
     → IsKeyAt set n.place key → IsWithoutSignature basis (record { zone = set.owner; rrset = n.rrset; key = key })
 key_true basis n set key told numbered is =
-    let same : told.set ≡ set = same_number basis.rrsets n.rrset told.set set told.numbered numbered in
+    let same : told.set ≡ set = one_numbered basis.rrsets n.rrset told.set set told.numbered numbered in
     let rdata : is.rdata ≡ told.key.rdata =
     placed_one set n.place is.rdata told.key.rdata is.placed
     (subst (λ (r : ReceivedRrset). IsPlaced r n.place told.key.rdata) same told.placed) in
@@ -150,9 +140,9 @@ shown_true : (basis : Basis) (w : WhySignature) (n : SignatureNumber) (shown : S
     → IsShown basis.rrsets n shown
     → IsTrueOfSignature basis (record { why = w; signature = shown })
 shown_true basis w n shown told is =
-    let same : is.rrset ≡ told.rrset = same_number basis.rrsets n.rrset is.rrset told.rrset is.numbered told.numbered in
+    let same : is.rrset ≡ told.rrset = one_numbered basis.rrsets n.rrset is.rrset told.rrset is.numbered told.numbered in
     let rdata : is.rdata ≡ told.its.rdata =
-    same_number told.rrset.signatures n.signature is.rdata told.its.rdata
+    one_numbered told.rrset.signatures n.signature is.rdata told.its.rdata
     (subst (λ (r : ReceivedRrset). IsNumbered r.signatures n.signature is.rdata) same is.is_signature) told.its.numbered in
     let rrsig : is.rrsig ≡ told.rrsig =
     one_rrsig told.its.rdata is.rrsig told.rrsig (subst (λ (octets : List ℕ). IsRrsig octets is.rrsig) rdata is.read) told.its.is in
@@ -176,11 +166,11 @@ trust_line a (told.Entry w n) is said line_is = subst (IsLineTrue (IsReasonTrue 
 trust_line a (told.NotSelfSigned n) is said line_is =
     subst (IsLineTrue (IsReasonTrue a)) (sym line_is.4) (key_true a.basis n line_is.0 line_is.1 is line_is.2 line_is.3)
 trust_line a (told.NotVouched k) is said line_is =
-    let same : is.set ≡ line_is.0 = same_number a.basis.rrsets k is.set line_is.0 is.same line_is.1 in
+    let same : is.set ≡ line_is.0 = one_numbered a.basis.rrsets k is.set line_is.0 is.same line_is.1 in
     subst (IsLineTrue (IsReasonTrue a)) (sym line_is.2)
     (subst (λ (set : ReceivedRrset). IsWithoutVoucher a.basis (record { zone = set.owner; rrset = k })) same is.is)
 trust_line a (told.Unsigned k) is said line_is =
-    let same : is.rrset ≡ line_is.0 = same_number a.basis.rrsets k is.rrset line_is.0 is.numbered line_is.1 in
+    let same : is.rrset ≡ line_is.0 = one_numbered a.basis.rrsets k is.rrset line_is.0 is.numbered line_is.1 in
     subst (IsLineTrue (IsReasonTrue a)) (sym line_is.2) (record {
       rrset = line_is.0;
       numbered = line_is.1;

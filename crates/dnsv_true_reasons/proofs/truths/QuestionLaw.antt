@@ -53,12 +53,6 @@ use Rattle.dnsv_true_reasons.proofs.truths.TrustLaw.{IsTrustTrue, failures_of, l
 
 -- of these kinds a reason is true; that something proves nothing, where nothing settles the question
 abbrev pub IsQuestionTrue : Asking → Reason → Type 0
-IsQuestionTrue a (reason.Zone fault) = ⊤
-IsQuestionTrue a (reason.Entry fault) = ⊤
-IsQuestionTrue a (reason.NotSelfSigned without) = ⊤
-IsQuestionTrue a (reason.NotVouched keys) = ⊤
-IsQuestionTrue a (reason.Unsigned unsigned) = ⊤
-IsQuestionTrue a (reason.Signature fault) = ⊤
 IsQuestionTrue a (reason.NoCloser closer) = IsReasonTrue a (reason.NoCloser closer)
 IsQuestionTrue a (reason.Dname above) = IsReasonTrue a (reason.Dname above)
 IsQuestionTrue a (reason.Nsec3 unusable) = IsReasonTrue a (reason.Nsec3 unusable)
@@ -66,14 +60,9 @@ IsQuestionTrue a (reason.Source fault) = IsReasonTrue a (reason.Source fault)
 IsQuestionTrue a (reason.AnswerMissing missing) = IsReasonTrue a (reason.AnswerMissing missing)
 IsQuestionTrue a (reason.DenialUnproved denial) = ¬ IsSettledBy a.basis a.name a.rtype → IsReasonTrue a (reason.DenialUnproved denial)
 IsQuestionTrue a (reason.DsUnproved told) = ¬ IsSettledBy a.basis a.name a.rtype → IsReasonTrue a (reason.DsUnproved told)
+IsQuestionTrue a other = ⊤
 
 question_kinds : (a : Asking) (r : Reason) → IsReasonTrue a r → IsQuestionTrue a r
-question_kinds a (reason.Zone fault) is = tt
-question_kinds a (reason.Entry fault) is = tt
-question_kinds a (reason.NotSelfSigned without) is = tt
-question_kinds a (reason.NotVouched keys) is = tt
-question_kinds a (reason.Unsigned unsigned) is = tt
-question_kinds a (reason.Signature fault) is = tt
 question_kinds a (reason.NoCloser closer) is = is
 question_kinds a (reason.Dname above) is = is
 question_kinds a (reason.Nsec3 unusable) is = is
@@ -81,6 +70,7 @@ question_kinds a (reason.Source fault) is = is
 question_kinds a (reason.AnswerMissing missing) is = is
 question_kinds a (reason.DenialUnproved denial) is = λ unsettled. is
 question_kinds a (reason.DsUnproved told) is = λ unsettled. is
+question_kinds a r is = tt
 
 -- each line that says it is so
 abbrev pub IsQuestionSaid : Asking → Said → Type 0
@@ -88,13 +78,8 @@ IsQuestionSaid a s = (l : Line) → IsSaidLine a s l → IsLineTrue (IsQuestionT
 
 -- what is told of zones and signatures is none of these
 trust_aside : (a : Asking) (t : Told) (l : Line) → IsTrustLine a t l → IsLineTrue (IsQuestionTrue a) l
-trust_aside a (told.Zone w n) l of = subst (IsLineTrue (IsQuestionTrue a)) (sym of.2) tt
-trust_aside a (told.Entry w n) l of = subst (IsLineTrue (IsQuestionTrue a)) (sym of.2) tt
 trust_aside a (told.NotSelfSigned n) l of = subst (IsLineTrue (IsQuestionTrue a)) (sym of.4) tt
-trust_aside a (told.NotVouched k) l of = subst (IsLineTrue (IsQuestionTrue a)) (sym of.2) tt
-trust_aside a (told.Unsigned k) l of = subst (IsLineTrue (IsQuestionTrue a)) (sym of.2) tt
-trust_aside a (told.Signature w n) l of = subst (IsLineTrue (IsQuestionTrue a)) (sym of.2) tt
-trust_aside a (told.Follows n) l of = subst (IsLineTrue (IsQuestionTrue a)) (sym of.2) tt
+trust_aside a t l of = subst (IsLineTrue (IsQuestionTrue a)) (sym of.2) tt
 
 -- ---- sources by their numbers
 
@@ -260,12 +245,6 @@ question_reasons a lines fails =
 
 both_true : (a : Asking) → ¬ IsSettledBy a.basis a.name a.rtype → (r : Reason) → IsTrustTrue a r → IsQuestionTrue a r
     → IsReasonTrue a r
-both_true a unsettled (reason.Zone fault) trust question = trust
-both_true a unsettled (reason.Entry fault) trust question = trust
-both_true a unsettled (reason.NotSelfSigned without) trust question = trust
-both_true a unsettled (reason.NotVouched keys) trust question = trust
-both_true a unsettled (reason.Unsigned unsigned) trust question = trust
-both_true a unsettled (reason.Signature fault) trust question = trust
 both_true a unsettled (reason.NoCloser closer) trust question = question
 both_true a unsettled (reason.Dname above) trust question = question
 both_true a unsettled (reason.Nsec3 unusable) trust question = question
@@ -273,6 +252,7 @@ both_true a unsettled (reason.Source fault) trust question = question
 both_true a unsettled (reason.AnswerMissing missing) trust question = question
 both_true a unsettled (reason.DenialUnproved denial) trust question = question unsettled
 both_true a unsettled (reason.DsUnproved told) trust question = question unsettled
+both_true a unsettled r trust question = trust
 
 pub reasons_true : (a : Asking) (lines : List Line) → IsCaptured a → ¬ IsSettledBy a.basis a.name a.rtype
     → AreFailures a lines

@@ -48,7 +48,7 @@ use Rattle.dnsv_true_reasons.proofs.truths.questions.PartTruth.{part_there, part
 use Rattle.dnsv_true_reasons.proofs.truths.ways.QuestionWays.{all_told}
 use Rattle.dnsv_true_reasons.proofs.truths.zones.RrsetTruth.{formed_at, unsigned_true}
 use Rattle.dnsv_true_reasons.proofs.truths.ways.SaidOf.{IsOfCase, IsOfCut, IsOfRecordsAt, IsOfWildcard, IsSaidOf}
-use Rattle.dnsv_true_reasons.proofs.truths.ways.SaidOf.IsSaidOf.{closer_unusable, denial_unproved, ds_unproved, no_closer, no_denial, no_denial_but_source, no_speaker, not_anchored, of_answer, of_case, of_cut_case, of_dname, of_goal, of_part, of_zones, parent_unusable, speaker_unusable}
+use Rattle.dnsv_true_reasons.proofs.truths.ways.SaidOf.IsSaidOf.{not_anchored, of_answer, of_case, of_cut_case, of_goal, of_part, of_zones}
 use Rattle.dnsv_true_reasons.proofs.truths.zones.SignatureTruth.{signature_true}
 use Rattle.dnsv_true_reasons.proofs.truths.ways.Told.{IsOfSignature}
 use Rattle.dnsv_true_reasons.proofs.truths.zones.TrueTold.{IsTold, IsUnsignedTold}
@@ -60,14 +60,7 @@ use Rattle.dnsv_true_reasons.proofs.truths.zones.ZoneTruth.{zones_true}
 -- what keeps a zone from being trusted, or an RRset from being signed, is so
 abbrev pub IsTrustSaid : Asking → Said → Type 0
 IsTrustSaid a (said.Trust t) = IsTold a.basis a.name t
-IsTrustSaid a (said.NoCloser n c) = ⊤
-IsTrustSaid a (said.Dname d) = ⊤
-IsTrustSaid a (said.DnameHeld c n) = ⊤
-IsTrustSaid a (said.Nsec3 w n) = ⊤
-IsTrustSaid a (said.Source w n x) = ⊤
-IsTrustSaid a (said.AnswerMissing z) = ⊤
-IsTrustSaid a (said.DenialUnproved z) = ⊤
-IsTrustSaid a (said.DsUnproved c) = ⊤
+IsTrustSaid a other = ⊤
 
 empty_map : {X Y : Type 0} (f : X → Y) (xs : List X) (ys : List Y) → map f xs ≡ ys → is_none xs ≡ true → is_none ys ≡ true
 empty_map f [] ys same none = subst (λ zs. is_none zs ≡ true) same refl
@@ -102,10 +95,8 @@ case_other a labels n (case.Encloser e) line (inr of) = below e.wildcard of
 cut_other : (a : Asking) (n : SourceNumber) (c : ℕ) (x : CutCase) (line : Said) → IsOfCut n c x line → IsTrustSaid a line
 cut_other a n c (cut.Delegation rrsets) line never = absurd never
 cut_other a n c cut.NoCut line never = absurd never
-cut_other a n c (cut.Signed s) line of = subst (IsTrustSaid a) (sym of) tt
 cut_other a n c (cut.OptOut o) line of = subst (IsTrustSaid a) (sym of.1) tt
-cut_other a n c cut.Uncovered line of = subst (IsTrustSaid a) (sym of) tt
-cut_other a n c cut.Unmatched line of = subst (IsTrustSaid a) (sym of) tt
+cut_other a n c x line of = subst (IsTrustSaid a) (sym of) tt
 
 module _ (a : Asking) (zones : List ZoneFacts) (are_zones : AreZoneFacts a.basis a.name a.rtype zones) (q : QuestionFacts)
     (are : AreQuestionFacts a q)
@@ -142,18 +133,9 @@ module _ (a : Asking) (zones : List ZoneFacts) (are_zones : AreZoneFacts a.basis
   said_true s (of_goal g goal none) = goal_true g goal none
   said_true s (of_answer g signature t goal by of) = answer_true g signature goal by t of
   said_true s (of_part zone r t part of) = part_true a zones are_zones formed zone r (part_there a q are zone r part) t of
-  said_true s (no_closer g signature c goal by is) = tt
-  said_true s (of_dname d among) = tt
-  said_true s (closer_unusable g signature c u goal by is among) = tt
-  said_true s (speaker_unusable z u speaker among) = tt
-  said_true s (parent_unusable z u parent among) = tt
   said_true s (of_case z source x none speaker among of) = case_other a q.labels (sources.number_of z.labels source) source.case s of
   said_true s (of_cut_case z c source x parent name_is among of) = cut_other a (cuts.number_of z.labels source) c.name source.case s of
-  said_true s (no_speaker none is) = tt
-  said_true s (no_denial z others none is has) = tt
-  said_true s (no_denial_but_source z speaker none some) = tt
-  said_true s (denial_unproved z none speaker has) = tt
-  said_true s (ds_unproved z c parent cut_is way) = tt
+  said_true s of = tt
 
 -- ---- the lines
 
@@ -165,13 +147,7 @@ IsTrustTrue a (reason.NotSelfSigned without) = IsReasonTrue a (reason.NotSelfSig
 IsTrustTrue a (reason.NotVouched keys) = IsReasonTrue a (reason.NotVouched keys)
 IsTrustTrue a (reason.Unsigned unsigned) = IsReasonTrue a (reason.Unsigned unsigned)
 IsTrustTrue a (reason.Signature fault) = IsReasonTrue a (reason.Signature fault)
-IsTrustTrue a (reason.NoCloser closer) = ⊤
-IsTrustTrue a (reason.Dname above) = ⊤
-IsTrustTrue a (reason.Nsec3 unusable) = ⊤
-IsTrustTrue a (reason.Source fault) = ⊤
-IsTrustTrue a (reason.AnswerMissing missing) = ⊤
-IsTrustTrue a (reason.DenialUnproved denial) = ⊤
-IsTrustTrue a (reason.DsUnproved told) = ⊤
+IsTrustTrue a other = ⊤
 
 trust_kinds : (a : Asking) (r : Reason) → IsReasonTrue a r → IsTrustTrue a r
 trust_kinds a (reason.Zone fault) is = is
@@ -180,27 +156,11 @@ trust_kinds a (reason.NotSelfSigned without) is = is
 trust_kinds a (reason.NotVouched keys) is = is
 trust_kinds a (reason.Unsigned unsigned) is = is
 trust_kinds a (reason.Signature fault) is = is
-trust_kinds a (reason.NoCloser closer) is = tt
-trust_kinds a (reason.Dname above) is = tt
-trust_kinds a (reason.Nsec3 unusable) is = tt
-trust_kinds a (reason.Source fault) is = tt
-trust_kinds a (reason.AnswerMissing missing) is = tt
-trust_kinds a (reason.DenialUnproved denial) is = tt
-trust_kinds a (reason.DsUnproved told) is = tt
+trust_kinds a r is = tt
 
 pub line_leads : (P R : Reason → Type 0) → ((r : Reason) → P r → R r) → (l : Line) → IsLineTrue P l → IsLineTrue R l
-line_leads P R leads (line.Trusted keys) is = tt
-line_leads P R leads (line.Signed rrset) is = tt
-line_leads P R leads (line.Proof proof) is = tt
-line_leads P R leads (line.Part part) is = tt
-line_leads P R leads (line.Case cut) is = tt
-line_leads P R leads (line.Unusable ds) is = tt
-line_leads P R leads (line.Hope kind) is = tt
-line_leads P R leads (line.Holds interval) is = tt
 line_leads P R leads (line.Reason reason) is = leads reason is
-line_leads P R leads (line.Follows signer) is = tt
-line_leads P R leads (line.Key key) is = tt
-line_leads P R leads (line.Rrset place) is = tt
+line_leads P R leads l is = tt
 
 trust_told : (a : Asking) (t : Told) → IsTold a.basis a.name t → (l : Line) → IsTrustLine a t l → IsLineTrue (IsTrustTrue a) l
 trust_told a t is l of = line_leads (IsReasonTrue a) (IsTrustTrue a) (trust_kinds a) l (trust_line a t is l of)
@@ -208,13 +168,9 @@ trust_told a t is l of = line_leads (IsReasonTrue a) (IsTrustTrue a) (trust_kind
 trust_said : (a : Asking) (s : Said) → IsTrustSaid a s → (l : Line) → IsSaidLine a s l → IsLineTrue (IsTrustTrue a) l
 trust_said a (said.Trust t) is l of = trust_told a t is l of
 trust_said a (said.NoCloser n c) is l of = subst (IsLineTrue (IsTrustTrue a)) (sym of.4) tt
-trust_said a (said.Dname d) is l of = subst (IsLineTrue (IsTrustTrue a)) (sym of.2) tt
-trust_said a (said.DnameHeld c n) is l of = subst (IsLineTrue (IsTrustTrue a)) (sym of.2) tt
-trust_said a (said.Nsec3 w n) is l of = subst (IsLineTrue (IsTrustTrue a)) (sym of.2) tt
 trust_said a (said.Source w n x) is l of = subst (IsLineTrue (IsTrustTrue a)) (sym of.4) tt
-trust_said a (said.AnswerMissing z) is l of = subst (IsLineTrue (IsTrustTrue a)) (sym of.2) tt
-trust_said a (said.DenialUnproved z) is l of = subst (IsLineTrue (IsTrustTrue a)) (sym of.2) tt
 trust_said a (said.DsUnproved c) is l of = subst (IsLineTrue (IsTrustTrue a)) (sym of.4) tt
+trust_said a s is l of = subst (IsLineTrue (IsTrustTrue a)) (sym of.2) tt
 
 -- lines of what is so are so
 pub lines_true : (a : Asking) (P : Said → Type 0) (R : Reason → Type 0)

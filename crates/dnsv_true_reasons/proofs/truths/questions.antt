@@ -1,7 +1,6 @@
 pub mod CutTruth
 pub mod FactsThere
 pub mod KnownMoves
-pub mod OneSources
 pub mod PartTruth
 pub mod QuestionTruth
 pub mod SourceTruth

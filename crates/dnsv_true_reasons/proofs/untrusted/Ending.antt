@@ -5,14 +5,13 @@ use Rattle.std.specs.List.{AllByRecursion}
 use Rattle.dnsv_canonical.specs.declared.number.SignatureNumber.{SignatureNumber}
 use Rattle.dnsv_lines.specs.declared.line.fault.signature.WhySignature.TheVariants as why
 use Rattle.dnsv_mending.specs.Faults.{answer_lines, consequence, lines_under, or_else, signature_lines, unnamed_lines}
-use Rattle.dnsv_mending.specs.Mend.{Mended, both, fault, following, nothing, telling, untold, with_fault}
+use Rattle.dnsv_mending.specs.Mend.{Mended, both, fault, following, nothing, telling, with_fault}
 use Rattle.dnsv_mending.specs.Reasons.{is_reason}
 use Rattle.dnsv_mending.specs.Ways.{IsAmong}
 use Rattle.dnsv_mending.specs.Zone.{is_zone_trusted}
 use Rattle.dnsv_mending.specs.declared.facts.signature.NamedKey.{NamedKey}
 use Rattle.dnsv_mending.specs.declared.facts.signature.SignatureFacts.{SignatureFacts}
 use Rattle.dnsv_mending.specs.declared.facts.zone.ZoneFacts.{ZoneFacts}
-use Rattle.dnsv_mending.specs.declared.price.Class.{Class}
 use Rattle.dnsv_mending.specs.declared.told.Told.{Told}
 use Rattle.dnsv_mending.specs.declared.told.Told.TheVariants as told
 use Rattle.dnsv_mending.proofs.DearLines.{Dear, dear_answer, dear_else, dear_signature, no_lines}
@@ -129,10 +128,6 @@ module _ (zones : List ZoneFacts) (Said : ℕ → Told → Type 0) (By : Signatu
   pub ends_fault : (t : Told) → is_reason t ≡ true → Ends zones Said By (fault t)
   ends_fault t is k (inl there) = absurd there
   ends_fault t is k (inr there) = absurd (no_follows k (t ∷ []) (is, tt) there)
-
-  pub ends_untold : (c : Class) → Ends zones Said By (untold c)
-  ends_untold c k (inl there) = absurd there
-  ends_untold c k (inr there) = absurd there
 
   pub ends_following : (m n : Mended) → Ends zones Said By m → Ends zones Said By n → Ends zones Said By (following m n)
   ends_following m n a b k there = ⊎_elim

@@ -130,10 +130,8 @@ module _ (a : Asking) (zones : List ZoneFacts) (of_zones : AreZoneFacts a.basis 
               (types_denial a (rightmost a.name n) chain (rightmost a.name c.name) IsClosed c.number first)) c.rrset (inl refl),
         )
     case_fits (case.At r) is = at_fits a.name r is.2
-    case_fits case.Apex is = tt
     case_fits (case.NonTerminal rrsets) is = facts_fit n within ((source_said a (rightmost a.name n) chain).EmptyNonTerminal a.name) rrsets.items is.4
         (λ number says. empty_denial a (rightmost a.name n) chain a.name number says)
-    case_fits case.NoEncloser is = tt
     case_fits (case.Encloser e) is =
         let its = is.1 in
         let next : Labels = rightmost a.name e.next in
@@ -145,19 +143,18 @@ module _ (a : Asking) (zones : List ZoneFacts) (of_zones : AreZoneFacts a.basis 
           facts_fit n within (IsBestCover (source_said a (rightmost a.name n) chain) next) e.covers.items its.covers (λ number says. cover_denial next number says),
           wildcard_fits next (wildcard_of (rightmost a.name e.name)) e.wildcard its.wildcard,
         )
+    case_fits c is = tt
 
     cut_fits : (HasOut : Type 0) (parent name : Labels) (c : CutCase) → IsCutCase a.basis (source_said a (rightmost a.name n) chain) HasOut parent name c
         → SaysCut (IsRrsetBy zones (SaidOf a) (By a) n) c
     cut_fits HasOut parent name (cut.Delegation rrsets) is = types_fit name IsUnsignedDelegation rrsets.items is.1
-    cut_fits HasOut parent name cut.NoCut is = tt
     cut_fits HasOut parent name (cut.Signed s) is =
         let same = is.2.number in
         let denial = types_denial a (rightmost a.name n) chain name (λ has. ⊤) s.number is.1.0.says in
         rrset_fits n within s.rrset (subst (λ (k : ℕ). AreRrsetFacts a.basis k s.rrset) (sym same) is.2)
         (subst (λ (k : ℕ). IsDenialNumber a (rightmost a.name n) k) (sym same) denial)
     cut_fits HasOut parent name (cut.OptOut o) is = (encloser_fit parent o.shown.items is.2, opted_fit name o.covers.items is.3)
-    cut_fits HasOut parent name cut.Uncovered is = tt
-    cut_fits HasOut parent name cut.Unmatched is = tt
+    cut_fits HasOut parent name c is = tt
 
   -- ---- the question
 

@@ -15,7 +15,7 @@ use Rattle.dnsv_canonical.specs.declared.number.SignatureNumber.{SignatureNumber
 use Rattle.dnsv_canonical.proofs.OrderLemmas.{each_of}
 use Rattle.dnsv_chain.specs.Anchor.{anchor_owner}
 use Rattle.dnsv_chain.specs.declared.anchor.Anchor.{Anchor}
-use Rattle.dnsv_verdict.proofs.SearchLemmas.NumberLemmas.{IsOneAt, each_number}
+use Rattle.dnsv_canonical.proofs.NumberLemmas.{each_number, IsOneAt, one_numbered}
 use Rattle.dnsv_lines.specs.declared.line.Line.{Line}
 use Rattle.dnsv_lines.specs.declared.line.Line.TheVariants as line
 use Rattle.dnsv_lines.specs.declared.line.fault.Reason.{Reason}
@@ -42,7 +42,6 @@ use Rattle.dnsv_faults.proofs.lemmas.zones.ClosedLemmas.{contains_of}
 use Rattle.dnsv_faults.proofs.lemmas.zones.InPlaceLemmas.{at_or_above, in_place}
 use Rattle.dnsv_faults.proofs.lemmas.zones.TrustLemmas.{zip_left}
 use Rattle.dnsv_faults.proofs.lemmas.zones.ZoneLemmas.{held_at}
-use Rattle.dnsv_zone_keys.proofs.lemmas.ZoneKeyLemmas.{same_number}
 use Rattle.dnsv_gaps.specs.Asking.{Asking}
 use Rattle.dnsv_reasons.specs.Lines.{IsTrustLine}
 use Rattle.dnsv_reasons.specs.Places.{IsEntry, IsShown}
@@ -68,7 +67,7 @@ module _ (a : Asking) where
   module _ (k : ℕ) (set : ReceivedRrset) (numbered : IsNumbered a.basis.rrsets k set) (n : ℕ) (its : LeadsToKeys set.rtype set.owner (rightmost a.name n)) where
     its_rrset : (rrset : ReceivedRrset) → IsNumbered a.basis.rrsets k rrset → LeadsToKeys rrset.rtype rrset.owner (rightmost a.name n)
     its_rrset rrset other =
-        subst (λ (r : ReceivedRrset). LeadsToKeys r.rtype r.owner (rightmost a.name n)) (same_number a.basis.rrsets k set rrset numbered other) its
+        subst (λ (r : ReceivedRrset). LeadsToKeys r.rtype r.owner (rightmost a.name n)) (one_numbered a.basis.rrsets k set rrset numbered other) its
 
     unsigned_of : (m : ℕ) → m ≡ k → SaidOf a n (told.Unsigned m)
     unsigned_of m same = subst (λ (j : ℕ). SaidOf a n (told.Unsigned j)) (sym same) (λ found by. (_, by.2, its_rrset by.0 by.1))
@@ -112,14 +111,14 @@ module _ (a : Asking) where
 
   anchor_of : (n : ℕ) (v : VoucherFacts) → IsAnchorAt a (rightmost a.name n) v → SaysEntry (SaidIf (SaidOf a) n) v
   anchor_of n v at = entry_of n (number.Anchor at.n) v at.number_is (λ entry is.
-      let same = same_number a.basis.anchors at.n at.anchor is.anchor at.numbered is.numbered in
+      let same = one_numbered a.basis.anchors at.n at.anchor is.anchor at.numbered is.numbered in
       let owner : SameName (anchor_owner is.anchor) (rightmost a.name n) = subst (λ (x : Anchor). SameName (anchor_owner x) (rightmost a.name n)) same at.owner in
       subst (λ (e : Entry). SameName e.zone (rightmost a.name n)) (sym is.is) owner)
 
   record_of : (n k : ℕ) (set : ReceivedRrset) (place : ℕ) (v : VoucherFacts) → IsNumbered a.basis.rrsets k set → SameName set.owner (rightmost a.name n)
       → v.number ≡ number.Ds (record { rrset = k; place = place }) → SaysEntry (SaidIf (SaidOf a) n) v
   record_of n k set place v numbered owner same = entry_of n (number.Ds (record { rrset = k; place = place })) v same (λ entry is.
-      let rrset = same_number a.basis.rrsets k set is.rrset numbered is.numbered in
+      let rrset = one_numbered a.basis.rrsets k set is.rrset numbered is.numbered in
       let here : SameName is.rrset.owner (rightmost a.name n) = subst (λ (x : ReceivedRrset). SameName x.owner (rightmost a.name n)) rrset owner in
       subst (λ (e : Entry). SameName e.zone (rightmost a.name n)) (sym is.is) here)
 
@@ -131,7 +130,7 @@ module _ (a : Asking) where
         → LeadsToKeys set.rtype set.owner zone
     leads_at zone t k set kind listed numbered =
         let here = each_of (IsOneAt a.basis.rrsets zone t) (numbers_at a.basis.rrsets zone t) k (each_number a.basis.rrsets zone t) listed in
-        subst (λ (x : ReceivedRrset). LeadsToKeys x.rtype x.owner zone) (same_number a.basis.rrsets k here.rrset set here.is_rrset numbered)
+        subst (λ (x : ReceivedRrset). LeadsToKeys x.rtype x.owner zone) (one_numbered a.basis.rrsets k here.rrset set here.is_rrset numbered)
         (record { its_type = subst (λ (x : ℕ). (x ≡ 48) ⊎ (x ≡ 43)) (sym here.same_type) kind; at = here.owner })
 
     -- what is told of a zone is said of it
@@ -166,7 +165,7 @@ module _ (a : Asking) where
         → (shown : ShownSignature) → IsShown a.basis.rrsets facts.number shown → shown.signer ≡ its.rrsig.signer
     shown_signer k rrset s facts its numbered shown is =
         let at_k = subst (λ (m : SignatureNumber). IsNumbered a.basis.rrsets m.rrset is.rrset) its.number is.numbered in
-        let same = same_number a.basis.rrsets k is.rrset rrset at_k numbered in
+        let same = one_numbered a.basis.rrsets k is.rrset rrset at_k numbered in
         let at_s : IsSignatureAt is.rrset s is.rrsig = record {
           rdata = is.rdata;
           numbered = subst (λ (m : SignatureNumber). IsNumbered is.rrset.signatures m.signature is.rdata) its.number is.is_signature;

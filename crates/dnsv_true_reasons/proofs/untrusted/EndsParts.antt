@@ -22,8 +22,7 @@ use Rattle.dnsv_mending.specs.declared.told.Told.{Told}
 use Rattle.dnsv_mending.specs.declared.told.Told.TheVariants as told
 use Rattle.dnsv_mending.proofs.AllWays.{all_flat, all_if}
 use Rattle.dnsv_mending.proofs.DearLines.{no_lines}
-use Rattle.dnsv_mending.proofs.Reasons.{signer_first}
-use Rattle.dnsv_mending.proofs.SomeWays.{both_parts}
+use Rattle.dnsv_mending.proofs.Reasons.{both_true, signer_first}
 use Rattle.dnsv_remedies.specs.Reasons.{IsOf, IsTrusted}
 use Rattle.dnsv_remedies.specs.Remedy.{Remedied, after, beside, both, following, whole}
 use Rattle.dnsv_remedies.specs.declared.said.Said.{Said}
@@ -33,7 +32,7 @@ use Rattle.dnsv_remedies.proofs.Within.{dear_own, trusted_at}
 use Rattle.dnsv_true_reasons.proofs.untrusted.Ending.{Ends, IsReason, IsUntrusted, Reasoned, SignatureEnds, ZoneEnds, reasons_of}
 use Rattle.dnsv_true_reasons.proofs.Members.{among_left, among_parts, among_right, mapped_among}
 use Rattle.dnsv_true_reasons.proofs.telling.Says.{Says, all_among, says_both, says_fault, says_nothing, says_telling, says_untold}
-use Rattle.dnsv_true_reasons.proofs.telling.SaysParts.{SaysNames, Tells, TrustOf}
+use Rattle.dnsv_true_reasons.proofs.telling.SaysParts.{Tells, TrustOf}
 
 -- ---- lines of a way
 
@@ -55,16 +54,6 @@ pub trust_other : (t : Told) → trust.is_reason t ≡ true → IsOther (said.Tr
 trust_other t is k e =
     let same : t ≡ told.Follows k = cc e in
     false≢true (sym (ap trust.is_reason same) ∙ is)
-
--- names of sources and zones tell of no signer
-other_names : (labels : ℕ) → SaysNames IsOther labels
-other_names labels = record {
-  missing = λ k e. cc e;
-  missing_of = λ n within k e. cc e;
-  unproved = λ n within k e. cc e;
-  ds_unproved = λ n c within inside k e. cc e;
-  dname_held = λ n number within k e. cc e;
-}
 
 module _ (zones : List ZoneFacts) (SaidOf : ℕ → Told → Type 0) (By : SignatureNumber → ℕ → Type 0) where
   -- a reason is one of its lines, which is said of the zone with so many labels or of one above
@@ -220,7 +209,7 @@ module _ (zones : List ZoneFacts) (SaidOf : ℕ → Told → Type 0) (By : Signa
         → AllByRecursion (Says (TrustOf (IsOwnBy z))) (if t then own_way (levels_of true zones) s ∷ [] else [])
     zone_way s false e by = tt
     zone_way s true e by =
-        let same : s.signer ≡ z = eqb-true s.signer z ((both_parts (not s.faults.signer) (nat_eq s.signer z) e).1) in (
+        let same : s.signer ≡ z = eqb-true s.signer z ((both_true (not s.faults.signer) (nat_eq s.signer z) e).1) in (
           own_case s (is_none (own_lines s)) (is_signer_trusted (slice_get (levels_of true zones) s.signer)) (by e)
               (λ off. untrusted_by (ap (λ (n : ℕ). is_signer_trusted (slice_get (levels_of true zones) n)) (sym same) ∙ off)),
           tt,

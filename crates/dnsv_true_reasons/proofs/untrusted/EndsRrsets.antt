@@ -1,18 +1,15 @@
 -- What leads to an RRset of a zone tells why a signer isn't trusted.
-use Rattle.std.proofs.Common.{if◌then◌else◌, ◌≡◌, ◌⊎◌, inl, inr, ⊎_elim, ℕ, suc, ◌+◌, ◌<◌, ◌≤◌, ◌++◌, Bool, true, false, not, List, [], ◌∷◌, Option, Some, None, length, flat_map, refl, sym, ap, subst, slice_get, arith}
+use Rattle.std.proofs.Common.{if◌then◌else◌, ◌≡◌, ◌⊎◌, inl, inr, ⊎_elim, ℕ, suc, ◌+◌, ◌<◌, ◌≤◌, ◌++◌, Bool, true, false, List, [], ◌∷◌, Option, Some, None, length, flat_map, refl, sym, ap, subst, slice_get, arith}
 use Rattle.std.proofs.lemmas.Option.{same_Some}
 use Rattle.std.specs.List.{AllByRecursion}
 use Rattle.dnsv_canonical.specs.declared.number.SignatureNumber.{SignatureNumber}
-use Rattle.dnsv_lines.specs.declared.line.fault.signature.WhySignature.TheVariants as signature_why
-use Rattle.dnsv_mending.specs.Faults.{answer_lines, fault_lines, lines_under, self_lines, signature_lines, unnamed_lines, when}
+use Rattle.dnsv_mending.specs.Faults.{lines_under, signature_lines, unnamed_lines}
 use Rattle.dnsv_mending.specs.Level.{Held, Leveled, above_from, zone_above}
 use Rattle.dnsv_mending.specs.Mend.{Mended, after, both, fault, following, is_none, nothing, telling, untold}
 use Rattle.dnsv_mending.specs.Reasons.{IsClosedRrset, IsClosedSignature, IsSignedRrset}
 use Rattle.dnsv_mending.specs.Rrset.{held_way, held_ways, rrset_ways, signature_ways, signer_ways, unheld_way, unheld_ways}
 use Rattle.dnsv_mending.specs.Ways.{IsAmong}
 use Rattle.dnsv_mending.specs.Zone.{is_zone_trusted}
-use Rattle.dnsv_mending.specs.declared.facts.keys.HeldKey.{HeldKey}
-use Rattle.dnsv_mending.specs.declared.facts.keys.SelfSignature.{SelfSignature}
 use Rattle.dnsv_mending.specs.declared.facts.signature.NamedKey.{NamedKey}
 use Rattle.dnsv_mending.specs.declared.facts.signature.RrsetFacts.{RrsetFacts}
 use Rattle.dnsv_mending.specs.declared.facts.signature.SignatureFacts.{SignatureFacts}
@@ -22,18 +19,11 @@ use Rattle.dnsv_mending.specs.declared.price.Class.TheVariants as class
 use Rattle.dnsv_mending.specs.declared.told.Told.{Told}
 use Rattle.dnsv_mending.specs.declared.told.Told.TheVariants as told
 use Rattle.dnsv_mending.proofs.AllWays.{all_after, all_append, all_flat, all_if}
-use Rattle.dnsv_mending.proofs.DearLines.{Dear, dear_answer, dear_else, dear_fault, dear_faults, dear_signature, dear_when}
+use Rattle.dnsv_mending.proofs.DearLines.{dear_signature}
 use Rattle.dnsv_mending.proofs.Reasons.{signer_first}
 use Rattle.dnsv_true_reasons.proofs.untrusted.Ending.{Ends, In, IsReason, Reasoned, SaidIf, SignatureEnds, ZoneEnds, ends_following, ends_fault, ends_nothing, ends_reasons, first_reason, in_second, reasons_of, under_ends, unnamed_ends}
 use Rattle.dnsv_true_reasons.proofs.Members.{among_left, among_parts}
 use Rattle.dnsv_true_reasons.proofs.telling.Says.{SaysRrset, SaysSignature, all_wrong}
-
-dear_self : (k : HeldKey) (s : SelfSignature) → AllByRecursion Dear (self_lines k s)
-dear_self k s =
-    dear_else (fault_lines s.number s.faults ++ when (not k.is_zone_key) (told.Signature signature_why.NotZoneKey s.number)) (answer_lines s.number s.answer)
-    (all_append Dear (fault_lines s.number s.faults) (when (not k.is_zone_key) (told.Signature signature_why.NotZoneKey s.number)) (dear_faults s.number s.faults)
-    (dear_when (not k.is_zone_key) (told.Signature signature_why.NotZoneKey s.number) (dear_fault class.NotFitting (told.Signature signature_why.NotZoneKey s.number) refl refl)))
-    (dear_answer s.number s.answer)
 
 module _ (zones : List ZoneFacts) (Said : ℕ → Told → Type 0) (By : SignatureNumber → ℕ → Type 0) where
   -- ---- what is kept

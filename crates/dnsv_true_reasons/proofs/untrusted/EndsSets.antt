@@ -1,13 +1,12 @@
 -- What leads to a DNSKEY RRset tells why a signer isn't trusted.
-use Rattle.std.proofs.Common.{if◌then◌else◌, ◌≡◌, ◌⊎◌, inl, inr, ⊎_elim, ℕ, ◌+◌, ◌++◌, ◌&&◌, Bool, true, false, not, List, [], ◌∷◌, Option, Some, None, flat_map, refl, subst, slice_get, arith}
+use Rattle.std.proofs.Common.{if◌then◌else◌, ◌≡◌, ◌⊎◌, inl, inr, ⊎_elim, ℕ, ◌+◌, ◌&&◌, Bool, true, false, List, [], ◌∷◌, Option, Some, None, flat_map, refl, subst, slice_get, arith}
 use Rattle.std.proofs.lemmas.Option.{same_Some}
 use Rattle.std.specs.List.{AllByRecursion}
 use Rattle.std.specs.Option.{option_map}
 use Rattle.dnsv_canonical.specs.declared.number.SignatureNumber.{SignatureNumber}
-use Rattle.dnsv_lines.specs.declared.line.fault.signature.WhySignature.TheVariants as signature_why
 use Rattle.dnsv_lines.specs.declared.line.fault.zone.EntryNumber.{EntryNumber}
 use Rattle.dnsv_lines.specs.declared.line.fault.zone.WhyEntry.{WhyEntry}
-use Rattle.dnsv_mending.specs.Faults.{answer_lines, fault_lines, self_lines, when}
+use Rattle.dnsv_mending.specs.Faults.{self_lines}
 use Rattle.dnsv_mending.specs.Keys.{fits, fitting_way, group_ways, is_missing_by, is_served, self_way, self_ways, signing, signings, unsigned_way, voucher_fault, voucher_ways}
 use Rattle.dnsv_mending.specs.Mend.{Mended, fault, following, is_none, joined, nothing, telling, with_fault}
 use Rattle.dnsv_mending.specs.Reasons.{IsClosed, IsSelfSigned, IsSignedRrset, is_reason}
@@ -19,26 +18,14 @@ use Rattle.dnsv_mending.specs.declared.facts.keys.SelfSignature.{SelfSignature}
 use Rattle.dnsv_mending.specs.declared.facts.keys.VoucherFacts.{VoucherFacts}
 use Rattle.dnsv_mending.specs.declared.facts.zone.DsFacts.{DsFacts}
 use Rattle.dnsv_mending.specs.declared.facts.zone.ZoneFacts.{ZoneFacts}
-use Rattle.dnsv_mending.specs.declared.price.Class.TheVariants as class
 use Rattle.dnsv_mending.specs.declared.told.Told.{Told}
 use Rattle.dnsv_mending.specs.declared.told.Told.TheVariants as told
 use Rattle.dnsv_mending.proofs.AllWays.{all_append, all_flat, all_if, all_joined, all_mapped, mapped_some, of_cheapest}
-use Rattle.dnsv_mending.proofs.DearLines.{Dear, dear_answer, dear_else, dear_fault, dear_faults, dear_when}
+use Rattle.dnsv_mending.proofs.Reasons.{dear_self}
 use Rattle.dnsv_true_reasons.proofs.untrusted.Ending.{Ends, In, IsReason, Reasoned, SaidIf, ends_following, ends_fault, ends_nothing, ends_reasons, ends_with, first_reason, in_first, in_left, in_second, reasoned_in, reasons_of}
 use Rattle.dnsv_true_reasons.proofs.untrusted.EndsRrsets.{RrsetEnds}
 use Rattle.dnsv_true_reasons.proofs.telling.Says.{SaysSignature, all_self}
 use Rattle.dnsv_true_reasons.proofs.telling.SaysZones.{SaysEntry, SaysKeys, SaysZone}
-
-dear_self : (k : HeldKey) (s : SelfSignature) → AllByRecursion Dear (self_lines k s)
-dear_self k s =
-    dear_else (fault_lines s.number s.faults ++ when (not k.is_zone_key) (told.Signature signature_why.NotZoneKey s.number)) (answer_lines s.number s.answer)
-    (all_append Dear (fault_lines s.number s.faults) (when (not k.is_zone_key) (told.Signature signature_why.NotZoneKey s.number)) (dear_faults s.number s.faults)
-    (dear_when (not k.is_zone_key) (told.Signature signature_why.NotZoneKey s.number) (dear_fault class.NotFitting (told.Signature signature_why.NotZoneKey s.number) refl refl)))
-    (dear_answer s.number s.answer)
-
-trusted_or : (b : Bool) → (b ≡ true) ⊎ (b ≡ false)
-trusted_or true = inl refl
-trusted_or false = inr refl
 
 -- each DS RRset from the place on has its chain there
 abbrev pub AreChains : (DsFacts → Mended → Type 0) → List (Option Mended) → ℕ → List DsFacts → Type 0

@@ -1,5 +1,5 @@
 -- Each signer that is told as untrusted has a reason among the lines.
-use Rattle.std.proofs.Common.{◌≡◌, ◌⊎◌, inl, inr, ⊎_elim, zero, suc, Bool, true, false, List, [], ◌∷◌, refl, sym, ap, ◌∙◌, subst, arith}
+use Rattle.std.proofs.Common.{◌≡◌, ◌⊎◌, inl, inr, ⊎_elim, suc, Bool, true, false, List, [], ◌∷◌, refl, sym, ap, ◌∙◌, subst, arith}
 use Rattle.std.proofs.lemmas.Bool.{false≢true}
 use Rattle.std.proofs.lemmas.Option.{same_Some}
 use Rattle.std.specs.Prelude.{Contains}
@@ -31,7 +31,8 @@ use Rattle.dnsv_remedies.proofs.Once.{each_told, only_told, unanchored_reasons}
 use Rattle.dnsv_faults.proofs.lemmas.zones.ClosedLemmas.{off_by}
 use Rattle.dnsv_faults.proofs.lemmas.zones.TrustLemmas.{number_of}
 use Rattle.dnsv_faults.proofs.lemmas.zones.WholeLemmas.{whole}
-use Rattle.dnsv_zone_keys.proofs.lemmas.ZoneKeyLemmas.{same_number}
+use Rattle.dnsv_faults.proofs.lemmas.zones.MatchLemmas.{first_or_later}
+use Rattle.dnsv_canonical.proofs.NumberLemmas.{one_numbered}
 use Rattle.dnsv_gaps.specs.Asking.{Asking}
 use Rattle.dnsv_reasons.specs.Failures.{AreFailures}
 use Rattle.dnsv_reasons.specs.Lines.{AreSaidLines, IsSaidLine, IsTrustLine}
@@ -45,10 +46,6 @@ use Rattle.dnsv_true_reasons.proofs.QuestionNames.{HasLine}
 use Rattle.dnsv_true_reasons.proofs.telling.Says.{all_among}
 use Rattle.dnsv_true_reasons.proofs.Told.{all_said}
 use Rattle.dnsv_true_reasons.proofs.Whole.{trusted_zone}
-
-first_or_later : {X : Type 0} (y : X) (ys : List X) (x : X) → Contains (y ∷ ys) x → (y ≡ x) ⊎ Contains ys x
-first_or_later y ys x (zero, within, at) = inl at
-first_or_later y ys x (suc i, within, at) = inr (i, omega (arith, within), at)
 
 later : {X : Type 0} (x y : X) (xs : List X) → Contains xs y → Contains (x ∷ xs) y
 later x y xs (k, within, is) = (suc k, omega (arith, within), is)
@@ -76,27 +73,19 @@ module _ (a : Asking) where
 
   -- a line that a signer isn't trusted says just that
   trust_follows : (t : Told) (u : UntrustedSigner) → IsTrustLine a t (line.Follows u) → (k : SignatureNumber) × (t ≡ told.Follows k) × IsShown a.basis.rrsets k u.signature
-  trust_follows (told.Zone why n) u by = absurd (let e = by.2 in cc e)
-  trust_follows (told.Entry why n) u by = absurd (let e = by.2 in cc e)
   trust_follows (told.NotSelfSigned n) u by = absurd (let e = by.4 in cc e)
-  trust_follows (told.NotVouched k) u by = absurd (let e = by.2 in cc e)
-  trust_follows (told.Unsigned k) u by = absurd (let e = by.2 in cc e)
-  trust_follows (told.Signature why n) u by = absurd (let e = by.2 in cc e)
   trust_follows (told.Follows k) u by =
       let e = by.2 in
       let one : u ≡ record { signature = by.0 } = cc e in
       (k, refl, subst (λ (x : ShownSignature). IsShown a.basis.rrsets k x) (sym (ap (λ (x : UntrustedSigner). x.signature) one)) by.1)
+  trust_follows t u by = absurd (let e = by.2 in cc e)
 
   follows_of : (t : Said) (u : UntrustedSigner) → IsSaidLine a t (line.Follows u) → (k : SignatureNumber) × (t ≡ said.Trust (told.Follows k)) × IsShown a.basis.rrsets k u.signature
   follows_of (said.Trust t) u by = let of = trust_follows t u by in (of.0, ap said.Trust of.1, of.2)
   follows_of (said.NoCloser n c) u by = absurd (let e = by.4 in cc e)
-  follows_of (said.Dname d) u by = absurd (let e = by.2 in cc e)
-  follows_of (said.DnameHeld n number) u by = absurd (let e = by.2 in cc e)
-  follows_of (said.Nsec3 why number) u by = absurd (let e = by.2 in cc e)
   follows_of (said.Source why n x) u by = absurd (let e = by.4 in cc e)
-  follows_of (said.AnswerMissing n) u by = absurd (let e = by.2 in cc e)
-  follows_of (said.DenialUnproved n) u by = absurd (let e = by.2 in cc e)
   follows_of (said.DsUnproved c) u by = absurd (let e = by.4 in cc e)
+  follows_of t u by = absurd (let e = by.2 in cc e)
 
   -- ---- signers
 
@@ -159,7 +148,7 @@ module _ (a : Asking) where
               let listed = number_of a.basis.rrsets set (trusted_among trusted.1) in
               let zone = trusted_zone a zones of_zones end.c end.untrusted.0 listed.0 set end.untrusted.1 listed.1 (trusted.2 ∙ signer) (trusted_rtype trusted.1)
               (λ r its_facts. its_facts.trusted.1 (subst (λ (x : ReceivedRrset). chain.IsTrusted a.basis.meaning a.basis.moment a.basis.rrsets a.basis.anchors x)
-              (same_number a.basis.rrsets listed.0 set its_facts.set listed.1 its_facts.numbered) trusted.1)) in
+              (one_numbered a.basis.rrsets listed.0 set its_facts.set listed.1 its_facts.numbered) trusted.1)) in
               let one : end.untrusted.0 ≡ zone.z = same_Some end.untrusted.0 zone.z (sym end.untrusted.1 ∙ zone.is) in
               false≢true (sym (subst (λ (z : ZoneFacts). is_zone_trusted z ≡ false) one end.untrusted.2) ∙ zone.trusted);
           reason = reason.0;

@@ -16,7 +16,7 @@ use Rattle.dnsv_denial.proofs.meaning.WholeChainProofs.{without_opt_out_no_name,
 use Rattle.dnsv_verdict.specs.Complete.{SaysNoName, SaysNoData, SaysInsecure, IsDenied, IsDeniedOrUnsigned, IsDeniedSomehow, SecuredBy, HasNoAnswer, TellsWholeChains}
 use Rattle.dnsv_verdict.specs.Verdict.{Basis, IsVerdictAt, IsSettledBy}
 use Rattle.dnsv_verdict.specs.declared.verdict.Verdict.{Verdict}
-use Rattle.dnsv_verdict.specs.declared.verdict.Verdict.TheVariants.{SecureAnswer, SecureAlias, SecureNoName, SecureNoData, Insecure, Pending, Bogus, Indeterminate}
+use Rattle.dnsv_verdict.specs.declared.verdict.Verdict.TheVariants.{SecureAnswer, SecureAlias, SecureNoName, SecureNoData, Insecure}
 
 -- RRSIG can't be asked
 no_rrsig : (name : Labels) (t : ℕ) → IsQuestion name t → t ≢ rrsig
@@ -68,9 +68,7 @@ module _ (basis : Basis) (name : Labels) (t : ℕ) where
     if_no_data = λ can. absurd (is.3 can);
     if_cut = λ cut. inr (inr tt);
   }
-  told (Pending entries) none is = unsettled (Pending entries) (λ bad. bad) (λ bad. bad) is.0
-  told Bogus none is = unsettled Bogus (λ bad. bad) (λ bad. bad) is.0
-  told Indeterminate none is = unsettled Indeterminate (λ bad. bad) (λ bad. bad) is.0
+  told verdict none is = unsettled verdict (λ bad. bad) (λ bad. bad) is.0
 
   module _ (verdict : Verdict) (zone : Zone) (tells : Told verdict) where
     denied : t ≢ rrsig → t ≢ nsec → IsJustChainWithoutOptOut (SecuredBy basis) basis.rrsets name zone → IsDenied zone name t verdict

@@ -25,14 +25,12 @@ use Rattle.dnsv_verdict.specs.declared.verdict.Verdict.TheVariants.{SecureAnswer
 -- ---- hope
 
 hoped_open : (answer : Answer) → answer ≢ Invalid → hoped_answer answer ≡ Valid
-hoped_open Valid other = refl
-hoped_open Unknown other = refl
 hoped_open Invalid other = absurd (other refl)
+hoped_open answer other = refl
 
 hoped_known : (answer : Answer) → hoped_answer answer ≡ Unknown → ⊥
-hoped_known Valid is = let clash : Valid ≡ Unknown = is in cc
 hoped_known Unknown is = let clash : Valid ≡ Unknown = is in cc
-hoped_known Invalid is = let clash : Invalid ≡ Unknown = is in cc
+hoped_known answer is = let clash : answer ≡ Unknown = is in cc
 
 still_hoped : (before after : Answer) → (before ≡ Valid → after ≡ Valid) → (before ≡ Unknown → after ≢ Invalid)
     → hoped_answer before ≡ Valid → hoped_answer after ≡ Valid
@@ -61,83 +59,52 @@ SecuredOf basis = IsSecured basis.meaning basis.moment basis.rrsets basis.anchor
 module _ (basis : Basis) (name : Labels) (t : ℕ) where
   by_answer : HasAnswer (SecuredOf basis) basis.rrsets name t → (verdict : Verdict) → IsVerdictAt basis name t verdict → case_of verdict ≤ 1
   by_answer has (SecureAnswer k s) is = omega arith
-  by_answer has (SecureAlias k s) is = absurd (is.0 has)
-  by_answer has (SecureNoName proof) is = absurd (is.0 has)
-  by_answer has (SecureNoData proof) is = absurd (is.0 has)
-  by_answer has (Insecure cut) is = absurd (is.0 has)
   by_answer has (Pending entries) is = absurd (is.0 (inl has))
   by_answer has Bogus is = absurd (is.0 (inl has))
   by_answer has Indeterminate is = absurd (is.0 (inl has))
+  by_answer has verdict is = absurd (is.0 has)
 
   by_alias : HasAlias (SecuredOf basis) basis.rrsets name t → (verdict : Verdict) → IsVerdictAt basis name t verdict → case_of verdict ≤ 2
   by_alias has (SecureAnswer k s) is = omega arith
   by_alias has (SecureAlias k s) is = omega arith
-  by_alias has (SecureNoName proof) is = absurd (is.1 has)
-  by_alias has (SecureNoData proof) is = absurd (is.1 has)
-  by_alias has (Insecure cut) is = absurd (is.1 has)
   by_alias has (Pending entries) is = absurd (is.0 (inr (inl has)))
   by_alias has Bogus is = absurd (is.0 (inr (inl has)))
   by_alias has Indeterminate is = absurd (is.0 (inr (inl has)))
+  by_alias has verdict is = absurd (is.1 has)
 
   by_no_name : CanProveNoName (SecuredOf basis) basis.rrsets name → (verdict : Verdict) → IsVerdictAt basis name t verdict → case_of verdict ≤ 3
-  by_no_name can (SecureAnswer k s) is = omega arith
-  by_no_name can (SecureAlias k s) is = omega arith
-  by_no_name can (SecureNoName proof) is = omega arith
   by_no_name can (SecureNoData proof) is = absurd (is.2 can)
   by_no_name can (Insecure cut) is = absurd (is.2 can)
   by_no_name can (Pending entries) is = absurd (is.0 (inr (inr (inl can))))
   by_no_name can Bogus is = absurd (is.0 (inr (inr (inl can))))
   by_no_name can Indeterminate is = absurd (is.0 (inr (inr (inl can))))
+  by_no_name can verdict is = omega arith
 
   by_no_data : CanProveNoData (SecuredOf basis) basis.rrsets name t → (verdict : Verdict) → IsVerdictAt basis name t verdict → case_of verdict ≤ 4
-  by_no_data can (SecureAnswer k s) is = omega arith
-  by_no_data can (SecureAlias k s) is = omega arith
-  by_no_data can (SecureNoName proof) is = omega arith
-  by_no_data can (SecureNoData proof) is = omega arith
   by_no_data can (Insecure cut) is = absurd (is.3 can)
   by_no_data can (Pending entries) is = absurd (is.0 (inr (inr (inr (inl can)))))
   by_no_data can Bogus is = absurd (is.0 (inr (inr (inr (inl can)))))
   by_no_data can Indeterminate is = absurd (is.0 (inr (inr (inr (inl can)))))
+  by_no_data can verdict is = omega arith
 
   by_cut : IsUnsigned (SecuredOf basis) basis.rrsets name t → (verdict : Verdict) → IsVerdictAt basis name t verdict → case_of verdict ≤ 5
-  by_cut unsigned (SecureAnswer k s) is = omega arith
-  by_cut unsigned (SecureAlias k s) is = omega arith
-  by_cut unsigned (SecureNoName proof) is = omega arith
-  by_cut unsigned (SecureNoData proof) is = omega arith
-  by_cut unsigned (Insecure cut) is = omega arith
   by_cut unsigned (Pending entries) is = absurd (is.0 (inr (inr (inr (inr unsigned)))))
   by_cut unsigned Bogus is = absurd (is.0 (inr (inr (inr (inr unsigned)))))
   by_cut unsigned Indeterminate is = absurd (is.0 (inr (inr (inr (inr unsigned)))))
+  by_cut unsigned verdict is = omega arith
 
   by_hope : MayBeSettledBy basis name t → (verdict : Verdict) → IsVerdictAt basis name t verdict → case_of verdict ≤ 6
-  by_hope may (SecureAnswer k s) is = omega arith
-  by_hope may (SecureAlias k s) is = omega arith
-  by_hope may (SecureNoName proof) is = omega arith
-  by_hope may (SecureNoData proof) is = omega arith
-  by_hope may (Insecure cut) is = omega arith
-  by_hope may (Pending entries) is = omega arith
   by_hope may Bogus is = absurd (is.1 may)
   by_hope may Indeterminate is = absurd (is.1 may)
+  by_hope may verdict is = omega arith
 
   by_anchor : HasAnchor basis.anchors name → (verdict : Verdict) → IsVerdictAt basis name t verdict → case_of verdict ≤ 7
-  by_anchor has (SecureAnswer k s) is = omega arith
-  by_anchor has (SecureAlias k s) is = omega arith
-  by_anchor has (SecureNoName proof) is = omega arith
-  by_anchor has (SecureNoData proof) is = omega arith
-  by_anchor has (Insecure cut) is = omega arith
-  by_anchor has (Pending entries) is = omega arith
-  by_anchor has Bogus is = omega arith
   by_anchor has Indeterminate is = absurd (is.2 has)
+  by_anchor has verdict is = omega arith
 
 by_nothing : (verdict : Verdict) → case_of verdict ≤ 8
-by_nothing (SecureAnswer k s) = omega arith
-by_nothing (SecureAlias k s) = omega arith
-by_nothing (SecureNoName proof) = omega arith
-by_nothing (SecureNoData proof) = omega arith
-by_nothing (Insecure cut) = omega arith
-by_nothing (Pending entries) = omega arith
 by_nothing Bogus = omega arith
-by_nothing Indeterminate = omega arith
+by_nothing verdict = omega arith
 
 -- the case of a verdict that needs no more answers holds, by these signatures
 abbrev pub HoldsCase : (ℕ → ℕ → Type 0) → List ReceivedRrset → Labels → ℕ → Verdict → Type 0
@@ -146,9 +113,7 @@ HoldsCase S rrsets name t (SecureAlias k s) = HasAlias S rrsets name t
 HoldsCase S rrsets name t (SecureNoName proof) = CanProveNoName S rrsets name
 HoldsCase S rrsets name t (SecureNoData proof) = CanProveNoData S rrsets name t
 HoldsCase S rrsets name t (Insecure cut) = IsUnsigned S rrsets name t
-HoldsCase S rrsets name t (Pending entries) = ⊥
-HoldsCase S rrsets name t Bogus = ⊥
-HoldsCase S rrsets name t Indeterminate = ⊥
+HoldsCase S rrsets name t verdict = ⊥
 
 -- so the verdict is of no later one
 pub no_later : (basis : Basis) (name : Labels) (t : ℕ) (first second : Verdict) → HoldsCase (SecuredOf basis) basis.rrsets name t first
@@ -158,9 +123,7 @@ no_later basis name t (SecureAlias k s) second holds is = by_alias basis name t 
 no_later basis name t (SecureNoName proof) second holds is = by_no_name basis name t holds second is
 no_later basis name t (SecureNoData proof) second holds is = by_no_data basis name t holds second is
 no_later basis name t (Insecure cut) second holds is = by_cut basis name t holds second is
-no_later basis name t (Pending entries) second holds is = absurd holds
-no_later basis name t Bogus second holds is = absurd holds
-no_later basis name t Indeterminate second holds is = absurd holds
+no_later basis name t first second holds is = absurd holds
 
 -- ---- a case that holds still holds
 

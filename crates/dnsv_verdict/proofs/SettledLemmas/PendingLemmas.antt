@@ -6,14 +6,14 @@ use Rattle.dnsv_canonical.specs.Rrsets.{ReceivedRrset}
 use Rattle.dnsv_verifier.specs.Admissible.{IsAsked}
 use Rattle.dnsv_verifier.specs.Table.{hoped_answer}
 use Rattle.dnsv_verifier.specs.declared.answer.Answer.{Answer}
-use Rattle.dnsv_verifier.specs.declared.answer.Answer.TheVariants.{Valid, Invalid, Unknown}
+use Rattle.dnsv_verifier.specs.declared.answer.Answer.TheVariants.{Valid, Unknown}
 use Rattle.dnsv_verifier.specs.declared.entry.Entry.{Entry}
 use Rattle.dnsv_chain.specs.Trusted.{IsSecured}
 use Rattle.dnsv_chain.specs.declared.anchor.Anchor.{Anchor}
 use Rattle.dnsv_verdict.proofs.SettledLemmas.{settled_to}
 use Rattle.dnsv_verdict.specs.Verdict.{AreUnknown, Basis, IsSettledVerdict, IsVerdictAt, MayBeSettledBy, IsSettledBy, with_meaning}
 use Rattle.dnsv_verdict.specs.declared.verdict.Verdict.{Verdict}
-use Rattle.dnsv_verdict.specs.declared.verdict.Verdict.TheVariants.{SecureAnswer, SecureAlias, SecureNoName, SecureNoData, Insecure, Pending, Bogus, Indeterminate}
+use Rattle.dnsv_verdict.specs.declared.verdict.Verdict.TheVariants.{Pending, Bogus, Indeterminate}
 
 -- what is known stays, and what isn't is as hoped
 as_hoped : (basis : Basis) (entries : List Entry) (later : Entry → Answer) → AreUnknown basis entries
@@ -21,10 +21,8 @@ as_hoped : (basis : Basis) (entries : List Entry) (later : Entry → Answer) →
     → ((entry : Entry) → ¬ Contains entries entry → later entry ≡ basis.meaning entry)
     → (entry : Entry) → IsAsked basis.moment basis.rrsets entry → (answer : Answer) → basis.meaning entry ≡ answer → hoped_answer answer ≡ later entry
 as_hoped basis entries later unknown valid others entry asked Unknown is = sym (valid entry ((unknown.members entry).1 (asked, is)))
-as_hoped basis entries later unknown valid others entry asked Valid is =
-    sym (others entry (λ among. let clash : Unknown ≡ Valid = sym ((unknown.members entry).0 among).1 ∙ is in cc) ∙ is)
-as_hoped basis entries later unknown valid others entry asked Invalid is =
-    sym (others entry (λ among. let clash : Unknown ≡ Invalid = sym ((unknown.members entry).0 among).1 ∙ is in cc) ∙ is)
+as_hoped basis entries later unknown valid others entry asked answer is =
+    sym (others entry (λ among. let clash : Unknown ≡ answer = sym ((unknown.members entry).0 among).1 ∙ is in cc) ∙ is)
 
 module _
     (depends : (first second : Entry → Answer) (moment : ℕ) (rrsets : List ReceivedRrset) (anchors : List Anchor)
@@ -49,11 +47,7 @@ module _
 -- a verdict on what is settled is one of the first five
 pub settled_is_conclusive : (basis : Basis) (name : Labels) (t : ℕ) (verdict : Verdict) → IsSettledBy basis name t
     → IsVerdictAt basis name t verdict → IsSettledVerdict verdict
-settled_is_conclusive basis name t (SecureAnswer k s) settles is = tt
-settled_is_conclusive basis name t (SecureAlias k s) settles is = tt
-settled_is_conclusive basis name t (SecureNoName proof) settles is = tt
-settled_is_conclusive basis name t (SecureNoData proof) settles is = tt
-settled_is_conclusive basis name t (Insecure cut) settles is = tt
 settled_is_conclusive basis name t (Pending entries) settles is = is.0 settles
 settled_is_conclusive basis name t Bogus settles is = is.0 settles
 settled_is_conclusive basis name t Indeterminate settles is = is.0 settles
+settled_is_conclusive basis name t verdict settles is = tt

@@ -1,7 +1,6 @@
 -- Where a form stands there is a first proof, and where a cut is shown there is the one that is named.
-use Rattle.std.proofs.Common.{◌≡◌, ◌+◌, ◌-◌, ◌<◌, ◌≤◌, ℕ, zero, suc, List, [], ◌∷◌, ◌++◌, map, length, refl, sym, ap, ◌∙◌, subst, inl, inr, ⊎_elim, arith}
+use Rattle.std.proofs.Common.{◌≡◌, ◌+◌, ◌-◌, ◌<◌, ◌≤◌, ℕ, List, [], ◌∷◌, ◌++◌, map, length, refl, sym, ap, ◌∙◌, subst, inl, inr, ⊎_elim, arith}
 use Rattle.std.proofs.lemmas.Bool.{cases_lt}
-use Rattle.std.specs.Prelude.{Some, slice_get}
 use Rattle.std.specs.declared.cmp.Ordering.TheVariants.{Less}
 use Rattle.dnsv_names.specs.Name.{Labels, rightmost}
 use Rattle.dnsv_names.specs.Tree.{wildcard_of}
@@ -22,6 +21,7 @@ use Rattle.dnsv_denial.specs.proving.FirstProof.{AreRecordsOf, CanBeProved, CanP
 use Rattle.dnsv_denial.specs.unsigned_cuts.Cuts.{no_ds, no_usable_ds, opt_out, IsUnsignedDelegationCut, IsUnusableDsCut, IsOptOutCut, IsUnsignedCut, HasUnsignedCut}
 use Rattle.dnsv_denial.specs.words.EvidenceWords.{Chain, GoesBefore, nsec_first, by_parameters, evidence_said, nsec3_said, number_cmp, parameters_cmp}
 use Rattle.dnsv_denial.specs.words.EvidenceWords.Chain.{ByNsec, ByNsec3}
+use Rattle.dnsv_denial.proofs.lemmas.gathering.NameHashesLemmas.{member_at}
 use Rattle.dnsv_canonical.specs.declared.number.RecordNumber.{RecordNumber}
 use Rattle.dnsv_verdict.proofs.SureLemmas.FiniteLemmas.{IsFinite, finite_each, finite_one, finite_within, some_first, some_sorted}
 use Rattle.dnsv_verdict.proofs.OneProof.{number_exact, number_total, parameters_exact, parameters_total}
@@ -117,11 +117,6 @@ module _ (said : RecordWords RecordNumber) where
       (λ found. surely (found.0, empty_wildcard found.0 none hollow types found.1)))))
 
 -- ---- the parameters of chains
-
-member_at : {X : Type 0} (xs : List X) (k : ℕ) (x : X) → slice_get xs k ≡ Some x → IsMember x xs
-member_at [] k x at = cc
-member_at (y ∷ ys) zero x at = let is : x ≡ y = cc in inl is
-member_at (y ∷ ys) (suc k) x at = inr (member_at ys k x at)
 
 -- the record has these parameters
 abbrev HasParameters : List ℕ → Parameters → Type 0

@@ -13,7 +13,7 @@ use Rattle.dnsv_verifier.specs.declared.entry.Entry.{Entry}
 use Rattle.dnsv_chain.specs.declared.anchor.Anchor.{Anchor}
 use Rattle.dnsv_zones.specs.chains.HashedNames.{hashes_for}
 use Rattle.dnsv_verdict.proofs.HashedLemmas.{hashes_more}
-use Rattle.dnsv_verdict.proofs.WayLemmas.{empty_way, names_behind, way_more}
+use Rattle.dnsv_verdict.proofs.WayLemmas.{names_behind, way_more}
 use Rattle.dnsv_verdict.specs.Hashed.{hashes_on}
 use Rattle.dnsv_verdict.specs.Verdict.{Basis, IsVerdictAt, basis_of}
 use Rattle.dnsv_verdict.specs.Way.{IsAlias, IsAmong, IsStoppedAt, IsTarget, IsVerdictOf, IsWay, Stops, most_links, names_on}
@@ -46,17 +46,6 @@ pub record IsFollowed
   pub way : OfTable rrsets anchors table (λ basis. IsWay basis t name links last)
   pub names : AllByRecursion IsName (names_on links last)
   pub counts : AreCounted rrsets (map (λ link. link.name) links) before after
-
--- ---- the start
-
-pub followed_none : (rrsets : List ReceivedRrset) (anchors : List Anchor) (table : TableContents) (t : ℕ) (name last : Labels) (count : ℕ)
-    → last ≡ name → IsName name → counted count 0 ≡ count → IsFollowed rrsets anchors table t name count count [] last
-followed_none rrsets anchors table t name last count same is counts = record {
-  way = λ meaning moment of. subst (λ n. IsWay (basis_of rrsets anchors moment meaning) t name [] n) (sym same)
-      (empty_way (basis_of rrsets anchors moment meaning) t name);
-  names = (subst (λ n. IsName n) (sym same) is, tt);
-  counts = λ all are. sym counts;
-}
 
 -- ---- a name more
 

@@ -23,26 +23,17 @@ module _ (rrsets : List ReceivedRrset) (t : ℕ) (names : List Labels) (k : ℕ)
 
   one_stop : (links : ℕ) (a b : VerdictError) → Stops rrsets t names links k a → Stops rrsets t names links k b → a ≡ b
   one_stop links AliasTargets AliasTargets p q = refl
-  one_stop links AliasTargets AliasLoop p q = absurd (p q.0 q.1)
-  one_stop links AliasTargets TooManyLinks p q = absurd (p q.0 q.1)
-  one_stop links AliasTargets BadQuestion p q = absurd (p q.0 q.1)
-  one_stop links AliasTargets OutOfMemory p q = absurd q
-  one_stop links AliasLoop AliasTargets p q = absurd (q p.0 p.1)
   one_stop links AliasLoop AliasLoop p q = refl
-  one_stop links AliasLoop TooManyLinks p q = not_both_targets p.0 q.0 p.1 p.2 q.1 q.2
-  one_stop links AliasLoop BadQuestion p q = not_both_targets p.0 q.0 p.1 p.2 q.1 q.2
-  one_stop links AliasLoop OutOfMemory p q = absurd q
-  one_stop links TooManyLinks AliasTargets p q = absurd (q p.0 p.1)
-  one_stop links TooManyLinks AliasLoop p q = not_both_targets q.0 p.0 q.1 q.2 p.1 p.2
   one_stop links TooManyLinks TooManyLinks p q = refl
   one_stop links TooManyLinks BadQuestion p q = absurd (omega (arith, p.3, q.3))
-  one_stop links TooManyLinks OutOfMemory p q = absurd q
-  one_stop links BadQuestion AliasTargets p q = absurd (q p.0 p.1)
-  one_stop links BadQuestion AliasLoop p q = not_both_targets q.0 p.0 q.1 q.2 p.1 p.2
   one_stop links BadQuestion TooManyLinks p q = absurd (omega (arith, p.3, q.3))
   one_stop links BadQuestion BadQuestion p q = refl
-  one_stop links BadQuestion OutOfMemory p q = absurd q
   one_stop links OutOfMemory b p q = absurd p
+  one_stop links a AliasTargets p q = absurd (q p.0 p.1)
+  one_stop links a OutOfMemory p q = absurd q
+  one_stop links AliasTargets b p q = absurd (p q.0 q.1)
+  one_stop links a AliasLoop p q = not_both_targets q.0 p.0 q.1 q.2 p.1 p.2
+  one_stop links AliasLoop b p q = not_both_targets p.0 q.0 p.1 p.2 q.1 q.2
 
 -- ---- what goes on isn't stopped
 

@@ -10,9 +10,10 @@ use crate::entry::parts::SignaturePart;
 use crate::key::KeyRecord;
 use crate::key::keys::Keys;
 use crate::key::numbered::Numbered;
+use crate::signed_data::SignedData;
 use bumpalo::Bump;
 use dnsv_canonical::{Rrset, SignatureNumber, SigningRoom, make_signed_data};
-use dnsv_records::{Octets, Rrsig};
+use dnsv_records::Rrsig;
 use dnsv_timeline::Range;
 use std::alloc::{AllocError, Global};
 use std::marker::Model;
@@ -55,6 +56,43 @@ pub(crate) struct MadeSignatures<'a> {
     pub(crate) numbers: Vec<SignatureNumber>,
 }
 
+/// How many octets of an RRSIG's RDATA stand before its signer (RFC 4034 3.1).
+const FIXED_LENGTH: usize = 18;
+
+/// Room in which signed data is made, and the records that were kept last: signatures of an RRset sign the same ones
+/// nearly always.
+#[derive(Drop)]
+struct Making<'a> {
+    room: SigningRoom,
+    records: &'a [u8],
+}
+
+impl<'a> Making<'a> {
+    /// The octets that stand in the room, kept in the arena. The records behind so many octets are kept but once where
+    /// they are those that were kept last.
+    fn kept(&mut self, bump: &'a Bump, front: usize) -> Result<SignedData<'a>, AllocError>
+        ensures { IfOk result (λ made. made ≡ self.old.room.octets.items) }
+    {
+        let octets = self.room.octets.as_slice();
+        if front < 16 || front > octets.len() {
+            return Ok(SignedData::of(bump.try_alloc_slice_copy(octets)?));
+        }
+        let (front, records) = octets.split_at(front);
+        if !are_same(self.records, records) {
+            self.records = bump.try_alloc_slice_copy(records)?;
+        }
+        let front = bump.try_alloc_slice_copy(front)?;
+        Ok(SignedData::in_two(front, self.records))
+    }
+}
+
+/// Whether the octets are the same.
+fn are_same(octets: &[u8], others: &[u8]) -> bool
+    ensures { IsTrue result ↔ (octets.now ≡ others.now) }
+{
+    octets == others
+}
+
 /// Which signatures are looked for: those that can be verified at some moment of the range, and that one of the keys may
 /// have made. What they give to their entries is kept in the arena.
 #[derive(Drop)]
@@ -77,13 +115,16 @@ pub(crate) fn made_signatures<'a>(
     ensures numbers { IfOk result (λ made. AreMadeAt rrsets.now made.numbers.items made.signatures.items) }
 {
     let sought = Sought { bump, range, keys };
-    let mut room = SigningRoom::new(alloc);
+    let mut making = Making {
+        room: SigningRoom::new(alloc),
+        records: &[],
+    };
     let mut made = MadeSignatures {
         signatures: Vec::new(alloc),
         numbers: Vec::new(alloc),
     };
     for (place, rrset) in rrsets.iter().enumerate() {
-        add_rrset(alloc, &mut room, &sought, place + 1, rrset, &mut made)?;
+        add_rrset(alloc, &mut making, &sought, place + 1, rrset, &mut made)?;
     }
     Ok(made)
 }
@@ -91,7 +132,7 @@ pub(crate) fn made_signatures<'a>(
 /// Adds such signatures of the RRset with the number.
 fn add_rrset<'a>(
     alloc: Global,
-    room: &mut SigningRoom,
+    making: &mut Making<'a>,
     sought: &Sought<'_, 'a>,
     number: usize,
     rrset: &'a Rrset<'a>,
@@ -107,7 +148,7 @@ fn add_rrset<'a>(
             rrset: number,
             signature: place + 1,
         };
-        add_signature(alloc, room, sought, number, rrset, rrsig, made)?;
+        add_signature(alloc, making, sought, number, rrset, rrsig, made)?;
     }
     Ok(())
 }
@@ -115,7 +156,7 @@ fn add_rrset<'a>(
 /// Adds the signature with the number if it is such.
 fn add_signature<'a>(
     alloc: Global,
-    room: &mut SigningRoom,
+    making: &mut Making<'a>,
     sought: &Sought<'_, 'a>,
     number: SignatureNumber,
     rrset: &Rrset<'_>,
@@ -134,7 +175,7 @@ fn add_signature<'a>(
     if !is_made_by_some(sought.keys, rrsig) {
         return Ok(());
     }
-    let Some(part) = part_of(alloc, sought.bump, room, rrset, rrsig)? else {
+    let Some(part) = part_of(alloc, sought.bump, making, rrset, rrsig)? else {
         return Ok(());
     };
     made.numbers.push(number)?;
@@ -161,18 +202,19 @@ fn is_made_by_one(keys: &[KeyRecord<'_>], rrsig: &Rrsig<'_>) -> bool
 fn part_of<'a>(
     alloc: Global,
     bump: &'a Bump,
-    room: &mut SigningRoom,
+    making: &mut Making<'a>,
     rrset: &Rrset<'_>,
     rrsig: &'a Rrsig<'a>,
 ) -> Result<Option<SignaturePart<'a>>, AllocError>
     ensures { IfOk result (λ found. MatchOption found (signed_label_count rrset.now.owner < rrsig.now.labels)
         (IsPartOf rrset.now rrsig.now)) }
 {
-    if !make_signed_data(alloc, room, rrset, rrsig)? {
+    if !make_signed_data(alloc, &mut making.room, rrset, rrsig)? {
         return Ok(None);
     }
+    let front = FIXED_LENGTH + rrsig.signer.wire().len();
     Ok(Some(SignaturePart {
-        signed_data: Octets::of(bump.try_alloc_slice_copy(&room.octets)?),
+        signed_data: making.kept(bump, front)?,
         signature: rrsig.signature.copied(),
     }))
 }

@@ -7,6 +7,7 @@ ghost use Rattle.dnsv_verifier.specs.declared.entry.parts.KeyPart.{KeyPart};
 ghost use Rattle.dnsv_verifier.specs.declared.entry.parts.SignaturePart.{SignaturePart};
 
 use crate::entry::Entry;
+use crate::signed_data::SignedData;
 use bumpalo::Bump;
 use bumpalo::collections::into_bump_slice;
 use dnsv_names::compare_octets;
@@ -42,7 +43,7 @@ impl KeyPart<'_> {
 /// signature.
 #[derive(Debug, PartialEq, Eq, PartialOrd, Ord, Drop)]
 pub(crate) struct SignaturePart<'b> {
-    pub(crate) signed_data: Octets<'b>,
+    pub(crate) signed_data: SignedData<'b>,
     pub(crate) signature: Octets<'b>,
 }
 
@@ -58,12 +59,14 @@ impl<'b> SignaturePart<'b> {
     }
 
     /// How the part stands to one of this signed data and signature.
-    fn compared(&self, signed_data: &[u8], signature: &[u8]) -> Ordering
+    fn compared(&self, signed_data: &SignedData<'_>, signature: &[u8]) -> Ordering
         ensures { result ≡ signature_cmp self.now
             (record { signed_data = signed_data.now; signature = signature.now }) }
     {
-        let (own_data, own) = (self.signed_data.as_slice(), self.signature.as_slice());
-        compare_octets(own_data, signed_data).then_with(|| compare_octets(own, signature))
+        let own = self.signature.as_slice();
+        self.signed_data
+            .stand_to(signed_data)
+            .then_with(|| compare_octets(own, signature))
     }
 }
 
@@ -170,15 +173,15 @@ impl<'b> Parts<'b> {
         ensures value { signature_of self.now result ≡ part.now }
         ensures within { result < length self.now.signatures }
     {
-        let (signed_data, signature) = (part.signed_data.as_slice(), part.signature.as_slice());
-        let Some(number) = self.find_signature(signed_data, signature) else {
+        let signature = part.signature.as_slice();
+        let Some(number) = self.find_signature(&part.signed_data, signature) else {
             unreachable!();
         };
         number
     }
 
     /// The number of what a signature gives, where it is one of the parts.
-    fn find_signature(&self, signed_data: &[u8], signature: &[u8]) -> Option<u32>
+    fn find_signature(&self, signed_data: &SignedData<'_>, signature: &[u8]) -> Option<u32>
         ensures { MatchOption result
             (¬ Contains self.now.signatures
             (record { signed_data = signed_data.now; signature = signature.now }))
@@ -203,8 +206,8 @@ impl<'b> Parts<'b> {
         let Some(key) = self.find_key(entry.algorithm, entry.key.as_slice()) else {
             return None;
         };
-        let (signed_data, signature) = (entry.signed_data.as_slice(), entry.signature.as_slice());
-        let Some(signature) = self.find_signature(signed_data, signature) else {
+        let signature = entry.signature.as_slice();
+        let Some(signature) = self.find_signature(&entry.signed_data, signature) else {
             return None;
         };
         Some(EntryNumbers { key, signature })
@@ -219,7 +222,7 @@ impl<'b> Parts<'b> {
         Entry {
             algorithm,
             key: Octets::of(key),
-            signed_data: Octets::of(signed_data),
+            signed_data,
             signature: Octets::of(signature),
         }
     }
@@ -235,13 +238,13 @@ impl<'b> Parts<'b> {
     }
 
     /// The signed data and the signature at the place.
-    fn signature_at(&self, place: usize) -> (&[u8], &[u8])
-        ensures { (result.0.now ≡ (signature_of self.now place).signed_data)
+    fn signature_at(&self, place: usize) -> (SignedData<'_>, &[u8])
+        ensures { (result.0 ≡ (signature_of self.now place).signed_data)
             × (result.1.now ≡ (signature_of self.now place).signature) }
     {
         match self.signatures.get(place) {
-            Some(part) => (part.signed_data.as_slice(), part.signature.as_slice()),
-            None => (&[], &[]),
+            Some(part) => (part.signed_data.copied(), part.signature.as_slice()),
+            None => (SignedData::of(&[]), &[]),
         }
     }
 }

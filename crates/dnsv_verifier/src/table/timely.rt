@@ -50,7 +50,7 @@ pub(crate) fn timely_entries(
 fn is_timely(moment: u64, entry: &Entry<'_>) -> bool
     ensures { result ≡ is_timely moment entry.now }
 {
-    let octets = entry.signed_data.as_slice();
+    let octets = entry.signed_data.front();
     if octets.len() < 16 {
         return false;
     }

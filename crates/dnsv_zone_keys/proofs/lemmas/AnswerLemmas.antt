@@ -45,14 +45,8 @@ module _ (meaning : Entry → Answer) (moment : ℕ) (rrset : ReceivedRrset) (rr
     unexpanded = admissible.unexpanded;
   }
 
-  made_by : (answer : Answer) → IsAnswered meaning moment rrset rrsig key answer → MayHaveMade key rrsig
-  made_by answer answered = record { zone_key = answered.admissible.zone_key; named = answered.admissible.named }
-
   pub not_verifiable : ¬ IsVerifiable moment rrset rrsig → IsKeyAnswer meaning moment rrset rrsig key said.Unanswered
   not_verifiable never = (λ good. never (can_be Valid good), λ bad. never (can_be Invalid bad))
-
-  pub not_made : ¬ MayHaveMade key rrsig → IsKeyAnswer meaning moment rrset rrsig key said.Unanswered
-  not_made never = (λ good. never (made_by Valid good), λ bad. never (made_by Invalid bad))
 
   module _ (octets : List ℕ) (verifiable : IsVerifiable moment rrset rrsig)
       (signed : IsSignedData rrset.owner rrset.rtype rrset.rdata rrsig (Some octets)) (made : MayHaveMade key rrsig)
@@ -89,6 +83,5 @@ module _ (meaning : Entry → Answer) (moment : ℕ) (rrset : ReceivedRrset) (rr
 
     pub says_so : (answer : Answer) → meaning (entry_over rrsig octets key) ≡ answer
         → IsKeyAnswer meaning moment rrset rrsig key (key_answer answer)
-    says_so Valid says = it_is Valid says
-    says_so Invalid says = it_is Invalid says
     says_so Unknown says = unknown_says says
+    says_so answer says = it_is answer says

@@ -1,5 +1,5 @@
 -- The keys of all zones, gathered one zone after another, and those that a signature names.
-use Rattle.std.proofs.Common.{◌≡◌, ◌↔◌, ℕ, zero, suc, ◌+◌, ◌-◌, ◌<◌, ◌≤◌, ◌==◌, Bool, true, false, not, ⊎_elim, List, [], ◌∷◌, ◌++◌, Some, length, map, get_or, refl, sym, ap, ◌∙◌, subst, arith, append-nil}
+use Rattle.std.proofs.Common.{◌≡◌, ◌↔◌, ℕ, zero, suc, ◌+◌, ◌-◌, ◌<◌, ◌≤◌, ◌==◌, Bool, true, false, not, ⊎_elim, List, [], ◌∷◌, ◌++◌, Some, length, map, get_or, refl, sym, ap, ◌∙◌, subst, arith}
 use Rattle.std.proofs.lemmas.Bool.{cases_lt, false≢true}
 use Rattle.std.proofs.lemmas.Cmp.{nat_cmp_total, tied_itself}
 use Rattle.std.proofs.lemmas.List.Elements.{Contains-append_left, Contains-append_right}
@@ -21,7 +21,7 @@ use Rattle.dnsv_records.specs.Dnskey.KeyTag.{key_tag_of}
 use Rattle.dnsv_records.specs.declared.dnskey.Dnskey.{Dnskey}
 use Rattle.dnsv_records.specs.declared.rrsig.Rrsig.{Rrsig}
 use Rattle.dnsv_records.proofs.OneRecord.{one_dnskey}
-use Rattle.dnsv_zone_keys.proofs.lemmas.NumberLemmas.{IsOneAt, each_number}
+use Rattle.dnsv_canonical.proofs.NumberLemmas.{each_number, IsOneAt, one_numbered}
 use Rattle.dnsv_verifier.specs.Admissible.{DnskeyRecord}
 use Rattle.dnsv_verifier.specs.Asking.{key_name_cmp, name_of_key, named_by}
 use Rattle.dnsv_verifier.specs.EntryLaws.{octet_Equal, then_Equal}
@@ -29,7 +29,7 @@ use Rattle.dnsv_zone_keys.specs.Keys.Index.{AreIndexed, HasPlaced, HaveAllOf, Is
 use Rattle.dnsv_zone_keys.specs.Keys.{IsKeyPlaced, IsNamed, IsZoneKey, NamesKey, NamesZoneKey}
 use Rattle.dnsv_zone_keys.specs.Keys.KeySearch.{AreNamedOf, HasZoneKey}
 use Rattle.dnsv_zone_keys.specs.Keys.ZoneSearch.{AddsZone, AreKeysOf, IsFirstOfKeys}
-use Rattle.dnsv_zone_keys.proofs.lemmas.ZoneKeyLemmas.{keys_all, keys_placed, no_key_placed, placed_same, same_number, same_numbers}
+use Rattle.dnsv_zone_keys.proofs.lemmas.ZoneKeyLemmas.{keys_all, keys_placed, no_key_placed, placed_same, same_numbers}
 
 each_append : {X : Type 0} (P : X → Type 0) (xs ys : List X) → AllByRecursion P xs → AllByRecursion P ys → AllByRecursion P (xs ++ ys)
 each_append P [] ys first second = second
@@ -62,12 +62,6 @@ pub record AreIndexedTo (rrsets : List ReceivedRrset) (count : ℕ) (all : List 
   pub every : (number : ℕ) (rrset : ReceivedRrset) → number ≤ count → IsNumbered rrsets number rrset
       → IsFirstOfKeys rrsets number rrset → HaveAllOf rrsets all rrset.owner
 
-pub none_indexed : (rrsets : List ReceivedRrset) → AreIndexedTo rrsets 0 []
-none_indexed rrsets = record {
-  each = tt;
-  every = λ number rrset within numbered. absurd (let from = numbered.0 in omega (arith, from, within));
-}
-
 pub more_indexed : (rrsets : List ReceivedRrset) (count : ℕ) (rrset : ReceivedRrset) (old new : List Placed)
     → IsNumbered rrsets (count + 1) rrset → AreIndexedTo rrsets count old → AddsZone rrsets (count + 1) rrset old new
     → AreIndexedTo rrsets (count + 1) new
@@ -79,7 +73,7 @@ more_indexed rrsets count rrset old new its so_far adds =
           in_front other.owner place key old adds.added (so_far.every number other (omega (arith, earlier)) numbered first place key is))
           (λ (later : count + 1 ≤ number).
           let number_is : number ≡ count + 1 = omega (arith, later, within) in
-          let same : other ≡ rrset = same_number rrsets (count + 1) other rrset (subst (λ (n : ℕ). IsNumbered rrsets n other) number_is numbered) its in
+          let same : other ≡ rrset = one_numbered rrsets (count + 1) other rrset (subst (λ (n : ℕ). IsNumbered rrsets n other) number_is numbered) its in
           let first_here : IsFirstOfKeys rrsets (count + 1) rrset =
           subst (λ (r : ReceivedRrset). IsFirstOfKeys rrsets (count + 1) r) same (subst (λ (n : ℕ). IsFirstOfKeys rrsets n other) number_is first) in
           let all : HaveAllOf rrsets (old ++ adds.added) rrset.owner =
@@ -163,15 +157,6 @@ adds_keys rrsets number rrset old own new are joined = record {
   are = joined;
   each = keys_placed rrsets rrset.owner own are;
   every = λ first. keys_all rrsets rrset.owner own are;
-}
-
-pub adds_nothing : (rrsets : List ReceivedRrset) (number : ℕ) (rrset : ReceivedRrset) (old : List Placed)
-    → (IsFirstOfKeys rrsets number rrset → ⊥) → AddsZone rrsets number rrset old old
-adds_nothing rrsets number rrset old never = record {
-  added = [];
-  are = sym (append-nil old);
-  each = tt;
-  every = λ first. absurd (never first);
 }
 
 -- ---- the keys that a signature names

@@ -12,14 +12,8 @@ use Rattle.std.specs.Ordering.{nat_cmp}
 use Rattle.std.specs.Str.{bytes_eq}
 use Rattle.std.specs.declared.cmp.Ordering.{Ordering}
 use Rattle.dnsv_canonical.specs.Rrsets.{first_appearances}
-use Rattle.dnsv_canonical.proofs.GroupLemmas.{first_appearances-push}
+use Rattle.dnsv_canonical.proofs.GroupLemmas.{first_appearances-push, placed-push}
 use Rattle.dnsv_zone_keys.specs.Keys.Index.{Placed}
-
--- an element at the end is behind so many places
-pub placed-push : {X : Type 0} (k : ℕ) (xs : List X) (x : X) → enumerate_from k (xs ++ x ∷ []) ≡ enumerate_from k xs ++ (k + length xs, x) ∷ []
-placed-push {X} k [] x = ap {B = List (ℕ × X)} (λ n. (n, x) ∷ []) (omega arith)
-placed-push {X} k (y ∷ ys) x =
-    ap (λ placed. (k, y) ∷ placed) (placed-push (k + 1) ys x ∙ ap {B = List (ℕ × X)} (λ n. enumerate_from (k + 1) ys ++ (n, x) ∷ []) (omega arith))
 
 abbrev pub octets_cmp : Bor (List ℕ) → Bor (List ℕ) → Ordering
 octets_cmp a b = slice_cmp nat_cmp a.now b.now

@@ -1,5 +1,5 @@
 -- Which keys of a zone an anchor or a DS record matches, or why none.
-use Rattle.std.proofs.Common.{◌≡◌, ◌≤◌, ◌↔◌, ◌==◌, ℕ, Bool, true, false, inl, inr, List, [], ◌∷◌, ◌++◌, Option, Some, None, length, get_or, refl, sym, ap, ◌∙◌, subst, arith, IsTrue}
+use Rattle.std.proofs.Common.{◌≡◌, ◌↔◌, ◌==◌, ℕ, Bool, true, false, inl, inr, List, [], ◌∷◌, ◌++◌, Option, Some, None, length, refl, sym, ap, ◌∙◌, subst, arith, IsTrue}
 use Rattle.std.proofs.lemmas.List.Kept.{Contains-dedup_nat, Contains-from_dedup}
 use Rattle.std.proofs.lemmas.List.Sorted.{Contains-permutation, IsPermutation-sym}
 use Rattle.std.proofs.lemmas.Map.Keys.{IsStrictlyIncreasing-dedup}
@@ -10,7 +10,6 @@ use Rattle.std.specs.Ordering.{nat_cmp}
 use Rattle.std.specs.Prelude.{Contains, IsPermutation, IsSorted}
 use lib.Dec.{eqb}
 use Rattle.dnsv_names.specs.Name.{Labels, SameName, lower_case, wire}
-use Rattle.dnsv_names.specs.Octets.{number_at}
 use Rattle.dnsv_records.specs.Dnskey.{IsDnskey}
 use Rattle.dnsv_records.specs.Dnskey.KeyTag.{key_tag_of}
 use Rattle.dnsv_records.specs.declared.dnskey.Dnskey.{Dnskey}
@@ -36,14 +35,6 @@ use Rattle.dnsv_zone_keys.specs.Vouchers.Wanted.{by_digest, whole_key}
 use Rattle.dnsv_zone_keys.specs.Vouchers.VoucherSearch.{AreKeysOfZone, ArePlacesOf, HasAmong, IsKeptDigest, IsKeyWord, IsPlaceOf, IsUnusableWord, tag_of}
 use Rattle.dnsv_zone_keys.specs.Keys.ZoneSearch.{AreKeysOf, IsOf}
 use Rattle.dnsv_zone_keys.proofs.lemmas.ZoneKeyLemmas.{keys_all, keys_placed, placed_same}
-
--- the algorithm in an RDATA
-pub algorithm_there : (rdata : List ℕ) → 4 ≤ length rdata → get_or rdata 3 0 ≡ number_at rdata 3 1
-algorithm_there [] long = absurd (omega (arith, long))
-algorithm_there (a ∷ []) long = absurd (omega (arith, long))
-algorithm_there (a ∷ b ∷ []) long = absurd (omega (arith, long))
-algorithm_there (a ∷ b ∷ c ∷ []) long = absurd (omega (arith, long))
-algorithm_there (a ∷ b ∷ c ∷ d ∷ rest) long = omega arith
 
 -- ---- digests that are kept
 
@@ -224,9 +215,7 @@ module _ (rrsets : List ReceivedRrset) (zone : Labels) (wanted : Wanted) where
   first_unusable why.Algorithm is = inl (is, refl)
   first_unusable why.DigestType is = inr (λ never. never is.0, inl (is.1, refl))
   first_unusable why.DigestIgnored is = inr (λ never. never is.0, inr (is.1, inl (is.2, refl)))
-  first_unusable why.KeyMissing is = absurd is
-  first_unusable why.KeyAlgorithm is = absurd is
-  first_unusable why.DigestDiffers is = absurd is
+  first_unusable word is = absurd is
 
   no_matches : (word : WhyEntry) → AreMatches rrsets zone wanted (Some word) []
   no_matches word = record {

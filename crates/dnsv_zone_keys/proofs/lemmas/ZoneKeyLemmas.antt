@@ -2,7 +2,6 @@
 use Rattle.std.proofs.Common.{◌≡◌, ℕ, zero, suc, ◌+◌, ◌<◌, ◌&&◌, ◌==◌, List, [], ◌∷◌, ◌++◌, Some, None, length, map, take, get_or, refl, sym, ap, ◌∙◌, subst, arith, append_assoc, append-nil}
 use Rattle.std.proofs.lemmas.List.{take_more}
 use Rattle.std.proofs.lemmas.List.Elements.{Contains-get_or}
-use Rattle.std.proofs.lemmas.Option.{get_or_from_slice_get}
 use Rattle.std.specs.Prelude.{Contains, filter, nat_eq, slice_get}
 use Rattle.std.specs.List.{AllByRecursion, enumerate_from}
 use Rattle.std.specs.Cmp.Lexicographic.{pointwise}
@@ -10,10 +9,10 @@ use Rattle.std.specs.Str.{bytes_eq}
 use Rattle.dnsv_names.specs.Name.{Labels, SameName, lower_case}
 use Rattle.dnsv_canonical.specs.Canonical.{IsCanonical}
 use Rattle.dnsv_canonical.specs.Index.{numbers_at}
-use Rattle.dnsv_canonical.specs.Rrsets.{IsNumbered, ReceivedRrset, first_appearances}
+use Rattle.dnsv_canonical.specs.Rrsets.{ReceivedRrset, first_appearances}
 use Rattle.dnsv_canonical.proofs.CanonicalLemmas.{canonical_unique}
 use Rattle.dnsv_canonical.proofs.OrderLemmas.{each_kept, each_of}
-use Rattle.dnsv_zone_keys.proofs.lemmas.NumberLemmas.{IsOneAt, each_number}
+use Rattle.dnsv_canonical.proofs.NumberLemmas.{each_number, IsOneAt, one_numbered}
 use Rattle.dnsv_canonical.specs.declared.canonical_order.ReadRecord.{ReadRecord}
 use Rattle.dnsv_records.specs.declared.dnskey.Dnskey.{Dnskey}
 use Rattle.dnsv_verifier.specs.Admissible.{DnskeyRecord}
@@ -21,11 +20,6 @@ use Rattle.dnsv_zone_keys.specs.Keys.Index.{HasPlaced, HaveAllOf, IsPlaced, Plac
 use Rattle.dnsv_zone_keys.specs.Keys.{AreRecordsOf, AreStanding, AreZoneKeys, IsKeyPlaced}
 use Rattle.dnsv_zone_keys.specs.Keys.ZoneSearch.{AddsRecords, AreKeysOf, IsDnskeyNumber, IsOf}
 use Rattle.dnsv_zone_keys.proofs.lemmas.OnceLemmas.{pair}
-
--- a number is that of one member
-pub same_number : {X : Type 0} (xs : List X) (number : ℕ) (x y : X) → IsNumbered xs number x → IsNumbered xs number y → x ≡ y
-same_number xs number x y first second =
-    sym (get_or_from_slice_get xs _ x x first.1) ∙ get_or_from_slice_get xs _ y x second.1
 
 -- ---- what stands at a zone
 
@@ -44,7 +38,7 @@ stand_more rrsets (m ∷ numbers) standing n records are its = (
 
 one_records : (rrsets : List ReceivedRrset) (n : ℕ) (a b : List (List ℕ)) → AreRecordsOf rrsets n a → AreRecordsOf rrsets n b → a ≡ b
 one_records rrsets n a b first second =
-    let same = same_number rrsets n first.rrset second.rrset first.numbered second.numbered in
+    let same = one_numbered rrsets n first.rrset second.rrset first.numbered second.numbered in
     canonical_unique second.rrset.rdata a b (subst (λ (r : ReceivedRrset). IsCanonical r.rdata a) same first.canonical) second.canonical
 
 pub one_standing : (rrsets : List ReceivedRrset) (numbers : List ℕ) (a b : List (List ℕ)) → AreStanding rrsets numbers a → AreStanding rrsets numbers b → a ≡ b

@@ -55,9 +55,6 @@ module _ (name : Labels) (entry : NsecEntry) where
   shows_no_more shown none labels more within node =
       none (node_higher (read_entry entry) (rightmost name (shown + 1)) (rightmost name labels) (rightmost_in_line name labels (shown + 1) (omega (arith, more))) node)
 
-  pub shows_all : (shown : ℕ) → length name ≤ shown → ShowsNoMore name shown entry
-  shows_all shown all labels more within node = let bad : ⊥ = omega (arith, all, more, within) in bad
-
   pub denies_no_fewer : (absent : ℕ) → 0 < absent → ¬ IsAbsentBy (read_entry entry) (rightmost name (absent - 1)) → DeniesNoFewer name absent entry
   denies_no_fewer absent some none labels fewer denies =
       none (absent_deeper (read_entry entry) (rightmost name labels) (rightmost name (absent - 1)) (rightmost_in_line name (absent - 1) labels (omega (arith, fewer))) denies)

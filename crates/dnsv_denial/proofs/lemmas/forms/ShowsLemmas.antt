@@ -93,15 +93,11 @@ module _ {I J : Type 0} (by : I → J) where
 
   pub records_mapped : (form : ProofForm I) → form_records (form_by by form) ≡ map by (form_records form)
   records_mapped (NoName parts) = wildcard_mapped parts
-  records_mapped (NoData index) = refl
-  records_mapped (EmptyNonTerminal index) = refl
   records_mapped (WildcardNoData parts) = wildcard_mapped parts
   records_mapped (EmptyWildcard parts) = wildcard_mapped parts
-  records_mapped (NoCloser labels index) = refl
-  records_mapped (Delegation labels index) = refl
   records_mapped (OptOut labels encloser index) = option_records encloser (index ∷ [])
   records_mapped (WildcardOptOut parts) = wildcard_mapped parts
-  records_mapped (OptOutCloser labels index) = refl
+  records_mapped form = refl
 
 -- ---- from places to numbers
 

@@ -9,7 +9,6 @@ use Rattle.dnsv_names.specs.Tree.AncestorLaws.{rightmost_length}
 use Rattle.dnsv_zones.specs.forms.Forms.{IsAbove, NoNameForm, NoCloserForm}
 use Rattle.dnsv_zones.specs.forms.Parts.{IsNoCloserPart}
 use Rattle.dnsv_zones.specs.forms.RecordWords.{RecordWords, words}
-use Rattle.dnsv_denial.specs.declared.words.asked.AskedWildcard.{AskedWildcard}
 use Rattle.dnsv_denial.specs.declared.words.asked.AskedWildcard.TheVariants.{Absent}
 use Rattle.dnsv_denial.specs.forms.ByWildcard.{StandsAt, ShowsWithMostLabels}
 use Rattle.dnsv_denial.specs.forms.ProofForms.{ShowsNoNameBy}
@@ -29,11 +28,6 @@ no_fewer_labels apex name labels above =
     omega (arith, at_or_below_length (rightmost name labels) apex above.within, rightmost_length name labels (omega (arith, above.proper)))
 
 module _ (said : RecordWords ℕ) (apex name : Labels) where
-  pub none_above_apex : (asked : AskedWildcard) (n : ℕ) → n ≤ length apex
-      → ((more : ℕ) → StandsAt asked said apex name more → more < n) → (labels : ℕ) → ¬ StandsAt asked said apex name labels
-  none_above_apex asked n few fewer labels stands =
-      omega (arith, fewer labels stands, no_fewer_labels apex name labels stands.ends.above)
-
   no_name_stands : (form : NoNameForm (words said) apex name) → StandsAt Absent said apex name form.labels
   no_name_stands form = record { ends = form.ends; wildcard = form.wildcard }
 

@@ -1,5 +1,5 @@
 -- Records by their numbers, and lists that have all of some.
-use Rattle.std.proofs.Common.{◌≡◌, ℕ, ◌+◌, ◌-◌, ◌<◌, ◌≤◌, ◌⊎◌, List, [], ◌∷◌, ◌++◌, length, map, refl, sym, ap, ◌∙◌, subst, inl, inr, ⊎_elim, arith}
+use Rattle.std.proofs.Common.{◌≡◌, ℕ, ◌+◌, ◌-◌, ◌<◌, ◌⊎◌, List, [], ◌∷◌, ◌++◌, length, map, refl, sym, ap, ◌∙◌, subst, inl, inr, ⊎_elim, arith}
 use Rattle.std.proofs.lemmas.List.{map-append}
 use Rattle.std.proofs.lemmas.Option.{slice_get_read}
 use Rattle.std.specs.Prelude.{Some, slice_get, slice_index_or}
@@ -14,6 +14,7 @@ use Rattle.dnsv_records.proofs.OneRecord.{one_nsec}
 use Rattle.dnsv_zones.specs.Any.{Any}
 use Rattle.dnsv_zones.specs.chains.NsecChain.{NsecRecord}
 use Rattle.dnsv_zones.specs.chains.Rdata.{nsec_record}
+use Rattle.dnsv_zones.proofs.lemmas.chains.ChainLemmas.{any_right}
 use Rattle.dnsv_canonical.specs.Canonical.{IsCanonical}
 use Rattle.dnsv_canonical.specs.CanonicalRdata.{canonical_form}
 use Rattle.dnsv_canonical.specs.Rrsets.{IsNumbered, ReceivedRrset}
@@ -23,11 +24,9 @@ use Rattle.dnsv_denial.specs.gathering.Gathered.{AreAll}
 use Rattle.dnsv_denial.specs.words.EvidenceWords.{number_cmp}
 use Rattle.dnsv_canonical.specs.declared.number.RecordNumber.{RecordNumber}
 use Rattle.dnsv_canonical.proofs.OrderLemmas.{each_kept}
+use Rattle.dnsv_canonical.proofs.NumberLemmas.{one_numbered}
 
 -- ---- at most one record has a number
-
-pub one_numbered : {X : Type 0} (xs : List X) (n : ℕ) (a b : X) → IsNumbered xs n a → IsNumbered xs n b → a ≡ b
-one_numbered xs n a b is_a is_b = let at_a = is_a.1 in let at_b = is_b.1 in cc
 
 -- an RRset and an RDATA of it, as one value
 pub one_record : (rrsets : List ReceivedRrset) (n : RecordNumber) (r s : ReceivedRrset) (x y : List ℕ)
@@ -79,10 +78,6 @@ rising_join (x ∷ xs) ys first second less =
 any_left : {X : Type 0} (P : X → Type 0) (xs ys : List X) → Any P xs → Any P (xs ++ ys)
 any_left P [] ys some = absurd some
 any_left P (x ∷ xs) ys some = ⊎_elim (λ (h : P x). inl h) (λ (rest : Any P xs). inr (any_left P xs ys rest)) some
-
-any_right : {X : Type 0} (P : X → Type 0) (xs ys : List X) → Any P ys → Any P (xs ++ ys)
-any_right P [] ys some = some
-any_right P (x ∷ xs) ys some = inr (any_right P xs ys some)
 
 pub all_to : {E : Type 0} (number : E → RecordNumber) (P : RecordNumber → Type 0) (xs : List E) → AllByRecursion (λ e. P (number e)) xs → AllByRecursion P (map number xs)
 all_to number P [] all = tt
@@ -137,6 +132,3 @@ pub numbered_here : {X : Type 0} (xs : List X) (place : ℕ) (x : X) → place <
 numbered_here xs place x within is =
     let same : place ≡ place + 1 - 1 = omega arith in
     (omega arith, subst (λ p. slice_get xs p ≡ Some x) same (slice_get_read xs (length xs) place x refl within is))
-
-pub numbered_index : {X : Type 0} (xs : List X) (number : ℕ) (x : X) → ¬ (number ≡ 0) → number ≤ length xs → x ≡ slice_index_or xs (number - 1) x → IsNumbered xs number x
-numbered_index xs number x not_zero within is = (omega arith, slice_get_read xs (length xs) (number - 1) x refl (omega arith) is)

@@ -1,9 +1,7 @@
 -- Members of lists, and the records that are gathered for a zone.
 use Rattle.std.proofs.Common.{◌≡◌, ℕ, zero, suc, ◌-◌, ap, map, ◌<◌, ◌≤◌, Bool, true, false, length, get_or, List, [], ◌∷◌, refl, sym, ◌∙◌, subst, inl, inr, ⊎_elim, arith}
-use Rattle.std.proofs.lemmas.Cmp.{nat_eq_equiv}
 use Rattle.std.proofs.lemmas.List.Elements.{Contains-get_or}
 use Rattle.dnsv_zones.specs.Any.{Any}
-use Rattle.dnsv_canonical.specs.Rdata.{rdata_of_type}
 use Rattle.std.specs.Prelude.{Contains, IsTrue, not, Some, None, slice_get}
 use Rattle.std.specs.List.{AllByRecursion, AllZip}
 use Rattle.dnsv_names.specs.Name.{Labels, SameName}
@@ -98,10 +96,6 @@ not_true false isnt = refl
 
 pub contained : (xs : List ℕ) (i d s : ℕ) → s ≡ get_or xs i d → i < length xs → Contains xs s
 contained xs i d s is within = subst (Contains xs) (sym is) (Contains-get_or xs i d within)
-
--- the RDATA of an RRset of the type
-pub of_type : (rrset : ReceivedRrset) (t : ℕ) → rrset.rtype ≡ t → rdata_of_type t rrset ≡ rrset.rdata
-of_type rrset t is = rw is (rw (nat_eq_equiv.refl t) refl)
 
 pub mapped_at : {X Y : Type 0} (f : X → Y) (xs : List X) (i : ℕ) (x : X) → slice_get xs i ≡ Some x → slice_get (map f xs) i ≡ Some (f x)
 mapped_at f [] i x at = cc

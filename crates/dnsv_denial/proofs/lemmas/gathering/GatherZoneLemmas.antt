@@ -12,15 +12,13 @@ use Rattle.std.specs.List.{AllByRecursion, dedup}
 use Rattle.std.specs.List.Sorted.{IsPermutation, IsSorted, IsStrictlySortedBy}
 use Rattle.std.specs.Ordering.{nat_cmp, eq_by_cmp}
 use Rattle.std.specs.Prelude.{Contains, Some, nat_eq, slice_get}
-use Rattle.std.specs.declared.cmp.Ordering.{Ordering}
-use Rattle.std.specs.declared.cmp.Ordering.TheVariants.{Less}
 use Rattle.dnsv_names.specs.RisingLaws.{map-dedup}
 use Rattle.dnsv_names.specs.Name.{Labels, rightmost}
 use Rattle.dnsv_names.specs.Octets.{octets_cmp}
 use Rattle.dnsv_records.specs.OctetLaws.{recursion-append}
 use Rattle.dnsv_records.specs.declared.nsec3.Nsec3Parameters.{Nsec3Parameters}
 use Rattle.dnsv_zones.specs.chains.Rdata.{parameters_of}
-use Rattle.dnsv_canonical.proofs.CanonicalLemmas.{each_map}
+use Rattle.dnsv_canonical.proofs.CanonicalLemmas.{rising_map}
 use Rattle.dnsv_canonical.specs.Rrsets.{ReceivedRrset}
 use Rattle.dnsv_denial.specs.gathering.Kept.{IsSetOf, IsZoneOf}
 use Rattle.dnsv_denial.specs.words.EvidenceWords.{parameters_cmp}
@@ -77,11 +75,6 @@ parameters_equiv = record {
 
 ties : (a b : Nsec3Parameters) → parameters_eq a b ≡ eq_by_cmp (λ x y. parameters_cmp (parameters_of x) (parameters_of y)) a b
 ties = (then_tied (on_tied (λ (n : Nsec3Parameters). n.iterations.0) (tie nat_cmp unsigned_ties)) (on_tied (λ (n : Nsec3Parameters). n.salt) (tie octets_cmp texts_ties))).ties
-
-rising_map : {X Y : Type 0} (f : X → Y) (R : Y → Y → Ordering) (xs : List X) → IsStrictlySortedBy (λ a b. R (f a) (f b)) xs → IsStrictlySortedBy R (map f xs)
-unfolding IsStrictlySortedBy
-rising_map f R [] rises = tt
-rising_map f R (x ∷ xs) rises = (each_map f (λ y. R (f x) y ≡ Less) xs rises.0, rising_map f R xs rises.1)
 
 -- what a sort and then a `dedup` leave of references to parameters
 module _ (given sorted kept : List OrderedParameters) (ordered : IsSorted (λ (a b : OrderedParameters). parameters_cmp (parameters_of a.parameters.now) (parameters_of b.parameters.now)) sorted) (is : kept ≡ dedup (λ (a b : OrderedParameters). parameters_eq a.parameters.now b.parameters.now) sorted) where

@@ -26,7 +26,7 @@ use Rattle.dnsv_denial.specs.declared.records.zone_records.ZoneRecords.{ZoneReco
 use Rattle.dnsv_denial.proofs.lemmas.gathering.EvidenceLemmas.{nsec3_forms}
 use Rattle.dnsv_denial.proofs.lemmas.gathering.GatherLemmas.{each_at, mapped_at}
 
-member_at : {X : Type 0} (xs : List X) (k : ℕ) (x : X) → slice_get xs k ≡ Some x → IsMember x xs
+pub member_at : {X : Type 0} (xs : List X) (k : ℕ) (x : X) → slice_get xs k ≡ Some x → IsMember x xs
 member_at [] k x at = cc
 member_at (y ∷ ys) zero x at = let is : x ≡ y = cc in inl is
 member_at (y ∷ ys) (suc k) x at = inr (member_at ys k x at)

@@ -18,7 +18,8 @@ use Rattle.dnsv_denial.specs.gathering.Gathered.{AreNsec3s, AreNsec3sOf, IsDenia
 use Rattle.dnsv_denial.specs.records.Record.{flags_of, read_nsec3}
 use Rattle.dnsv_denial.specs.declared.records.entry.Nsec3Entry.{Nsec3Entry}
 use Rattle.dnsv_canonical.specs.declared.number.RecordNumber.{RecordNumber}
-use Rattle.dnsv_denial.proofs.lemmas.gathering.EvidenceLemmas.{all_said, one_numbered, one_record, nsec3_forms}
+use Rattle.dnsv_denial.proofs.lemmas.gathering.EvidenceLemmas.{all_said, one_record, nsec3_forms}
+use Rattle.dnsv_canonical.proofs.NumberLemmas.{one_numbered}
 use Rattle.dnsv_denial.proofs.lemmas.gathering.Gathering.{UpTo, Grown, grown_none, grown_one, grown_not, grown_all, none_in}
 use Rattle.dnsv_denial.proofs.lemmas.gathering.NsecGather.{record_at, place_within}
 
@@ -44,7 +45,7 @@ flags_are true flags most to from = sym (to refl)
 flags_are false zero most to from = refl
 flags_are false (suc n) most to from = let one : suc n ≡ 1 = omega (arith, most) in let wrong = from one in cc
 
-forms_of : (rrset : ReceivedRrset) (canonical : List (List ℕ)) → rrset.rtype ≡ 50 → IsCanonical rrset.rdata canonical → IsCanonical (map (canonical_form rrset.rtype) rrset.rdata) canonical
+pub forms_of : (rrset : ReceivedRrset) (canonical : List (List ℕ)) → rrset.rtype ≡ 50 → IsCanonical rrset.rdata canonical → IsCanonical (map (canonical_form rrset.rtype) rrset.rdata) canonical
 forms_of rrset canonical rtype is =
     subst (λ t. IsCanonical (map (canonical_form t) rrset.rdata) canonical) (sym rtype) (subst (λ r. IsCanonical r canonical) (sym (nsec3_forms rrset.rdata)) is)
 

@@ -18,7 +18,8 @@ use Rattle.dnsv_denial.specs.records.Record.{read_entry}
 use Rattle.dnsv_denial.specs.words.EvidenceWords.{number_cmp}
 use Rattle.dnsv_denial.specs.declared.records.entry.NsecEntry.{NsecEntry}
 use Rattle.dnsv_canonical.specs.declared.number.RecordNumber.{RecordNumber}
-use Rattle.dnsv_denial.proofs.lemmas.gathering.EvidenceLemmas.{one_numbered, one_nsec_of, nsec_forms, same_rrset_less, all_joined, all_none, all_single, all_said}
+use Rattle.dnsv_denial.proofs.lemmas.gathering.EvidenceLemmas.{one_nsec_of, nsec_forms, same_rrset_less, all_joined, all_none, all_single, all_said}
+use Rattle.dnsv_canonical.proofs.NumberLemmas.{one_numbered}
 
 pub record GrownBy (rrsets : List ReceivedRrset) (Within : RecordNumber → Type 0) (before now : List NsecEntry) : Type 0 where
   pub more : List NsecEntry

@@ -25,17 +25,17 @@ number_cmp_total = then_total (on_total (λ (n : RecordNumber). n.rrset) nat_cmp
 abbrev pub number_eq : RecordNumber → RecordNumber → Bool
 number_eq a b = nat_eq a.rrset b.rrset && nat_eq a.place b.place
 
-same_number : (a b : RecordNumber) → number_eq a b ≡ true → a ≡ b
+pub same_number : (a b : RecordNumber) → number_eq a b ≡ true → a ≡ b
 same_number a b same =
     let parts = and_parts _ _ same in
     let rrset : a.rrset ≡ b.rrset = eqb-true _ _ parts.0 in
     let place : a.place ≡ b.place = eqb-true _ _ parts.1 in
     λ i. record { rrset = rrset i; place = place i }
 
-number_eq_ties : (a b : RecordNumber) → number_eq a b ≡ eq_by_cmp number_cmp a b
+pub number_eq_ties : (a b : RecordNumber) → number_eq a b ≡ eq_by_cmp number_cmp a b
 number_eq_ties = (then_tied (on_tied (λ (n : RecordNumber). n.rrset) (tie nat_cmp unsigned_ties)) (on_tied (λ (n : RecordNumber). n.place) (tie nat_cmp unsigned_ties))).ties
 
-number_eq_equiv : IsEquivalence number_eq
+pub number_eq_equiv : IsEquivalence number_eq
 number_eq_equiv = record {
   refl = λ a. and_from _ _ (nat_eq_equiv.refl a.rrset) (nat_eq_equiv.refl a.place);
   symm = λ a b. ap (λ c. c && nat_eq a.place b.place) (nat_eq_equiv.symm a.rrset b.rrset) ∙ ap (λ c. nat_eq b.rrset a.rrset && c) (nat_eq_equiv.symm a.place b.place);

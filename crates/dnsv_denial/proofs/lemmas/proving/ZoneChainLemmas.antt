@@ -17,24 +17,20 @@ use Rattle.dnsv_denial.specs.words.EvidenceWords.Chain.{ByNsec, ByNsec3}
 use Rattle.dnsv_denial.specs.words.EvidenceWords.GoesBefore.{nsec_first, by_parameters}
 use Rattle.dnsv_canonical.specs.declared.number.RecordNumber.{RecordNumber}
 use Rattle.dnsv_denial.specs.declared.records.zone_records.NameHashes.{NameHashes}
-use Rattle.dnsv_denial.proofs.lemmas.gathering.GatherLemmas.{mapped_at}
+use Rattle.dnsv_denial.proofs.lemmas.gathering.GatherLemmas.{mapped_at, mapped_length}
 use Rattle.dnsv_denial.proofs.lemmas.words.AlikeLemmas.{any_place}
 
 -- ---- by numbers
 
-there_or : {X : Type 0} (xs : List X) (other : X) (k : ℕ) → k < length xs → slice_get xs k ≡ Some (get_or xs k other)
+pub there_or : {X : Type 0} (xs : List X) (other : X) (k : ℕ) → k < length xs → slice_get xs k ≡ Some (get_or xs k other)
 there_or [] other k small = absurd (omega (arith, small))
 there_or (x ∷ xs) other zero small = refl
 there_or (x ∷ xs) other (suc k) small = there_or xs other k (omega (arith, small))
 
-unmapped_at : {X Y : Type 0} (f : X → Y) (xs : List X) (k : ℕ) (y : Y) → slice_get (map f xs) k ≡ Some y → (x : X) × (slice_get xs k ≡ Some x) × (f x ≡ y)
+pub unmapped_at : {X Y : Type 0} (f : X → Y) (xs : List X) (k : ℕ) (y : Y) → slice_get (map f xs) k ≡ Some y → (x : X) × (slice_get xs k ≡ Some x) × (f x ≡ y)
 unmapped_at f [] k y at = cc
 unmapped_at f (x ∷ xs) zero y at = let is : f x ≡ y = cc in (x, refl, is)
 unmapped_at f (x ∷ xs) (suc k) y at = unmapped_at f xs k y at
-
-mapped_length : {X Y : Type 0} (f : X → Y) (xs : List X) → length (map f xs) ≡ length xs
-mapped_length f [] = refl
-mapped_length f (x ∷ xs) = ap suc (mapped_length f xs)
 
 pub chain_count : (sets : List NameHashes) → length (chains_of sets) ≡ length sets + 1
 chain_count sets = let count : length (map (λ (set : NameHashes). ByNsec3 (parameters_of set.parameters.now)) sets) ≡ length sets = mapped_length (λ (set : NameHashes). ByNsec3 (parameters_of set.parameters.now)) sets in omega (arith, count)

@@ -26,23 +26,19 @@ use Rattle.std.specs.declared.cmp.Ordering.{Ordering}
 
 pub lt_is : (o : Ordering) → is_lt o ≡ true → o ≡ Less
 lt_is Less test = refl
-lt_is Equal test = cc
-lt_is Greater test = cc
+lt_is o test = cc
 
 not_lt_is : (o : Ordering) → is_lt o ≡ false → o ≢ Less
 not_lt_is Less no_lt = λ less. cc
-not_lt_is Equal no_lt = λ less. cc
-not_lt_is Greater no_lt = λ less. cc
+not_lt_is o no_lt = λ less. cc
 
 le_is : (o : Ordering) → is_le o ≡ true → o ≢ Greater
 le_is Less test = λ greater. cc
-le_is Equal test = λ greater. cc
-le_is Greater test = λ greater. cc
+le_is o test = λ greater. cc
 
 pub not_le_is : (o : Ordering) → is_le o ≡ false → o ≡ Greater
-not_le_is Less no_le = cc
-not_le_is Equal no_le = cc
 not_le_is Greater no_le = refl
+not_le_is o no_le = cc
 
 module _ {X : Type 0} (key : X → List ℕ) (xs : List X) (hash : List ℕ) where
   rises : IsSortedByKey key octets_cmp xs → IsNonDecreasingBy (λ (x : X). ordering_index (octets_cmp (key x) hash)) xs
@@ -181,8 +177,7 @@ module _ (entries : List Nsec3Entry) (parameters : Parameters) (hash : List ℕ)
   between_ends : (owner next : List ℕ) (ends : Ordering) → octets_cmp owner next ≡ ends → between ends (octets_cmp owner hash) (octets_cmp hash next)
       → ((octets_cmp owner hash ≡ Less) × (octets_cmp hash next ≡ Less)) ⊎ (octets_cmp owner next ≢ Less)
   between_ends owner next Less is lies = inl lies
-  between_ends owner next Equal is lies = inr (λ less. cc)
-  between_ends owner next Greater is lies = inr (λ less. cc)
+  between_ends owner next ends is lies = inr (λ less. cc)
 
   pub cover_listed : (around wrapping : List HashPlace) (Says : Nsec3Entry → Type 0)
       → ((place : ℕ) (entry : Nsec3Entry) → slice_get entries place ≡ Some entry → octets_cmp entry.hash hash ≡ Less → octets_cmp hash entry.next_hash ≡ Less → IsListed around place)

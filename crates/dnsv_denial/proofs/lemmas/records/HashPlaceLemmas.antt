@@ -16,7 +16,7 @@ use Rattle.std.specs.List.Sorted.{IsPermutation, IsSortedByKey}
 use Rattle.std.specs.List.{Contains}
 use Rattle.std.specs.Ordering.{is_le, is_lt, ordering_reverse}
 use Rattle.std.specs.Prelude.{slice_get}
-use Rattle.std.specs.declared.cmp.Ordering.TheVariants.{Less, Equal, Greater}
+use Rattle.std.specs.declared.cmp.Ordering.TheVariants.{Less, Greater}
 use Rattle.std.specs.declared.cmp.Ordering.{Ordering}
 
 pub itself_not_less : (a : List ℕ) → octets_cmp a a ≢ Less
@@ -27,8 +27,7 @@ behind_not_less a b before = λ less. let back : octets_cmp b a ≡ Greater = na
 
 not_less_is : (o : Ordering) → o ≢ Less → is_lt o ≡ false
 not_less_is Less far = absurd (far refl)
-not_less_is Equal far = refl
-not_less_is Greater far = refl
+not_less_is o far = refl
 
 contains_more : (places : List HashPlace) (more item : HashPlace) → Contains places item → Contains (places ++ more ∷ []) item
 contains_more places more item (k, within, at) =

@@ -10,7 +10,7 @@ use Rattle.dnsv_canonical.specs.Rrsets.{IsNumbered, ReceivedRrset}
 use Rattle.dnsv_denial.specs.unsigned_cuts.Cuts.{no_ds, no_usable_ds, opt_out, IsFewest, IsMost, IsUnsignedDelegationCut, IsUnusableDsCut, IsOptOutCut, IsUnsignedCut, HasUnsignedCut}
 use Rattle.dnsv_chain.specs.UnusableDs.{IsUnusableDs}
 use Rattle.dnsv_denial.specs.unsigned_cuts.Findings.{IsFewestFound, IsMostFound, IsLesser, IsGreater, AreFindings}
-use Rattle.dnsv_denial.proofs.lemmas.gathering.EvidenceLemmas.{one_numbered}
+use Rattle.dnsv_canonical.proofs.NumberLemmas.{one_numbered}
 
 -- ---- the lesser and the greater of two findings
 
@@ -62,12 +62,6 @@ module _ (Secured : ℕ → ℕ → Type 0) (rrsets : List ReceivedRrset) (name 
   pub record IsCutUpTo (place : ℕ) (labels : ℕ) : Type 0 where
     pub cut : IsUnusableDsCut Secured rrsets name labels
     pub up_to : cut.k ≤ place
-
-  from_one : (n : ℕ) → IsCutUpTo 0 n → ⊥
-  from_one n upto = omega (arith, upto.up_to, upto.cut.is_rrset.0)
-
-  pub none_yet : IsFewestFound (IsCutUpTo 0) None
-  none_yet = λ n upto. from_one n upto
 
   cut_at : (place : ℕ) (rrset : ReceivedRrset) → IsNumbered rrsets (place + 1) rrset → IsUnusableDs (Secured (place + 1)) rrset name
       → IsCutUpTo (place + 1) (length rrset.owner)

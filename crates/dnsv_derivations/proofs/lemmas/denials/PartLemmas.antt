@@ -68,30 +68,24 @@ module _ (S : ℕ → ℕ → Type 0) (rrsets : List ReceivedRrset) (zone : Labe
 
   match_signed : (chain : Chain) (purpose : Role) (name : Labels) → IsMatchFor (evidence_said S rrsets zone chain) purpose name number
       → Signed
-  match_signed ByNsec role.ClosestEncloser name said = nsec_signed _ said
   match_signed ByNsec role.NextCloser name said = absurd said
   match_signed ByNsec role.Wildcard name (t, said) = nsec_signed _ said
   match_signed ByNsec role.Name name (t, said) = nsec_signed _ said
-  match_signed ByNsec role.Cut name said = nsec_signed _ said
-  match_signed (ByNsec3 parameters) role.ClosestEncloser name said = nsec3_signed _ said
+  match_signed ByNsec purpose name said = nsec_signed _ said
   match_signed (ByNsec3 parameters) role.NextCloser name said = absurd said
   match_signed (ByNsec3 parameters) role.Wildcard name (t, said) = nsec3_signed _ said
   match_signed (ByNsec3 parameters) role.Name name (t, said) = nsec3_signed _ said
-  match_signed (ByNsec3 parameters) role.Cut name said = nsec3_signed _ said
+  match_signed (ByNsec3 parameters) purpose name said = nsec3_signed _ said
 
   -- the RRset of the record has a signature that counts
   pub word_signed : (chain : Chain) (purpose : Role) (related : Relation) (name : Labels)
       → IsWord (evidence_said S rrsets zone chain) purpose related name number → Signed
   word_signed chain purpose relation.Matched name said = match_signed chain purpose name said
-  word_signed ByNsec purpose relation.Exists name said = nsec_signed _ said
-  word_signed ByNsec purpose relation.Covered name said = nsec_signed _ said
-  word_signed ByNsec purpose relation.NonTerminal name said = nsec_signed _ said
   word_signed ByNsec purpose relation.OptOut name said = absurd said
-  word_signed (ByNsec3 parameters) purpose relation.Exists name said = nsec3_signed _ said
-  word_signed (ByNsec3 parameters) purpose relation.Covered name said = nsec3_signed _ said
   word_signed (ByNsec3 parameters) purpose relation.NonTerminal name said = absurd said
-  word_signed (ByNsec3 parameters) purpose relation.OptOut name said = nsec3_signed _ said
   word_signed chain purpose relation.Apex name said = absurd said
+  word_signed (ByNsec3 parameters) purpose related name said = nsec3_signed _ said
+  word_signed ByNsec purpose related name said = nsec_signed _ said
 
   -- what the record says rests on nothing else
   module _ (T : ℕ → ℕ → Type 0) (by : IsSecuredBy T rrsets zone number.rrset) where
@@ -103,30 +97,24 @@ module _ (S : ℕ → ℕ → Type 0) (rrsets : List ReceivedRrset) (zone : Labe
 
     match_by : (chain : Chain) (purpose : Role) (name : Labels) → IsMatchFor (evidence_said S rrsets zone chain) purpose name number
         → IsMatchFor (evidence_said T rrsets zone chain) purpose name number
-    match_by ByNsec role.ClosestEncloser name said = nsec_by _ said
     match_by ByNsec role.NextCloser name said = said
     match_by ByNsec role.Wildcard name (t, said) = (t, nsec_by _ said)
     match_by ByNsec role.Name name (t, said) = (t, nsec_by _ said)
-    match_by ByNsec role.Cut name said = nsec_by _ said
-    match_by (ByNsec3 parameters) role.ClosestEncloser name said = nsec3_by _ said
+    match_by ByNsec purpose name said = nsec_by _ said
     match_by (ByNsec3 parameters) role.NextCloser name said = said
     match_by (ByNsec3 parameters) role.Wildcard name (t, said) = (t, nsec3_by _ said)
     match_by (ByNsec3 parameters) role.Name name (t, said) = (t, nsec3_by _ said)
-    match_by (ByNsec3 parameters) role.Cut name said = nsec3_by _ said
+    match_by (ByNsec3 parameters) purpose name said = nsec3_by _ said
 
     pub word_by : (chain : Chain) (purpose : Role) (related : Relation) (name : Labels)
         → IsWord (evidence_said S rrsets zone chain) purpose related name number
         → IsWord (evidence_said T rrsets zone chain) purpose related name number
     word_by chain purpose relation.Matched name said = match_by chain purpose name said
-    word_by ByNsec purpose relation.Exists name said = nsec_by _ said
-    word_by ByNsec purpose relation.Covered name said = nsec_by _ said
-    word_by ByNsec purpose relation.NonTerminal name said = nsec_by _ said
     word_by ByNsec purpose relation.OptOut name said = said
-    word_by (ByNsec3 parameters) purpose relation.Exists name said = nsec3_by _ said
-    word_by (ByNsec3 parameters) purpose relation.Covered name said = nsec3_by _ said
     word_by (ByNsec3 parameters) purpose relation.NonTerminal name said = said
-    word_by (ByNsec3 parameters) purpose relation.OptOut name said = nsec3_by _ said
     word_by chain purpose relation.Apex name said = said
+    word_by (ByNsec3 parameters) purpose related name said = nsec3_by _ said
+    word_by ByNsec purpose related name said = nsec_by _ said
 
 -- what rests on signatures that count for S rests on the same for T, where each counts for it too
 pub said_too : (S T : ℕ → ℕ → Type 0) (rrsets : List ReceivedRrset) (zone : Labels) (chain : Chain) (purpose : Role) (related : Relation)

@@ -67,18 +67,14 @@ parts_listed : (kind : ChainKind) (shape : ProofForm RecordNumber)
     → AllByRecursion (λ (one : ProofPart). IsListed (form_records shape) one.by) (form_parts kind shape)
 parts_listed kind (form.NoName parts) =
     wildcard_listed kind parts.labels parts.encloser parts.next_closer parts.wildcard related.Covered
-parts_listed kind (form.NoData number) = ((0, omega arith, refl), tt)
-parts_listed kind (form.EmptyNonTerminal number) = ((0, omega arith, refl), tt)
 parts_listed kind (form.WildcardNoData parts) =
     wildcard_listed kind parts.labels parts.encloser parts.next_closer parts.wildcard related.Matched
 parts_listed kind (form.EmptyWildcard parts) =
     wildcard_listed kind parts.labels parts.encloser parts.next_closer parts.wildcard related.NonTerminal
-parts_listed kind (form.NoCloser labels number) = ((0, omega arith, refl), tt)
-parts_listed kind (form.Delegation labels number) = ((0, omega arith, refl), tt)
 parts_listed kind (form.OptOut labels encloser number) = opt_out_listed kind labels encloser number
 parts_listed kind (form.WildcardOptOut parts) =
     wildcard_listed kind parts.labels parts.encloser parts.next_closer parts.wildcard related.OptOut
-parts_listed kind (form.OptOutCloser labels number) = ((0, omega arith, refl), tt)
+parts_listed kind shape = ((0, omega arith, refl), tt)
 
 -- the name of a zone as the name spells it
 pub spelled : (name zone : Labels) (labels : ℕ) → IsAbove zone name labels → SameName zone (rightmost name (length zone))
@@ -199,12 +195,4 @@ HasOne (Some which) form = Unit {0}
 
 pub has_one : (shape : ProofForm RecordNumber) → HasOne (told_case shape) (told_form shape)
 has_one (form.NoName parts) = tt
-has_one (form.NoData number) = tt
-has_one (form.EmptyNonTerminal number) = tt
-has_one (form.WildcardNoData parts) = tt
-has_one (form.EmptyWildcard parts) = tt
-has_one (form.NoCloser labels number) = tt
-has_one (form.Delegation labels number) = tt
-has_one (form.OptOut labels encloser number) = tt
-has_one (form.WildcardOptOut parts) = tt
-has_one (form.OptOutCloser labels number) = tt
+has_one shape = tt

@@ -21,7 +21,7 @@ use Rattle.dnsv_lines.specs.declared.line.derivation.SignedRrset.{SignedRrset}
 use Rattle.dnsv_lines.specs.declared.line.derivation.TrustedKeys.{TrustedKeys}
 use Rattle.dnsv_lines.specs.declared.line.derivation.Voucher.{Voucher}
 use Rattle.dnsv_lines.specs.declared.line.derivation.Voucher.TheVariants as voucher
-use Rattle.dnsv_derivations.proofs.lemmas.NumberedLemmas.{same_number}
+use Rattle.dnsv_canonical.proofs.NumberLemmas.{one_numbered}
 
 module _ (setting : Setting) (before : List Line) where
   labels_are : (k : ℕ) (rrset : ReceivedRrset) → IsNumbered setting.rrsets k rrset → labels_at setting.rrsets k ≡ length rrset.owner
@@ -51,7 +51,7 @@ module _ (setting : Setting) (before : List Line) where
       let way = is.first.is in
       let signer = line.first.is in
       let same : by.0.rrset ≡ signer.rrset =
-      same_number setting.rrsets number.rrset by.0.rrset signer.rrset by.0.at.is_rrset signer.good.is_rrset in
+      one_numbered setting.rrsets number.rrset by.0.rrset signer.rrset by.0.at.is_rrset signer.good.is_rrset in
       let owner : ReceivedRrset → ℕ = λ each. length each.owner in
       let below = below_length signer.rrset.owner signer.good.rrsig.signer
       (signer.good.good.admissible.signer.ds (sym (ap (λ (each : ReceivedRrset). each.rtype) same) ∙ by.0.rtype)) in
@@ -121,9 +121,8 @@ module _ (setting : Setting) (before : List Line) where
 -- what isn't a DS record is an anchor
 pub anchor_alone : (told : Voucher) → ((number : RecordNumber) (digest_type : DigestType) → told ≡ voucher.Ds number digest_type → ⊥)
     → IsByAnchor told
-anchor_alone (voucher.KeyAnchor number) never = tt
-anchor_alone (voucher.DsAnchor number digest_type) never = tt
 anchor_alone (voucher.Ds number digest_type) never = never number digest_type refl
+anchor_alone told never = tt
 
 -- the number of a signature by its parts
 pub number_is : (number : SignatureNumber) (k : ℕ) → number.rrset ≡ k → number ≡ record { rrset = k; signature = number.signature }

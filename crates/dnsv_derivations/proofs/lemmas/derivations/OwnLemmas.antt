@@ -1,5 +1,5 @@
 -- The lowest signature of an RRset that is the zone's own.
-use Rattle.std.proofs.Common.{◌≡◌, ◌<◌, ◌≤◌, ◌+◌, ◌-◌, ℕ, List, length, get_or, sym, ◌∙◌, subst, ⊎_elim, arith}
+use Rattle.std.proofs.Common.{◌≡◌, ◌<◌, ◌≤◌, ◌-◌, ℕ, List, length, get_or, sym, ◌∙◌, subst, ⊎_elim, arith}
 use Rattle.std.proofs.lemmas.Bool.{cases_lt}
 use Rattle.std.proofs.lemmas.List.{get_or_default}
 use Rattle.std.proofs.lemmas.List.Elements.{Contains-get_or}
@@ -20,14 +20,11 @@ use Rattle.dnsv_derivations.specs.Saying.{Adds}
 use Rattle.dnsv_lines.specs.declared.line.Line.{Line}
 use Rattle.dnsv_canonical.specs.declared.number.SignatureNumber.{SignatureNumber}
 use Rattle.dnsv_derivations.proofs.lemmas.derivations.ClimbLemmas.{number_is}
-use Rattle.dnsv_derivations.proofs.lemmas.NumberedLemmas.{same_number}
+use Rattle.dnsv_canonical.proofs.NumberLemmas.{one_numbered}
 use Rattle.dnsv_derivations.proofs.lemmas.denials.PartLemmas.{signature_too}
 use Rattle.dnsv_derivations.proofs.lemmas.intervals.ShownLemmas.{rdata_at, read_at}
 
 module _ (setting : Setting) (zone : Labels) (k : ℕ) where
-  pub not_there : ((rrset : ReceivedRrset) → ¬ IsNumbered setting.rrsets k rrset) → (s : ℕ) → ¬ IsOwnSignature setting zone k s
-  not_there none s own = none own.rrset own.is_rrset
-
   -- some signature of the zone is one with a number
   pub its_number : (by : IsSecuredBy (SecuredIn setting) setting.rrsets zone k) → IsOwnSignature setting zone k by.signed.signature
   its_number by = record {
@@ -88,20 +85,10 @@ module _ (setting : Setting) (zone : Labels) (k : ℕ) where
           place = there.0;
           within = there.1;
           is = is;
-          has = subst Has (same_number setting.rrsets k own.rrset rrset own.is_rrset numbered)
+          has = subst Has (one_numbered setting.rrsets k own.rrset rrset own.is_rrset numbered)
               (signature_too (λ t. (t ≡ s) × SecuredIn setting k t) (λ t. t ≡ get_or numbers there.0 0) own.rrset zone own.signed
               (own.signed.secured.0 ∙ sym is));
         }
-
-    pub none_more : (i : ℕ) → ¬ HasZoneSignature (λ s. s ≡ get_or numbers i 0) rrset zone → IsNoneOwn rrset zone numbers i
-        → IsNoneOwn rrset zone numbers (i + 1)
-    none_more i never none = λ j below has. ⊎_elim
-        (λ (earlier : j < i). none j earlier has)
-        (λ (later : i ≤ j).
-        let Has : ℕ → Type 0 = λ p. HasZoneSignature (λ s. s ≡ get_or numbers p 0) rrset zone in
-        let here : j ≡ i = omega (arith, below, later) in
-        never (subst Has here has))
-        (cases_lt j i)
 
     pub lowest_found : (i : ℕ) → i < length numbers → HasZoneSignature (λ s. s ≡ get_or numbers i 0) rrset zone
         → IsNoneOwn rrset zone numbers i → IsLowestOwn setting zone k (get_or numbers i 0)
@@ -143,7 +130,7 @@ module _ (rrset : ReceivedRrset) (zone : Labels) (number : ℕ) (rrsigs : List R
       let there = rdata_at rrset.signatures rrsigs (number - 1) rrsig zip numbered.1 in
       let Numbered : ℕ → Type 0 = λ n. IsNumbered rrset.signatures n has.rdata in
       let octets : has.rdata ≡ there.0 =
-      same_number rrset.signatures number has.rdata there.0 (subst Numbered has.secured has.is_signature) (numbered.0, there.1) in
+      one_numbered rrset.signatures number has.rdata there.0 (subst Numbered has.secured has.is_signature) (numbered.0, there.1) in
       let Read : List ℕ → Type 0 = λ each. IsRrsig each has.rrsig in
       let same : has.rrsig ≡ rrsig = one_rrsig there.0 has.rrsig rrsig (subst Read octets has.read) there.2 in
       let Signer : Rrsig → Type 0 = λ each. SameName each.signer zone in

@@ -23,9 +23,8 @@ use Rattle.std.specs.List.{AllZip}
 use Rattle.dnsv_names.specs.Name.{Labels, SameName}
 use Rattle.dnsv_names.specs.declared.number.RecordType.{RecordType}
 use Rattle.dnsv_chain.proofs.WalkLemmas.{same_rdata_good}
-use Rattle.dnsv_derivations.proofs.lemmas.NumberLemmas.{IsOneAt}
+use Rattle.dnsv_canonical.proofs.NumberLemmas.{IsOneAt, one_numbered}
 use Rattle.dnsv_derivations.specs.derivations.NewKeys.{IsHadAbove}
-use Rattle.dnsv_derivations.proofs.lemmas.NumberedLemmas.{same_number}
 use Rattle.dnsv_derivations.proofs.lemmas.intervals.ShownLemmas.{rdata_at, read_at}
 use Rattle.dnsv_derivations.proofs.lemmas.derivations.WayLemmas.TrustedLemmas.{number_of, trusted_among}
 
@@ -179,10 +178,10 @@ module _ (setting : Setting) (number : SignatureNumber) (rrset : ReceivedRrset) 
 
   pub under_good : (other : ReceivedRrset) (key : DnskeyRecord) → IsGoodUnder setting number other key → Good key
   under_good other key good =
-      let same : other ≡ rrset = same_number setting.rrsets number.rrset other rrset good.is_rrset is_rrset in
+      let same : other ≡ rrset = one_numbered setting.rrsets number.rrset other rrset good.is_rrset is_rrset in
       let Numbered : ReceivedRrset → Type 0 = λ each. IsNumbered each.signatures number.signature good.rdata in
       let rdata : good.rdata ≡ its.rdata =
-      same_number rrset.signatures number.signature good.rdata its.rdata (subst Numbered same good.is_signature) its.is_signature in
+      one_numbered rrset.signatures number.signature good.rdata its.rdata (subst Numbered same good.is_signature) its.is_signature in
       let Read : List ℕ → Type 0 = λ octets. IsRrsig octets good.rrsig in
       let one : good.rrsig ≡ rrsig = one_rrsig its.rdata good.rrsig rrsig (subst Read rdata good.read) its.read in
       let By : Rrsig → Type 0 = λ each. IsGood setting.meaning setting.moment other each key in
@@ -190,7 +189,7 @@ module _ (setting : Setting) (number : SignatureNumber) (rrset : ReceivedRrset) 
       subst Over same (subst By one good.good)
 
   its_set : (key : DnskeyRecord) (is : IsSigner setting number k key) → is.set ≡ set
-  its_set key is = same_number setting.rrsets k is.set set is.is_set is_set
+  its_set key is = one_numbered setting.rrsets k is.set set is.is_set is_set
 
   its_key : (key : DnskeyRecord) → IsSigner setting number k key → IsKeyOf set key
   its_key key is = let Stands : ReceivedRrset → Type 0 = λ each. IsKeyOf each key in subst Stands (its_set key is) is.stands
@@ -365,7 +364,7 @@ module _ (setting : Setting) (number : SignatureNumber) (rrset : ReceivedRrset) 
       → ((rrsig : Rrsig) → ¬ IsNumbered rrsigs number.signature rrsig)
       → ¬ IsSecured setting.meaning setting.moment setting.rrsets setting.anchors number.rrset number.signature
   no_signature rrsigs zip none secured =
-      let same : secured.rrset ≡ rrset = same_number setting.rrsets number.rrset secured.rrset rrset secured.numbered is_rrset in
+      let same : secured.rrset ≡ rrset = one_numbered setting.rrsets number.rrset secured.rrset rrset secured.numbered is_rrset in
       let Numbered : ReceivedRrset → Type 0 = λ each. IsNumbered each.signatures number.signature secured.rdata in
       let numbered : Numbered rrset = subst Numbered same secured.signature in
       let there = read_at rrset.signatures rrsigs (number.signature - 1) secured.rdata zip numbered.1 in
@@ -385,8 +384,8 @@ module _ (setting : Setting) (number : SignatureNumber) (rrset : ReceivedRrset) 
       })
   the_line n signer set owner zone rtype past first is_set owner_is rtype_is zone_is =
       let same : rrset ≡ first.is.rrset =
-      same_number setting.rrsets number.rrset rrset first.is.rrset is_rrset first.is.good.is_rrset in
-      let set_same : set ≡ first.is.set = same_number setting.rrsets signer.set set first.is.set is_set first.is.is_set in record {
+      one_numbered setting.rrsets number.rrset rrset first.is.rrset is_rrset first.is.good.is_rrset in
+      let set_same : set ≡ first.is.set = one_numbered setting.rrsets signer.set set first.is.set is_set first.is.is_set in record {
         key = first.key;
         first = first_of_all setting number n signer past first;
         owner = owner_is ∙ ap (λ (each : ReceivedRrset). each.owner) same;

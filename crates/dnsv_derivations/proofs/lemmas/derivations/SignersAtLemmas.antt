@@ -6,14 +6,13 @@ use Rattle.dnsv_canonical.specs.Index.{numbers_at}
 use Rattle.dnsv_canonical.specs.Rrsets.{IsNumbered, ReceivedRrset}
 use Rattle.dnsv_canonical.specs.declared.number.SignatureNumber.{SignatureNumber}
 use Rattle.dnsv_verifier.specs.Admissible.{DnskeyRecord}
-use Rattle.dnsv_derivations.proofs.lemmas.NumberLemmas.{IsOneAt}
+use Rattle.dnsv_canonical.proofs.NumberLemmas.{IsOneAt, one_numbered}
 use Rattle.dnsv_derivations.specs.Explained.{Setting}
 use Rattle.dnsv_derivations.specs.derivations.SignerSearch.{IsFirstTo, IsLowestOf, IsSignatureAt}
 use Rattle.dnsv_derivations.specs.derivations.WaySearch.{number_or_end}
 use Rattle.dnsv_derivations.specs.derivations.Ways.{IsSigner}
 use Rattle.dnsv_derivations.specs.declared.derivations.signers.Signer.{Signer}
 use Rattle.dnsv_derivations.proofs.lemmas.IndexLemmas.{bound_past, bound_within, first_at_most, next_above, next_at_most, one_there}
-use Rattle.dnsv_derivations.proofs.lemmas.NumberedLemmas.{same_number}
 use Rattle.dnsv_derivations.proofs.lemmas.derivations.SignerLemmas.{signer_at}
 
 module _ (setting : Setting) (number : SignatureNumber) where
@@ -95,7 +94,7 @@ module _ (setting : Setting) (number : SignatureNumber) where
         → set.rtype ≡ 48
     key_set_there i within set numbered =
         let one = one_there setting.rrsets rrsig.signer 48 numbers are i within in
-        let same = same_number setting.rrsets (get_or numbers i 0) one.rrset set one.is_rrset numbered in
+        let same = one_numbered setting.rrsets (get_or numbers i 0) one.rrset set one.is_rrset numbered in
         sym (ap (λ (each : ReceivedRrset). each.rtype) same) ∙ one.same_type
 
     pub set_there : (i : ℕ) → i < length numbers → ¬ ((each : ReceivedRrset) → ¬ IsNumbered setting.rrsets (get_or numbers i 0) each)

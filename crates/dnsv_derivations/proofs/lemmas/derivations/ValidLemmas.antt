@@ -19,7 +19,7 @@ use Rattle.dnsv_derivations.specs.Explained.{Setting}
 use Rattle.dnsv_derivations.specs.derivations.NewKeys.{AreNewKeys, IsAmongNew, IsHadAbove}
 use Rattle.dnsv_derivations.specs.derivations.SignerSearch.{IsFirstTo, IsKeyAt, IsLowestValid, IsSignatureAt, IsSignedOver, IsValidKey}
 use Rattle.dnsv_derivations.specs.declared.derivations.ways.kept.NewKey.{NewKey}
-use Rattle.dnsv_derivations.proofs.lemmas.NumberedLemmas.{same_number}
+use Rattle.dnsv_canonical.proofs.NumberLemmas.{one_numbered}
 use Rattle.dnsv_derivations.proofs.lemmas.derivations.SignerLemmas.{as_known, itself_not_less, under_good}
 
 -- where it is good under no key there is none
@@ -42,7 +42,7 @@ module _ (meaning : Entry → Answer) (rrsig : Rrsig) (octets : List ℕ) (set :
       (λ (behind : n < i).
       let place : i ≡ n + 1 = omega (arith, behind, below) in
       let At : ℕ → Type 0 = λ m. IsNumbered keys m each in
-      subst P (same_number keys (n + 1) new each is_new (subst At place numbered)) last)
+      subst P (one_numbered keys (n + 1) new each is_new (subst At place numbered)) last)
       (λ (within : i ≤ n). earlier within)
       (cases_lt n i)
 

@@ -25,7 +25,8 @@ use Rattle.dnsv_derivations.specs.derivations.Ways.{HasSecured, IsWayInto, Way}
 use Rattle.dnsv_canonical.specs.declared.number.SignatureNumber.{SignatureNumber}
 use Rattle.dnsv_lines.specs.declared.line.derivation.Voucher.{Voucher}
 use Rattle.dnsv_lines.specs.declared.line.derivation.Voucher.TheVariants as voucher
-use Rattle.dnsv_derivations.proofs.lemmas.NumberedLemmas.{among, same_number}
+use Rattle.dnsv_derivations.proofs.lemmas.NumberedLemmas.{among}
+use Rattle.dnsv_canonical.proofs.NumberLemmas.{one_numbered}
 
 module _ (setting : Setting) where
   abbrev Trusted : ReceivedRrset → Type 0
@@ -58,7 +59,7 @@ module _ (setting : Setting) where
         → HasSecured setting number.rrset → Trusted is.set
     by_ds number digest_type ds (s, secured) =
         let same : secured.rrset ≡ ds.rrset =
-        same_number setting.rrsets number.rrset secured.rrset ds.rrset secured.numbered ds.at.is_rrset in
+        one_numbered setting.rrsets number.rrset secured.rrset ds.rrset secured.numbered ds.at.is_rrset in
         let Signed : ReceivedRrset → Type 0 = λ rrset. IsSignedUnder setting.meaning setting.moment rrset secured.good.key in
         let signed : Signed ds.rrset = subst Signed same (record {
           rrsig = secured.rrsig;

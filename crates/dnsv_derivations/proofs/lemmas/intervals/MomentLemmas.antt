@@ -80,16 +80,7 @@ module _ (setting : Setting) where
       let same : number ≡ signed.signature = cc in
       let Has : SignatureNumber → Type 0 = λ one. HasTimes setting.rrsets one times in
       good_is_valid signed.signature follows.rrset follows.key follows.good times (subst Has same has)
-  shown_is_valid before (line.Proof proof) follows times (number, is, has) = cc
-  shown_is_valid before (line.Part part) follows times (number, is, has) = cc
-  shown_is_valid before (line.Case cut) follows times (number, is, has) = cc
-  shown_is_valid before (line.Unusable ds) follows times (number, is, has) = cc
-  shown_is_valid before (line.Hope kind) follows times (number, is, has) = cc
-  shown_is_valid before (line.Holds interval) follows times (number, is, has) = cc
-  shown_is_valid before (line.Reason reason) follows times (number, is, has) = cc
-  shown_is_valid before (line.Follows untrusted) follows times (number, is, has) = cc
-  shown_is_valid before (line.Key key) follows times (number, is, has) = cc
-  shown_is_valid before (line.Rrset place) follows times (number, is, has) = cc
+  shown_is_valid before each follows times (number, is, has) = cc
 
   -- ---- another moment, or other answers
 
@@ -147,16 +138,11 @@ module _ (setting : Setting) where
       good = stays signed.signature refl follows.rrset follows.key follows.good;
       trusted = follows.trusted;
     }
-    follows_then before (line.Proof proof) stays follows = tt
     follows_then before (line.Part part) stays follows = follows
     follows_then before (line.Case cut) stays follows = follows
     follows_then before (line.Unusable ds) stays follows = follows
-    follows_then before (line.Hope kind) stays follows = tt
-    follows_then before (line.Holds interval) stays follows = tt
-    follows_then before (line.Reason reason) stays follows = tt
-    follows_then before (line.Follows untrusted) stays follows = tt
-    follows_then before (line.Key key) stays follows = tt
     follows_then before (line.Rrset place) stays follows = follows
+    follows_then before each stays follows = tt
 
     pub each_follows_then : (before lines : List Line)
         → ((each : Line) (number : SignatureNumber) → Contains lines each → signature_shown each ≡ Some number → Stays number)

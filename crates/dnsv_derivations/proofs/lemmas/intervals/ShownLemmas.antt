@@ -15,7 +15,7 @@ use Rattle.dnsv_lines.specs.declared.line.interval.Interval.{Interval}
 use Rattle.dnsv_derivations.specs.declared.interval.Times.{Times}
 use Rattle.dnsv_lines.specs.declared.line.Line.{Line}
 use Rattle.dnsv_canonical.specs.declared.number.SignatureNumber.{SignatureNumber}
-use Rattle.dnsv_derivations.proofs.lemmas.NumberedLemmas.{same_number}
+use Rattle.dnsv_canonical.proofs.NumberLemmas.{one_numbered}
 
 -- ---- the times of a signature
 
@@ -52,7 +52,7 @@ pub no_times : (rrsets : List ReceivedRrset) (number : SignatureNumber) (rrset :
     → ((rrsig : Rrsig) → ¬ IsNumbered rrsigs number.signature rrsig)
     → (times : Times) → ¬ HasTimes rrsets number times
 no_times rrsets number rrset rrsigs is_rrset zip none times has =
-    let same : has.rrset ≡ rrset = same_number rrsets number.rrset has.rrset rrset has.is_rrset is_rrset in
+    let same : has.rrset ≡ rrset = one_numbered rrsets number.rrset has.rrset rrset has.is_rrset is_rrset in
     let Numbered : ReceivedRrset → Type 0 = λ each. IsNumbered each.signatures number.signature has.rdata in
     let numbered : Numbered rrset = subst Numbered same has.is_signature in
     let there = read_at rrset.signatures rrsigs (number.signature - 1) has.rdata zip numbered.1 in
@@ -79,10 +79,10 @@ pub one_times : (rrsets : List ReceivedRrset) (number : SignatureNumber) (a b : 
     → HasTimes rrsets number b → a ≡ b
 one_times rrsets number a b first second =
     let same : first.rrset ≡ second.rrset =
-    same_number rrsets number.rrset first.rrset second.rrset first.is_rrset second.is_rrset in
+    one_numbered rrsets number.rrset first.rrset second.rrset first.is_rrset second.is_rrset in
     let Numbered : ReceivedRrset → Type 0 = λ each. IsNumbered each.signatures number.signature first.rdata in
     let octets : first.rdata ≡ second.rdata =
-    same_number second.rrset.signatures number.signature first.rdata second.rdata (subst Numbered same first.is_signature) second.is_signature in
+    one_numbered second.rrset.signatures number.signature first.rdata second.rdata (subst Numbered same first.is_signature) second.is_signature in
     let Read : List ℕ → Type 0 = λ each. IsRrsig each first.rrsig in
     let rrsig : first.rrsig ≡ second.rrsig =
     one_rrsig second.rdata first.rrsig second.rrsig (subst Read octets first.read) second.read in

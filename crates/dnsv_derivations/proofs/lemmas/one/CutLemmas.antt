@@ -17,7 +17,8 @@ use Rattle.dnsv_derivations.specs.Saying.{AreBoth}
 use Rattle.dnsv_derivations.specs.derivations.Derivations.{IsLowestSecured}
 use Rattle.dnsv_derivations.specs.derivations.OwnDerivations.{IsSignatureTold}
 use Rattle.dnsv_derivations.specs.unsigned_cuts.ShownCuts.{IsCutTold}
-use Rattle.dnsv_derivations.specs.unsigned_cuts.UnsignedCuts.{AreAllTold, AreToldFrom, IsCaseTold, IsUnusableTold, record_of}
+use Rattle.dnsv_derivations.specs.unsigned_cuts.UnsignedCuts.{AreAllTold, AreToldFrom, IsCaseTold, IsUnusableTold}
+use Rattle.dnsv_derivations.specs.derivations.Ways.{record_at}
 use Rattle.dnsv_lines.specs.declared.line.Line.{Line}
 use Rattle.dnsv_lines.specs.declared.line.Line.TheVariants as line
 use Rattle.dnsv_lines.specs.declared.line.cut.InsecureCase.TheVariants as case
@@ -35,12 +36,10 @@ use Rattle.dnsv_derivations.proofs.lemmas.one.TrustedLemmas.{AreApart, one_recor
 
 one_why : (u v : WhyUnusable) (records : List Ds) (ds : Ds) → IsWhy u records ds → IsWhy v records ds → u ≡ v
 one_why why.Algorithm why.Algorithm records ds x y = refl
-one_why why.Algorithm why.DigestType records ds x y = absurd (x y.0)
-one_why why.Algorithm why.DigestIgnored records ds x y = absurd (x y.0)
-one_why why.DigestType why.Algorithm records ds x y = absurd (y x.0)
 one_why why.DigestType why.DigestType records ds x y = refl
 one_why why.DigestType why.DigestIgnored records ds x y = absurd (x.1 y.1)
-one_why why.DigestIgnored why.Algorithm records ds x y = absurd (y x.0)
+one_why u why.Algorithm records ds x y = absurd (y x.0)
+one_why why.Algorithm v records ds x y = absurd (x y.0)
 one_why why.DigestIgnored why.DigestType records ds x y = absurd (y.1 x.1)
 one_why why.DigestIgnored why.DigestIgnored records ds x y = refl
 
@@ -78,7 +77,7 @@ module _ (rrsets : List ReceivedRrset) where
         λ i. head i ∷ tail i
 
     abbrev EndsBy : ℕ → Type 0
-    EndsBy n = (place : ℕ) (rrset : ReceivedRrset) (rdata : List ℕ) → IsRecordAt rrsets (record_of k place) rrset rdata → place ≤ n
+    EndsBy n = (place : ℕ) (rrset : ReceivedRrset) (rdata : List ℕ) → IsRecordAt rrsets (record_at k place) rrset rdata → place ≤ n
 
     within : (place n : ℕ) (told : List UnusableDs) → place ≤ n + 1 → EndsBy n → AreToldFrom rrsets k place told → place + length told ≤ n + 1
     within place n [] begins ends each = omega (arith, begins)

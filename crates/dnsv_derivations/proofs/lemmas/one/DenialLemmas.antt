@@ -22,7 +22,7 @@ use Rattle.dnsv_lines.specs.declared.line.denial.Part.{Part}
 use Rattle.dnsv_lines.specs.declared.line.denial.Proof.{Proof}
 use Rattle.dnsv_lines.specs.declared.line.denial.RecordPlace.{RecordPlace}
 use Rattle.dnsv_canonical.specs.declared.number.SignatureNumber.{SignatureNumber}
-use Rattle.dnsv_derivations.proofs.lemmas.NumberedLemmas.{same_number}
+use Rattle.dnsv_canonical.proofs.NumberLemmas.{one_numbered}
 use Rattle.dnsv_derivations.proofs.lemmas.one.DerivationLemmas.{one_records, one_signature}
 use Rattle.dnsv_derivations.proofs.lemmas.one.StepLemmas.{IsOne, one_both, one_each, one_once}
 use Rattle.dnsv_derivations.proofs.lemmas.one.TrustedLemmas.{AreApart}
@@ -69,7 +69,7 @@ module _ (rrsets : List ReceivedRrset) where
       let number : a.number ≡ b.number = at ∙ sym there in
       let Of : RecordNumber → Type 0 = λ each. IsNumbered rrsets each.rrset x.rrset in
       let rrset : x.rrset ≡ y.rrset =
-      same_number rrsets b.number.rrset x.rrset y.rrset (subst Of number x.is_rrset) y.is_rrset in
+      one_numbered rrsets b.number.rrset x.rrset y.rrset (subst Of number x.is_rrset) y.is_rrset in
       let owner : a.owner ≡ b.owner = x.owner ∙ ap (λ (each : ReceivedRrset). each.owner) rrset ∙ sym y.owner in
       let rtype : a.rtype.0 ≡ b.rtype.0 = x.rtype ∙ ap (λ (each : ReceivedRrset). each.rtype) rrset ∙ sym y.rtype in
       λ i. record { owner = owner i; rtype = record { 0 = rtype i }; number = number i }

@@ -9,7 +9,7 @@ use Rattle.dnsv_derivations.specs.derivations.Ways.{IsSignedLine}
 use Rattle.dnsv_names.specs.Name.{Labels}
 use Rattle.dnsv_canonical.specs.declared.number.SignatureNumber.{SignatureNumber}
 use Rattle.dnsv_lines.specs.declared.line.derivation.SignedRrset.{SignedRrset}
-use Rattle.dnsv_derivations.proofs.lemmas.NumberedLemmas.{same_number}
+use Rattle.dnsv_canonical.proofs.NumberLemmas.{one_numbered}
 use Rattle.dnsv_derivations.proofs.lemmas.derivations.WayLemmas.SearchLemmas.{one_key}
 use Rattle.dnsv_derivations.proofs.lemmas.one.StepLemmas.{even}
 use Rattle.dnsv_derivations.proofs.lemmas.one.TrustedLemmas.{AreApart, good_entry, one_name, one_todo, same_rdata}
@@ -42,11 +42,11 @@ module _ (setting : Setting) where
       same_rdata x.key.rdata y.key.rdata (y.first.lowest a.keys x.key one) (x.first.lowest b.keys y.key other) in
       let keys : a.keys ≡ b.keys = one_keys number a b x y in
       let At : ℕ → Type 0 = λ k. IsNumbered setting.rrsets k one.set in
-      let set : one.set ≡ other.set = same_number setting.rrsets b.keys one.set other.set (subst At keys one.is_set) other.is_set in
+      let set : one.set ≡ other.set = one_numbered setting.rrsets b.keys one.set other.set (subst At keys one.is_set) other.is_set in
       let Of : ReceivedRrset → Type 0 = λ each. IsKeyOf each x.key in
       let key : x.key ≡ y.key = one_key other.set x.key y.key (subst Of set one.stands) other.stands rdata in
       let rrset : one.rrset ≡ other.rrset =
-      same_number setting.rrsets number.rrset one.rrset other.rrset one.good.is_rrset other.good.is_rrset in
+      one_numbered setting.rrsets number.rrset one.rrset other.rrset one.good.is_rrset other.good.is_rrset in
       let entry = good_entry setting number number one.rrset other.rrset x.key y.key refl key one.good other.good in
       let owner : a.owner ≡ b.owner = x.owner ∙ ap (λ (each : ReceivedRrset). each.owner) rrset ∙ sym y.owner in
       let rtype : a.rtype.0 ≡ b.rtype.0 = x.rtype ∙ ap (λ (each : ReceivedRrset). each.rtype) rrset ∙ sym y.rtype in

@@ -27,14 +27,14 @@ use Rattle.dnsv_denial.specs.words.EvidenceWords.{number_cmp}
 use Rattle.dnsv_canonical.specs.declared.number.RecordNumber.{RecordNumber}
 use Rattle.dnsv_derivations.specs.Explained.{IsTodo, Setting}
 use Rattle.dnsv_derivations.specs.Following.{IsDsMatch, IsGoodUnder, IsNamed}
-use Rattle.dnsv_derivations.specs.derivations.WaySearch.{record_at}
-use Rattle.dnsv_derivations.specs.derivations.Ways.{IsFirstWay, IsTrustedLine, IsWayInto, Way, voucher_rank}
+use Rattle.dnsv_derivations.specs.derivations.Ways.{IsFirstWay, IsTrustedLine, IsWayInto, Way, record_at, voucher_rank}
 use Rattle.dnsv_lines.specs.declared.line.derivation.KeyName.{KeyName}
 use Rattle.dnsv_canonical.specs.declared.number.SignatureNumber.{SignatureNumber}
 use Rattle.dnsv_lines.specs.declared.line.derivation.TrustedKeys.{TrustedKeys}
 use Rattle.dnsv_lines.specs.declared.line.derivation.Voucher.{Voucher}
 use Rattle.dnsv_lines.specs.declared.line.derivation.Voucher.TheVariants as voucher
-use Rattle.dnsv_derivations.proofs.lemmas.NumberedLemmas.{among, same_number}
+use Rattle.dnsv_derivations.proofs.lemmas.NumberedLemmas.{among}
+use Rattle.dnsv_canonical.proofs.NumberLemmas.{one_numbered}
 use Rattle.dnsv_derivations.proofs.lemmas.derivations.WayLemmas.FirstLemmas.{Matched}
 use Rattle.dnsv_derivations.proofs.lemmas.derivations.WayLemmas.SearchLemmas.{one_key}
 use Rattle.dnsv_derivations.proofs.lemmas.one.StepLemmas.{even}
@@ -89,10 +89,10 @@ pub one_signature_at : (rrsets : List ReceivedRrset) (m n : SignatureNumber) (r 
     → SignatureAt rrsets m r x g → SignatureAt rrsets n s y h → (r ≡ s) × (g ≡ h)
 one_signature_at rrsets m n r s x y g h number first second =
     let Rrset : SignatureNumber → Type 0 = λ each. IsNumbered rrsets each.rrset r in
-    let rrset : r ≡ s = same_number rrsets n.rrset r s (subst Rrset number first.0) second.0 in
+    let rrset : r ≡ s = one_numbered rrsets n.rrset r s (subst Rrset number first.0) second.0 in
     let Signature : SignatureNumber → Type 0 = λ each. IsNumbered r.signatures each.signature x in
     let In : ReceivedRrset → Type 0 = λ each. IsNumbered each.signatures n.signature x in
-    let rdata : x ≡ y = same_number s.signatures n.signature x y (subst In rrset (subst Signature number first.1)) second.1 in
+    let rdata : x ≡ y = one_numbered s.signatures n.signature x y (subst In rrset (subst Signature number first.1)) second.1 in
     let Read : List ℕ → Type 0 = λ octets. IsRrsig octets g in
     (rrset, one_rrsig y g h (subst Read rdata first.2) second.2)
 
@@ -122,7 +122,7 @@ module _ (setting : Setting) where
   one_anchor : (m n : ℕ) (a b : Anchor) → record_at 0 m ≡ record_at 0 n → IsNumbered setting.anchors m a → IsNumbered setting.anchors n b → a ≡ b
   one_anchor m n a b same x y =
       let At : RecordNumber → Type 0 = λ number. IsNumbered setting.anchors number.place a in
-      same_number setting.anchors n a b (subst At same x) y
+      one_numbered setting.anchors n a b (subst At same x) y
 
   -- no DS RRset has the number of anchors
   never_anchor : (m : ℕ) (n : RecordNumber) (d : DigestType) (key : DnskeyRecord) → record_at 0 m ≡ n → IsDsMatch setting n d key → ⊥
@@ -154,7 +154,7 @@ module _ (setting : Setting) where
 
   module _ (k : ℕ) where
     one_set : (a b : Way) (x : IsWayInto setting k a) (y : IsWayInto setting k b) → x.set ≡ y.set
-    one_set a b x y = same_number setting.rrsets k x.set y.set x.good.is_rrset y.good.is_rrset
+    one_set a b x y = one_numbered setting.rrsets k x.set y.set x.good.is_rrset y.good.is_rrset
 
     -- the first way is one
     pub one_way : (a b : Way) → IsFirstWay setting k a → IsFirstWay setting k b → a ≡ b

@@ -1,7 +1,7 @@
 -- DS RRsets of which no record can be used.
 use Rattle.std.proofs.Common.{◌≡◌, ◌<◌, ◌≤◌, ◌+◌, ◌-◌, ◌⊎◌, inl, inr, ℕ, zero, suc, List, [], ◌∷◌, ◌++◌, Option, Some, None, length, map, get_or, refl, sym, ap, ◌∙◌, subst, ⊎_elim, append_assoc, arith}
 use Rattle.std.proofs.lemmas.Bool.{cases_lt}
-use Rattle.std.proofs.lemmas.List.{append-nil, length-append, map-append}
+use Rattle.std.proofs.lemmas.List.{length-append, map-append}
 use Rattle.std.proofs.lemmas.Option.{get_or_from_slice_get, slice_get_within}
 use Rattle.std.specs.List.{AllByRecursion, AllZip, Contains, slice_get}
 use Rattle.std.specs.Prelude.{IsTrue}
@@ -22,7 +22,8 @@ use Rattle.dnsv_derivations.specs.derivations.OwnDerivations.{IsSignatureTold, S
 use Rattle.dnsv_derivations.specs.derivations.Derivations.{IsLowestSecured}
 use Rattle.dnsv_derivations.specs.Following.Parts.{IsUnusableRecord, IsWhy}
 use Rattle.dnsv_derivations.specs.Saying.{Adds, AreBoth}
-use Rattle.dnsv_derivations.specs.unsigned_cuts.UnsignedCuts.{AreAllTold, AreFirstTold, AreToldFrom, IsCaseTold, IsFirstUnusable, IsUnusableSet, IsUnusableTold, record_of}
+use Rattle.dnsv_derivations.specs.unsigned_cuts.UnsignedCuts.{AreAllTold, AreFirstTold, AreToldFrom, IsCaseTold, IsFirstUnusable, IsUnusableSet, IsUnusableTold}
+use Rattle.dnsv_derivations.specs.derivations.Ways.{record_at}
 use Rattle.dnsv_derivations.specs.derivations.WaySearch.{MayDelegate}
 use Rattle.dnsv_lines.specs.declared.line.Line.{Line}
 use Rattle.dnsv_lines.specs.declared.line.Line.TheVariants as line
@@ -31,7 +32,7 @@ use Rattle.dnsv_lines.specs.declared.line.cut.UnusableDs.{UnusableDs}
 use Rattle.dnsv_canonical.specs.declared.number.SignatureNumber.{SignatureNumber}
 use Rattle.dnsv_derivations.proofs.lemmas.derivations.ClimbLemmas.{number_is}
 use Rattle.dnsv_derivations.proofs.lemmas.SayingLemmas.{both_added}
-use Rattle.dnsv_derivations.proofs.lemmas.NumberedLemmas.{same_number}
+use Rattle.dnsv_canonical.proofs.NumberLemmas.{one_numbered}
 use Rattle.dnsv_derivations.proofs.lemmas.derivations.WayLemmas.KeysLemmas.{mapped_long, mapped_there, read_there}
 use Rattle.dnsv_derivations.proofs.lemmas.derivations.WayLemmas.RankLemmas.{ds_read, forms_of}
 use Rattle.dnsv_records.specs.Algorithm.{is_supported}
@@ -140,7 +141,7 @@ module _ (setting : Setting) (name : Labels) where
     }
 
     same_set : (is : IsUnusableSet setting name k) → is.ds ≡ ds
-    same_set is = same_number setting.rrsets k is.ds ds is.is_ds numbered
+    same_set is = one_numbered setting.rrsets k is.ds ds is.is_ds numbered
 
     pub set_delegates : IsUnusableSet setting name k → MayDelegate setting k ds name
     set_delegates is =
@@ -159,28 +160,25 @@ module _ (setting : Setting) (name : Labels) where
 -- ---- why its records can't be used
 
 told_more : (rrsets : List ReceivedRrset) (k place : ℕ) (told : List UnusableDs) (unusable : UnusableDs)
-    → AreToldFrom rrsets k place told → unusable.number ≡ record_of k (place + length told) → IsUnusableRecord rrsets unusable
+    → AreToldFrom rrsets k place told → unusable.number ≡ record_at k (place + length told) → IsUnusableRecord rrsets unusable
     → AreToldFrom rrsets k place (told ++ unusable ∷ [])
 told_more rrsets k place [] unusable each number is =
-    let At : ℕ → Type 0 = λ n. unusable.number ≡ record_of k n in
+    let At : ℕ → Type 0 = λ n. unusable.number ≡ record_at k n in
     let here : place + 0 ≡ place = omega arith in
     (subst At here number, is, tt)
 told_more rrsets k place (one ∷ told) unusable each number is =
-    let At : ℕ → Type 0 = λ n. unusable.number ≡ record_of k n in
+    let At : ℕ → Type 0 = λ n. unusable.number ≡ record_at k n in
     let there : place + suc (length told) ≡ (place + 1) + length told = omega arith in
     (each.0, each.1, told_more rrsets k (place + 1) told unusable each.2 (subst At there number) is)
 
 module _ (rrsets : List ReceivedRrset) (k : ℕ) (old : List Line) where
-  pub none_told : Adds (AreFirstTold rrsets k 0) old old
-  none_told = record { more = []; is = sym (append-nil old); says = record { told = []; are = refl; count = refl; each = tt } }
-
   pub one_told : (n : ℕ) (mid new : List Line) (unusable : UnusableDs) → new ≡ mid ++ line.Unusable unusable ∷ []
-      → unusable.number ≡ record_of k (n + 1) → IsUnusableRecord rrsets unusable → Adds (AreFirstTold rrsets k n) old mid
+      → unusable.number ≡ record_at k (n + 1) → IsUnusableRecord rrsets unusable → Adds (AreFirstTold rrsets k n) old mid
       → Adds (AreFirstTold rrsets k (n + 1)) old new
   one_told n mid new unusable pushed number is added =
       let said = added.says in
       let size = said.count in
-      let At : ℕ → Type 0 = λ place. unusable.number ≡ record_of k place in
+      let At : ℕ → Type 0 = λ place. unusable.number ≡ record_at k place in
       let place : n + 1 ≡ 1 + length said.told = omega (arith, size) in
       let long = length-append said.told (unusable ∷ []) in
       record {
@@ -201,7 +199,7 @@ module _ {X : Type 0} (rdata : X → List ℕ) (record_read : X → Ds) (rrsets 
     (records items : List X) (same : items ≡ records) (canonical : IsCanonical ds.rdata (map rdata records))
     (are_read : AllByRecursion (λ x. IsDs (rdata x) (record_read x)) records) where
   record_at : (place : ℕ) (x : X) → place < length items → x ≡ get_or items place x
-      → IsRecordAt rrsets (record_of k (place + 1)) ds (rdata x)
+      → IsRecordAt rrsets (record_at k (place + 1)) ds (rdata x)
   record_at place x within at =
       let AtPlace : ℕ → Type 0 = λ p. slice_get (map rdata records) p ≡ Some (rdata x) in
       let here : place ≡ place + 1 - 1 = omega arith in record {
@@ -212,7 +210,7 @@ module _ {X : Type 0} (rdata : X → List ℕ) (record_read : X → Ds) (rrsets 
       }
 
   pub unusable_at : (place : ℕ) (x : X) (unusable : UnusableDs) → place < length items → x ≡ get_or items place x
-      → unusable.number ≡ record_of k (place + 1) → unusable.owner ≡ ds.owner → IsWhy unusable.why values (record_read x)
+      → unusable.number ≡ record_at k (place + 1) → unusable.owner ≡ ds.owner → IsWhy unusable.why values (record_read x)
       → unusable.key.tag.0 ≡ (record_read x).key_tag.0 → unusable.key.algorithm.0 ≡ (record_read x).algorithm.0
       → unusable.digest_type.0 ≡ (record_read x).digest_type.0 → IsUnusableRecord rrsets unusable
   unusable_at place x unusable within at number owner why tag algorithm digest_type =
@@ -241,7 +239,7 @@ module _ {X : Type 0} (rdata : X → List ℕ) (record_read : X → Ds) (rrsets 
       n = n;
       first = added.says;
       every = λ place rrset octets at.
-          let same_rrset : rrset ≡ ds = same_number rrsets k rrset ds at.is_rrset numbered in
+          let same_rrset : rrset ≡ ds = one_numbered rrsets k rrset ds at.is_rrset numbered in
           let Canonical : ReceivedRrset → Type 0 = λ one. IsCanonical (map (canonical_form one.rtype) one.rdata) at.canonical in
           let lists : at.canonical ≡ map rdata records =
           canonical_unique (map (canonical_form ds.rtype) ds.rdata) at.canonical (map rdata records) (subst Canonical same_rrset at.is_canonical)

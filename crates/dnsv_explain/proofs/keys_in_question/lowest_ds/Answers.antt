@@ -1,7 +1,7 @@
 use Rattle.std.proofs.Common.{◌+◌, subst}
 use Rattle.dnsv_derivations.specs.Explained.{setting_in}
 use Rattle.dnsv_explain.specs.KeyLines.{IsLowestOf, IsMatchedByDs}
-use Rattle.dnsv_derivations.specs.unsigned_cuts.UnsignedCuts.{record_of}
+use Rattle.dnsv_derivations.specs.derivations.Ways.{record_at}
 use Rattle.dnsv_derivations.proofs.lemmas.NumberedLemmas.{all_passed, numbered_at}
 use Rattle.dnsv_explain.proofs.lemmas.keys.ShownKeyLemmas.{ds_lowest, no_ds_at_all, no_ds_first, no_ds_next}
 use Rattle.dnsv_explain.proofs.keys_in_question.lowest_ds.Goals as goal
@@ -17,13 +17,13 @@ lowest_match-requires c =
 pub returns-in-Some : goal.returns-in-Some
 returns-in-Some c =
     ds_lowest (setting_in c.args.evidence.now) c.args.key.now c.loop-before.before c.in-Some.place
-    (subst (IsLowestOf (λ place. IsMatchedByDs (setting_in c.args.evidence.now) c.args.key.now (record_of (c.loop-before.before + 1) place))) c.in-Some.is c.in_ok-place.ensures)
+    (subst (IsLowestOf (λ place. IsMatchedByDs (setting_in c.args.evidence.now) c.args.key.now (record_at (c.loop-before.before + 1) place))) c.in-Some.is c.in_ok-place.ensures)
     c.loop-before.invariant
 
 pub loop-before-preserved : goal.loop-before-preserved
 loop-before-preserved c =
     no_ds_next (setting_in c.args.evidence.now) c.args.key.now c.loop-before.before
-    (subst (IsLowestOf (λ place. IsMatchedByDs (setting_in c.args.evidence.now) c.args.key.now (record_of (c.loop-before.before + 1) place))) c.in_default.is c.in_ok-place.ensures)
+    (subst (IsLowestOf (λ place. IsMatchedByDs (setting_in c.args.evidence.now) c.args.key.now (record_at (c.loop-before.before + 1) place))) c.in_default.is c.in_ok-place.ensures)
     c.loop-before.invariant
 
 pub returns : goal.returns

@@ -5,7 +5,7 @@ use Rattle.dnsv_chain.specs.Ds.{IsMatch}
 use Rattle.dnsv_derivations.specs.Explained.{setting_in}
 use Rattle.dnsv_explain.specs.KeyLines.{IsMatchedByDs}
 use Rattle.dnsv_derivations.proofs.lemmas.derivations.WayLemmas.ReadLemmas.{record_said, record_within, same_record}
-use Rattle.dnsv_derivations.specs.unsigned_cuts.UnsignedCuts.{record_of}
+use Rattle.dnsv_derivations.specs.derivations.Ways.{record_at}
 use Rattle.dnsv_explain.proofs.lemmas.keys.LowestLemmas.{found, none_first, none_found, none_next}
 use Rattle.dnsv_explain.proofs.lemmas.keys.ShownKeyLemmas.{ds_counted}
 use Rattle.dnsv_explain.proofs.keys_in_question.lowest_in.Goals as goal
@@ -13,12 +13,12 @@ use Rattle.dnsv_explain.proofs.keys_in_question.lowest_in.Goals as goal
 pub loop-place-init : goal.loop-place-init
 loop-place-init c =
     let setting = setting_in c.args.evidence.now in
-    none_first (λ place. IsMatchedByDs setting c.args.key.now (record_of c.args.number place))
+    none_first (λ place. IsMatchedByDs setting c.args.key.now (record_at c.args.number place))
     (ds_counted setting c.args.key.now c.args.number c.args.ds.now c.requires)
 
 pub loop-place-preserved : goal.loop-place-preserved
 loop-place-preserved c =
-    none_next (λ place. IsMatchedByDs (setting_in c.args.evidence.now) c.args.key.now (record_of c.args.number place)) c.loop-place.place
+    none_next (λ place. IsMatchedByDs (setting_in c.args.evidence.now) c.args.key.now (record_at c.args.number place)) c.loop-place.place
     (λ is.
     let both = same_record (λ each. each.rdata.now) (λ each. each.record.now) (setting_in c.args.evidence.now) c.args.number c.args.ds.now c.requires
     (sym c.rtype.ensures ∙ eqb-true _ _ (not-false _ (sym c.ne.ensures ∙ c.if-ne.false)))
@@ -33,7 +33,7 @@ pub returns-then-is_usable_match : goal.returns-then-is_usable_match
 returns-then-is_usable_match c =
     let Matches : Labels → Type 0 = λ owner. IsMatch owner c.each-item.result.record.now c.args.key.now in
     let both = c.is_usable_match.ensures.0 c.if-is_usable_match.true in
-    found (λ place. IsMatchedByDs (setting_in c.args.evidence.now) c.args.key.now (record_of c.args.number place)) c.loop-place.place (
+    found (λ place. IsMatchedByDs (setting_in c.args.evidence.now) c.args.key.now (record_at c.args.number place)) c.loop-place.place (
       _,
       record_said (λ each. each.rdata.now) (λ each. each.record.now) (setting_in c.args.evidence.now) c.args.number c.args.ds.now c.requires
           (sym c.rtype.ensures ∙ eqb-true _ _ (not-false _ (sym c.ne.ensures ∙ c.if-ne.false)))
@@ -45,7 +45,7 @@ returns-then-is_usable_match c =
 
 pub returns : goal.returns
 returns c =
-    none_found (λ place. IsMatchedByDs (setting_in c.args.evidence.now) c.args.key.now (record_of c.args.number place)) c.loop-place.place
+    none_found (λ place. IsMatchedByDs (setting_in c.args.evidence.now) c.args.key.now (record_at c.args.number place)) c.loop-place.place
     (length c.deref-each-items.result.now)
     (λ place is. record_within (λ each. each.rdata.now) (λ each. each.record.now) (setting_in c.args.evidence.now) c.args.number c.args.ds.now c.requires
     (sym c.rtype.ensures ∙ eqb-true _ _ (not-false _ (sym c.ne.ensures ∙ c.if-ne.false)))

@@ -1,14 +1,8 @@
 -- Lists of what is so, and loops that make them.
-use Rattle.std.proofs.Common.{◌≡◌, ◌<◌, ◌≤◌, ◌+◌, ℕ, Bool, true, false, cond, List, [], ◌∷◌, ◌++◌, length, map, filter, take, get_or, refl, sym, ap, ◌∙◌, subst, arith, append_assoc}
-use Rattle.std.proofs.lemmas.List.{append-nil, length-take-le, map-append, take_all, take_more}
-use Rattle.std.proofs.lemmas.List.Elements.{filter-append}
+use Rattle.std.proofs.Common.{◌≡◌, ◌<◌, ◌≤◌, ◌+◌, ℕ, List, [], ◌∷◌, ◌++◌, length, take, get_or, refl, sym, ap, ◌∙◌, subst, arith, append_assoc}
+use Rattle.std.proofs.lemmas.List.{append-nil, length-take-le, take_all, take_more}
 use Rattle.dnsv_explain.specs.Listing.{AddsThose, AreOfNumbered}
 use Rattle.dnsv_lines.specs.declared.line.Line.{Line}
-
--- ---- the same list by another name
-
-pub past_in : {X : Type 0} (all xs : List X) → xs ≡ all → (n : ℕ) → length xs ≤ n → length all ≤ n
-past_in {X = X} all xs same n past = let Past : List X → Type 0 = λ each. length each ≤ n in subst Past same past
 
 -- ---- a list for each
 
@@ -52,9 +46,6 @@ module _ {X Y : Type 0} (Are : ℕ → X → List Y → Type 0) where
 
 -- ---- lines that are added
 
-pub none_added : (Are : List Line → Type 0) (old : List Line) → Are [] → AddsThose Are old old
-none_added Are old are = record { more = []; is = sym (append-nil old); says = are }
-
 -- what was added is such by another name
 pub added_as : (Are Others : List Line → Type 0) (old new : List Line) → ((lines : List Line) → Are lines → Others lines)
     → AddsThose Are old new → AddsThose Others old new
@@ -74,37 +65,3 @@ module _ {X : Type 0} (Are : ℕ → X → List Line → Type 0) where
       → AddsThose (AreOfNumbered Are 1 (take n xs)) old new → AddsThose (AreOfNumbered Are 1 xs) old new
   all_added xs n old new past =
       added_as (AreOfNumbered Are 1 (take n xs)) (AreOfNumbered Are 1 xs) old new (λ lines. numbered_all Are xs n lines past)
-
-  -- the same of a list by another name
-  module _ (all xs : List X) (same : xs ≡ all) where
-    pub all_in : (n : ℕ) (old new : List Line) → length xs ≤ n → AddsThose (AreOfNumbered Are 1 (take n all)) old new
-        → AddsThose (AreOfNumbered Are 1 all) old new
-    all_in n old new past = all_added all n old new (past_in all xs same n past)
-
--- ---- a loop that takes those of pairs whose test is true
-
-module _ {X : Type 0} (pairs : List (X × Bool)) (i : ℕ) (d each : X × Bool) (within : i < length pairs) (at : each ≡ get_or pairs i d) where
-  abbrev taken : List (X × Bool) → List X
-  taken some = map (λ (p : X × Bool). p.0) (filter (λ (p : X × Bool). p.1) some)
-
-  one_longer : filter (λ (p : X × Bool). p.1) (take (i + 1) pairs)
-      ≡ filter (λ (p : X × Bool). p.1) (take i pairs) ++ cond each.1 (each ∷ []) []
-  one_longer =
-      let longer : take (i + 1) pairs ≡ take i pairs ++ each ∷ [] =
-      take_more pairs i d within ∙ ap (λ p. take i pairs ++ p ∷ []) (sym at) in
-      ap (filter (λ (p : X × Bool). p.1)) longer ∙ filter-append (λ (p : X × Bool). p.1) (take i pairs) (each ∷ [])
-
-  pub one_taken : (xs new : List X) → xs ≡ taken (take i pairs) → each.1 ≡ true → new ≡ xs ++ each.0 ∷ [] → new ≡ taken (take (i + 1) pairs)
-  one_taken xs new so_far is pushed =
-      let before = filter (λ (p : X × Bool). p.1) (take i pairs) in
-      let After : Bool → List (X × Bool) = λ b. before ++ cond b (each ∷ []) [] in
-      let all : filter (λ (p : X × Bool). p.1) (take (i + 1) pairs) ≡ before ++ each ∷ [] = one_longer ∙ ap After is in
-      pushed ∙ ap (λ front. front ++ each.0 ∷ []) so_far ∙ sym (map-append (λ (p : X × Bool). p.0) before (each ∷ []))
-      ∙ ap (map (λ (p : X × Bool). p.0)) (sym all)
-
-  pub none_taken : (xs : List X) → xs ≡ taken (take i pairs) → each.1 ≡ false → xs ≡ taken (take (i + 1) pairs)
-  none_taken xs so_far isnt =
-      let before = filter (λ (p : X × Bool). p.1) (take i pairs) in
-      let After : Bool → List (X × Bool) = λ b. before ++ cond b (each ∷ []) [] in
-      let all : filter (λ (p : X × Bool). p.1) (take (i + 1) pairs) ≡ before ++ [] = one_longer ∙ ap After isnt in
-      so_far ∙ ap (map (λ (p : X × Bool). p.0)) (sym (all ∙ append-nil before))

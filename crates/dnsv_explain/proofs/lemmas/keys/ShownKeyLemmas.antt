@@ -15,8 +15,8 @@ use Rattle.dnsv_canonical.specs.declared.number.RecordNumber.{RecordNumber}
 use Rattle.dnsv_derivations.specs.Explained.{Setting}
 use Rattle.dnsv_verifier.specs.Admissible.{DnskeyRecord}
 use Rattle.dnsv_explain.specs.KeyLines.{IsLowestDs, IsLowestOf, IsMatchedByAnchor, IsMatchedByDs}
-use Rattle.dnsv_derivations.specs.unsigned_cuts.UnsignedCuts.{record_of}
-use Rattle.dnsv_derivations.proofs.lemmas.NumberedLemmas.{same_number}
+use Rattle.dnsv_derivations.specs.derivations.Ways.{record_at}
+use Rattle.dnsv_canonical.proofs.NumberLemmas.{one_numbered}
 use Rattle.dnsv_derivations.proofs.lemmas.derivations.WayLemmas.RankLemmas.{ds_read}
 
 module _ (setting : Setting) (key : DnskeyRecord) where
@@ -34,16 +34,16 @@ module _ (setting : Setting) (key : DnskeyRecord) where
       → ¬ IsMatchedByAnchor setting key (i + 1)
   anchor_never i anchor numbered never = λ is.
       let Matches : Anchor → Type 0 = λ each. IsAnchorMatch each key in
-      never (subst Matches (same_number setting.anchors (i + 1) is.0 anchor is.1 numbered) is.2)
+      never (subst Matches (one_numbered setting.anchors (i + 1) is.0 anchor is.1 numbered) is.2)
 
   -- ---- DS records
 
   module _ (k : ℕ) (ds : ReceivedRrset) (is_ds : IsNumbered setting.rrsets k ds) where
     abbrev ByDs : ℕ → Type 0
-    ByDs place = IsMatchedByDs setting key (record_of k place)
+    ByDs place = IsMatchedByDs setting key (record_at k place)
 
     its_rrset : (place : ℕ) (is : ByDs place) → is.1.rrset ≡ ds
-    its_rrset place is = same_number setting.rrsets k is.1.rrset ds is.1.at.is_rrset is_ds
+    its_rrset place is = one_numbered setting.rrsets k is.1.rrset ds is.1.at.is_rrset is_ds
 
     pub ds_counted : (place : ℕ) → ByDs place → 1 ≤ place
     ds_counted place is = is.1.at.is_rdata.0
@@ -70,18 +70,18 @@ module _ (setting : Setting) (key : DnskeyRecord) where
   pub no_ds_first : NoneTo 0
   no_ds_first number below is = let one = is.1.at.is_rrset.0 in absurd (omega (arith, one, below))
 
-  pub no_ds_next : (n : ℕ) → IsLowestOf (λ place. IsMatchedByDs setting key (record_of (n + 1) place)) None → NoneTo n → NoneTo (n + 1)
+  pub no_ds_next : (n : ℕ) → IsLowestOf (λ place. IsMatchedByDs setting key (record_at (n + 1) place)) None → NoneTo n → NoneTo (n + 1)
   no_ds_next n last none number below is =
-      let By : ℕ → Type 0 = λ r. IsMatchedByDs setting key (record_of r number.place) in
+      let By : ℕ → Type 0 = λ r. IsMatchedByDs setting key (record_at r number.place) in
       let earlier : ¬ (number.rrset ≤ n) = λ within. none number within is in
       let here : number.rrset ≢ n + 1 = λ same. last number.place (subst By same is) in grind (arith, nat_tests, below, earlier, here)
 
-  pub ds_lowest : (n place : ℕ) → IsLowestOf (λ p. IsMatchedByDs setting key (record_of (n + 1) p)) (Some place) → NoneTo n
-      → IsLowestDs setting key (Some (record_of (n + 1) place))
+  pub ds_lowest : (n place : ℕ) → IsLowestOf (λ p. IsMatchedByDs setting key (record_at (n + 1) p)) (Some place) → NoneTo n
+      → IsLowestDs setting key (Some (record_at (n + 1) place))
   ds_lowest n place lowest none = (
     lowest.0,
     λ other is less.
-        let By : ℕ → Type 0 = λ r. IsMatchedByDs setting key (record_of r other.place) in
+        let By : ℕ → Type 0 = λ r. IsMatchedByDs setting key (record_at r other.place) in
         let earlier : ¬ (other.rrset ≤ n) = λ within. none other within is in
         let here : other.rrset ≡ n + 1 → place ≤ other.place = λ same. lowest.1 other.place (subst By same is) in
         grind (arith, nat_tests, earlier, here, less),

@@ -9,11 +9,11 @@ use Rattle.dnsv_derivations.specs.intervals.Holding.{AreShownValidAt}
 use Rattle.dnsv_lines.specs.declared.line.Line.{Line}
 use Rattle.dnsv_lines.specs.declared.line.Line.TheVariants as line
 use Rattle.dnsv_lines.specs.declared.line.place.RrsetPlace.{RrsetPlace}
-use Rattle.dnsv_derivations.proofs.lemmas.NumberedLemmas.{same_number}
+use Rattle.dnsv_canonical.proofs.NumberLemmas.{one_numbered}
 use Rattle.dnsv_derivations.proofs.lemmas.intervals.HoldingLemmas.{one_around}
 use Rattle.dnsv_derivations.proofs.lemmas.intervals.MomentLemmas.{first_or_behind, is_behind, is_first}
-use Rattle.dnsv_explain.proofs.lemmas.one.ShownLemmas.{one_rising}
 use Rattle.dnsv_derivations.proofs.lemmas.one.StepLemmas.{IsOne}
+use Rattle.dnsv_reason_laws.proofs.facts.ListLemmas.{one_rising}
 
 -- ---- places
 
@@ -21,7 +21,7 @@ module _ (rrsets : List ReceivedRrset) where
   one_place : (a b : RrsetPlace) → a.rrset ≡ b.rrset → IsPlaceOf rrsets a → IsPlaceOf rrsets b → a ≡ b
   one_place a b number x y =
       let Of : ℕ → Type 0 = λ n. IsNumbered rrsets n x.rrset in
-      let same : x.rrset ≡ y.rrset = same_number rrsets b.rrset x.rrset y.rrset (subst Of number x.is_rrset) y.is_rrset in
+      let same : x.rrset ≡ y.rrset = one_numbered rrsets b.rrset x.rrset y.rrset (subst Of number x.is_rrset) y.is_rrset in
       let message : a.message ≡ b.message = x.message ∙ ap (λ (each : ReceivedRrset). each.message) same ∙ sym y.message in
       let section : a.section ≡ b.section = x.section ∙ ap (λ (each : ReceivedRrset). each.section) same ∙ sym y.section in
       let owner : a.owner ≡ b.owner = x.owner ∙ ap (λ (each : ReceivedRrset). each.owner) same ∙ sym y.owner in

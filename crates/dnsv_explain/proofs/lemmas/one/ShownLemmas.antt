@@ -1,16 +1,9 @@
 -- What is shown is shown in one way.
 use Rattle.std.proofs.Common.{◌≡◌, ◌∙◌, ◌⊎◌, ⊎_elim, inl, inr, ℕ, List, sym, ap, subst}
-use Rattle.std.proofs.lemmas.Cmp.{nat_cmp_total}
-use Rattle.std.proofs.lemmas.Map.Keys.{sorted_from_strictly_increasing}
-use Rattle.std.proofs.lemmas.Map.Lookups.{exact_unsigned}
-use Rattle.std.specs.List.{Contains}
-use Rattle.std.specs.List.Sorted.{IsStrictlyIncreasing}
-use Rattle.std.specs.Ordering.{nat_cmp}
 use Rattle.dnsv_names.specs.Name.{Labels, rightmost}
 use Rattle.dnsv_zones.specs.forms.Forms.{NoCloserForm, NoDataForms, NoNameForm}
 use Rattle.dnsv_zones.specs.forms.Parts.{OptsOut, OptsOutNextCloser}
 use Rattle.dnsv_zones.specs.forms.RecordWords.{RecordWords, words}
-use Rattle.dnsv_canonical.proofs.CanonicalLemmas.{rising_unique, Contains-from_member, IsMember-from_contains}
 use Rattle.dnsv_canonical.specs.Rrsets.{ReceivedRrset}
 use Rattle.dnsv_chain.specs.Trust.{KeptTrust, signed_of}
 use Rattle.dnsv_denial.specs.forms.Denials.{IsDelegationAt}
@@ -30,17 +23,10 @@ use Rattle.dnsv_denial.specs.declared.unsigned_cuts.shown_cut.ShownCut.TheVarian
 use Rattle.dnsv_verdict.proofs.OneProof.{chains, one_fewest, one_greatest, one_list, one_most}
 use Rattle.dnsv_derivations.specs.Explained.{Setting}
 use Rattle.dnsv_derivations.specs.derivations.OwnDerivations.{IsTrustIn}
+use Rattle.dnsv_reason_laws.proofs.facts.ListLemmas.{one_rising}
 use Rattle.dnsv_explain.proofs.lemmas.one.FormLemmas.{delegation_stands, no_closer_stands, no_data_stands, no_name_stands, one_delegation, one_no_closer, one_no_data, one_no_name, one_opt_out, one_opt_out_closer, opt_out_closer_stands, opt_out_stands}
 
 -- ---- trust
-
--- two rising lists with the same members are one
-pub one_rising : (xs ys : List ℕ) → IsStrictlyIncreasing xs → IsStrictlyIncreasing ys → ((n : ℕ) → Contains xs n → Contains ys n)
-    → ((n : ℕ) → Contains ys n → Contains xs n) → xs ≡ ys
-one_rising xs ys first second to from =
-    rising_unique nat_cmp nat_cmp_total exact_unsigned xs ys (sorted_from_strictly_increasing xs first) (sorted_from_strictly_increasing ys second)
-    (λ n m. IsMember-from_contains ys n (to n (Contains-from_member xs n m)))
-    (λ n m. IsMember-from_contains xs n (from n (Contains-from_member ys n m)))
 
 -- the signatures that a trust keeps as good are the same in each
 pub one_trust : (setting : Setting) (a b : KeptTrust) → IsTrustIn setting a → IsTrustIn setting b → signed_of a ≡ signed_of b

@@ -15,7 +15,7 @@ use Rattle.dnsv_derivations.specs.Following.{EachFollows, Follows, FollowsTruste
 use Rattle.dnsv_derivations.specs.Following.Cases.{IsCaseBy, IsCaseOf}
 use Rattle.dnsv_derivations.specs.Following.Parts.{IsPartOf, IsUnusableRecord}
 use Rattle.dnsv_derivations.specs.derivations.Ways.{HasSecured, IsWayInto}
-use Rattle.dnsv_derivations.proofs.lemmas.NumberedLemmas.{same_number}
+use Rattle.dnsv_canonical.proofs.NumberLemmas.{one_numbered}
 use Rattle.dnsv_derivations.proofs.lemmas.denials.PartLemmas.{said_too}
 use Rattle.dnsv_derivations.proofs.lemmas.derivations.WayLemmas.{way_leads}
 use Rattle.dnsv_lines.specs.declared.line.Line.{Line}
@@ -134,7 +134,7 @@ module _ (setting : Setting) where
       let said = all (line.Trusted follows.trusted.keys) follows.trusted.among in
       let Numbered : ℕ → Type 0 = λ k. IsNumbered setting.rrsets k said.0 in
       let same : said.0 ≡ follows.set =
-      same_number setting.rrsets signed.keys said.0 follows.set (subst Numbered follows.trusted.rrset said.1) follows.is_set in
+      one_numbered setting.rrsets signed.keys said.0 follows.set (subst Numbered follows.trusted.rrset said.1) follows.is_set in
       record {
         rrset = follows.rrset;
         numbered = follows.good.is_rrset;

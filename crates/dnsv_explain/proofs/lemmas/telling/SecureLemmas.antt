@@ -24,14 +24,12 @@ use Rattle.dnsv_verdict.specs.declared.verdict.Verdict.{Verdict}
 use Rattle.dnsv_verdict.specs.declared.verdict.Verdict.TheVariants.{SecureAnswer, SecureAlias, SecureNoName, SecureNoData, Pending, Bogus, Indeterminate}
 use Rattle.dnsv_derivations.specs.Explained.{Explained, Setting, setting_in}
 use Rattle.dnsv_explain.specs.Explained.{basis_in, explained_by}
-use Rattle.dnsv_explain.specs.Explanation.{IsSettledTold, IsSignatureAt, IsVerdictTold, told_kind}
-use Rattle.dnsv_derivations.specs.Saying.{Adds}
+use Rattle.dnsv_explain.specs.Explanation.{IsSignatureAt, told_kind}
 use Rattle.dnsv_derivations.specs.derivations.OwnDerivations.{SecuredIn}
 use Rattle.dnsv_lines.specs.declared.line.Kind.{Kind}
 use Rattle.dnsv_lines.specs.declared.line.Kind.TheVariants as kind
-use Rattle.dnsv_lines.specs.declared.line.Line.{Line}
 use Rattle.dnsv_canonical.specs.declared.number.SignatureNumber.{SignatureNumber}
-use Rattle.dnsv_derivations.proofs.lemmas.NumberedLemmas.{same_number}
+use Rattle.dnsv_canonical.proofs.NumberLemmas.{one_numbered}
 use Rattle.dnsv_explain.proofs.lemmas.telling.TellLemmas.{at_same, within_same}
 use Rattle.dnsv_derivations.proofs.lemmas.derivations.SignerLemmas.{no_signature}
 
@@ -59,10 +57,10 @@ module _ (setting : Setting) (name : Labels) (number : SignatureNumber) (secure 
     pub must_hold : (rrsig : Rrsig) → IsSignatureAt setting.rrsets number rrset rrsig → IsExpanded rrset.owner rrsig
         → CanProveNoCloser (SecuredIn setting) setting.rrsets name rrsig.labels rrsig.signer
     must_hold rrsig at expanded =
-        let same : secure.1.rrset ≡ rrset = same_number setting.rrsets number.rrset secure.1.rrset rrset secure.1.is_rrset is_rrset in
+        let same : secure.1.rrset ≡ rrset = one_numbered setting.rrsets number.rrset secure.1.rrset rrset secure.1.is_rrset is_rrset in
         let Numbered : ReceivedRrset → Type 0 = λ each. IsNumbered each.signatures number.signature secure.1.rdata in
         let rdata : secure.1.rdata ≡ at.rdata =
-        same_number rrset.signatures number.signature secure.1.rdata at.rdata (subst Numbered same secure.1.is_signature) at.is_signature in
+        one_numbered rrset.signatures number.signature secure.1.rdata at.rdata (subst Numbered same secure.1.is_signature) at.is_signature in
         let Read : List ℕ → Type 0 = λ octets. IsRrsig octets secure.1.rrsig in
         let one : secure.1.rrsig ≡ rrsig = one_rrsig at.rdata secure.1.rrsig rrsig (subst Read rdata secure.1.read) at.read in
         let Holds : ReceivedRrset → Type 0 = λ each. HoldsForName (SecuredIn setting) setting.rrsets name each secure.1.rrsig in
@@ -108,13 +106,6 @@ module _ (explained : Explained) (name : Labels) (t : ℕ) where
   settled_as basis Bogus settled is = absurd settled
   settled_as basis Indeterminate settled is = absurd settled
   settled_as basis verdict settled is = is
-
-  pub settled_told : (verdict : Verdict) (old new : List Line) → IsSettledVerdict verdict
-      → Adds (IsSettledTold (setting_in explained) name t verdict) old new → Adds (IsVerdictTold explained name t verdict) old new
-  settled_told (Pending unknown) old new settled told = absurd settled
-  settled_told Bogus old new settled told = absurd settled
-  settled_told Indeterminate old new settled told = absurd settled
-  settled_told verdict old new settled told = told
 
   never_some : (word : Kind) → Path (Option Kind) (Some word) None → ⊥
   never_some word is = cc

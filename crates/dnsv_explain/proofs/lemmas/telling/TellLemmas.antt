@@ -100,12 +100,6 @@ module _ (its_case : CaseContents) (explained : Explained) (same : explained ≡
       subst (λ (each : Viewed). CanProveNoCloser (SecuredIn each.trust) each.rrsets each.name labels zone) (sym viewed)
       (no_closer_can_to (GoodIn Its) (SecuredIn its_case.trust) kept explained.rrsets explained.rrsets stays name labels zone can)
 
-  pub closer_back : (labels : ℕ) (zone : Labels) → CanProveNoCloser (SecuredIn view.trust) view.rrsets view.name labels zone
-      → CanProveNoCloser (GoodIn Its) explained.rrsets name labels zone
-  closer_back labels zone can =
-      no_closer_can_to (SecuredIn its_case.trust) (GoodIn Its) (kept_good Its its_case.trust good) explained.rrsets explained.rrsets stays name labels zone
-      (subst (λ (each : Viewed). CanProveNoCloser (SecuredIn each.trust) each.rrsets each.name labels zone) viewed can)
-
   pub no_closer_shown : (labels : ℕ) (zone : Labels) (shown : ShownDenial)
       → IsShownNoCloser (SecuredIn view.trust) view.rrsets view.name labels zone shown → IsShownDenial Its name shown
   no_closer_shown labels zone shown is = (its_case.trust, good, no_closer labels zone (its_no_closer labels zone shown is))

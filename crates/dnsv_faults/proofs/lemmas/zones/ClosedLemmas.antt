@@ -91,8 +91,7 @@ module _ (facts : SignatureFacts) (clean : signature_lines facts ≡ []) where
 
 pub good_by : (said : KeyAnswer) (n : SignatureNumber) → answer_lines n said ≡ [] → said ≡ answer.Good
 good_by answer.Good n none = refl
-good_by answer.Bad n none = absurd (cc none)
-good_by answer.Unanswered n none = absurd (cc none)
+good_by said n none = absurd (cc none)
 
 -- a key of a zone with the RDATA of one that is trusted makes the signature count
 module _ (basis : Basis) (name : Labels) (t : ℕ) (zones : List ZoneFacts) (are : AreZoneFacts basis name t zones) (k : ℕ) (rrset : ReceivedRrset)

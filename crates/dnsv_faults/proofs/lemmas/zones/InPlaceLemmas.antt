@@ -16,7 +16,7 @@ use Rattle.dnsv_canonical.proofs.LawLemmas.{first_appearances_members}
 use Rattle.dnsv_canonical.proofs.OrderLemmas.{each_of, zip_at, zip_from, zip_length}
 use Rattle.dnsv_verifier.specs.Admissible.{MaySign}
 use Rattle.dnsv_verdict.specs.Verdict.{Basis}
-use Rattle.dnsv_verdict.proofs.SearchLemmas.NumberLemmas.{IsOneAt, each_number}
+use Rattle.dnsv_canonical.proofs.NumberLemmas.{each_number, IsOneAt, one_numbered}
 use Rattle.dnsv_mending.specs.InPlace.{IsHeld, IsInPlace, IsRrsetInPlace, IsSignerInPlace}
 use Rattle.dnsv_mending.specs.Mend.{is_none}
 use Rattle.dnsv_mending.specs.Ways.{IsAmong}
@@ -35,17 +35,17 @@ use Rattle.dnsv_faults.specs.Zones.{AreZoneFacts, IsHolder, IsZoneKeyFacts}
 use Rattle.dnsv_faults.proofs.lemmas.zones.ClosedLemmas.{among_of, contains_of, not_true}
 use Rattle.dnsv_faults.proofs.lemmas.zones.PlaceLemmas.{at_some}
 use Rattle.dnsv_faults.proofs.lemmas.zones.TrustLemmas.{numbered_among, zip_left}
-use Rattle.dnsv_zone_keys.proofs.lemmas.ZoneKeyLemmas.{one_zone_keys, placed_same, same_number}
+use Rattle.dnsv_zone_keys.proofs.lemmas.ZoneKeyLemmas.{one_zone_keys, placed_same}
 
 -- the RRset that a record stands in
-record StandsIn (rrsets : List ReceivedRrset) (numbers : List ℕ) (rdata : List ℕ) : Type 0 where
-  k : ℕ
-  listed : Contains numbers k
-  set : ReceivedRrset
-  numbered : IsNumbered rrsets k set
-  holds : Contains set.rdata rdata
+pub record StandsIn (rrsets : List ReceivedRrset) (numbers : List ℕ) (rdata : List ℕ) : Type 0 where
+  pub k : ℕ
+  pub listed : Contains numbers k
+  pub set : ReceivedRrset
+  pub numbered : IsNumbered rrsets k set
+  pub holds : Contains set.rdata rdata
 
-stands_in : (rrsets : List ReceivedRrset) (numbers : List ℕ) (standing : List (List ℕ)) (rdata : List ℕ) → AreStanding rrsets numbers standing
+pub stands_in : (rrsets : List ReceivedRrset) (numbers : List ℕ) (standing : List (List ℕ)) (rdata : List ℕ) → AreStanding rrsets numbers standing
     → Contains standing rdata → StandsIn rrsets numbers rdata
 stands_in rrsets [] standing rdata stand there =
     absurd (let none = subst (λ (all : List (List ℕ)). Contains all rdata) stand there in let within = none.1 in omega (arith, within))
@@ -70,7 +70,7 @@ some_held basis zone k set n [] keys rdata are there = absurd (let within = ther
 some_held basis zone k set n (x ∷ xs) [] rdata are there = absurd are
 some_held basis zone k set n (x ∷ xs) (y ∷ keys) rdata are there = refl
 
-first_of : {X : Type 0} (xs : List X) → 0 < length xs → (x : X) × Contains xs x
+pub first_of : {X : Type 0} (xs : List X) → 0 < length xs → (x : X) × Contains xs x
 first_of [] some = absurd (omega (arith, some))
 first_of (x ∷ xs) some = (x, (0, omega arith, refl))
 
@@ -162,7 +162,7 @@ module _ (basis : Basis) (name : Labels) (t : ℕ) (zones : List ZoneFacts) (are
           (contains_of s ds.rrset.signatures.items among_s) in
           let its = one.2 in
           let here = each_of (IsOneAt basis.rrsets zone 43) (numbers_at basis.rrsets zone 43) k (each_number basis.rrsets zone 43) of.1 in
-          let same = same_number basis.rrsets k here.rrset rr.rrset here.is_rrset rr.numbered in
+          let same = one_numbered basis.rrsets k here.rrset rr.rrset here.is_rrset rr.numbered in
           let owner : SameName rr.rrset.owner zone = subst (λ (r : ReceivedRrset). SameName r.owner zone) same here.owner in
           let rtype : rr.rrset.rtype ≡ 43 = subst (λ (r : ReceivedRrset). r.rtype ≡ 43) same here.same_type in
           let up : IsAtOrBelow zone its.rrsig.signer =

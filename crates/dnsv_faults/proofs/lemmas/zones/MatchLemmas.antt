@@ -185,7 +185,7 @@ of_more rrsets zone x xs known of = record {
   are = of.are;
 }
 
-first_or_later : {X : Type 0} (y : X) (ys : List X) (x : X) → Contains (y ∷ ys) x → (y ≡ x) ⊎ Contains ys x
+pub first_or_later : {X : Type 0} (y : X) (ys : List X) (x : X) → Contains (y ∷ ys) x → (y ≡ x) ⊎ Contains ys x
 first_or_later y ys x (zero, within, at) = inl at
 first_or_later y ys x (suc i, within, at) = inr (i, omega (arith, within), at)
 

@@ -20,7 +20,8 @@ use Rattle.dnsv_zone_keys.specs.Keys.{AreStanding, AreZoneKeys, IsKeyPlaced}
 use Rattle.dnsv_zone_keys.specs.Keys.Index.{Placed}
 use Rattle.dnsv_faults.specs.Dnskeys.DnskeySearch.{AreKeyRecords, AreKeysIn, IsKeyIn, IsSetOf}
 use Rattle.dnsv_faults.specs.Dnskeys.PlaceSearch.{HasOther}
-use Rattle.dnsv_zone_keys.proofs.lemmas.ZoneKeyLemmas.{one_zone_keys, same_number}
+use Rattle.dnsv_zone_keys.proofs.lemmas.ZoneKeyLemmas.{one_zone_keys}
+use Rattle.dnsv_canonical.proofs.NumberLemmas.{one_numbered}
 
 -- what stands at a place is one of the list
 pub contains_at : {X : Type 0} (xs : List X) (i : ℕ) (x : X) → slice_get xs i ≡ Some x → Contains xs x
@@ -96,7 +97,7 @@ stands_there rrsets [] standing k set rdata stand there numbered holds = absurd 
 stands_there rrsets (n ∷ numbers) standing k set rdata stand (zero, within, at) numbered holds =
     let its = stand.2 in
     let number : n ≡ k = at in
-    let same : its.rrset ≡ set = same_number rrsets k its.rrset set (subst (λ (m : ℕ). IsNumbered rrsets m its.rrset) number its.numbered) numbered in
+    let same : its.rrset ≡ set = one_numbered rrsets k its.rrset set (subst (λ (m : ℕ). IsNumbered rrsets m its.rrset) number its.numbered) numbered in
     let here = (its.canonical.members rdata).1 (subst (λ (r : ReceivedRrset). Contains r.rdata rdata) (sym same) holds) in
     subst (λ (all : List (List ℕ)). Contains all rdata) (sym stand.4) (Contains-append_left stand.0 stand.1 rdata here)
 stands_there rrsets (n ∷ numbers) standing k set rdata stand (suc i, within, at) numbered holds =

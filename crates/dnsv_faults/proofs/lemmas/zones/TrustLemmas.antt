@@ -23,7 +23,7 @@ use Rattle.dnsv_chain.specs.declared.anchor.Anchor.{Anchor}
 use Rattle.dnsv_chain.proofs.ChainLemmas.{same_ds}
 use Rattle.dnsv_verdict.specs.Verdict.{Basis}
 use Rattle.dnsv_verdict.proofs.SearchLemmas.{numbers_are}
-use Rattle.dnsv_verdict.proofs.SearchLemmas.NumberLemmas.{IsOneAt, each_number}
+use Rattle.dnsv_canonical.proofs.NumberLemmas.{each_number, IsOneAt, one_numbered}
 use Rattle.dnsv_verifier.specs.Admissible.{DnskeyRecord, IsGood, IsSignatureOf}
 use Rattle.dnsv_verifier.specs.Asking.{AddsJust, ComesOfSome}
 use Rattle.dnsv_mending.specs.declared.facts.keys.VoucherFacts.{VoucherFacts}
@@ -42,7 +42,6 @@ use Rattle.dnsv_faults.specs.Dnskeys.DnskeySearch.{AreVouched, IsDelegatedTo, Is
 use Rattle.dnsv_zone_keys.proofs.lemmas.IndexLemmas.{numbered_at}
 use Rattle.dnsv_faults.proofs.lemmas.zones.MatchLemmas.{anchor_known, anchor_match, anchor_match_owner, anchor_of_use, digest_supported, match_anchor, match_there, matches_it, nothing_said, of_anchor, of_record, record_known}
 use Rattle.dnsv_faults.proofs.lemmas.zones.PlaceLemmas.{at_some, contains_at}
-use Rattle.dnsv_zone_keys.proofs.lemmas.ZoneKeyLemmas.{same_number}
 
 -- ---- members and numbers
 
@@ -113,7 +112,7 @@ pub record IsSignedByTrust (basis : Basis) (rrset : ReceivedRrset) : Type 0 wher
 pub signed_by : (basis : Basis) (k s : ℕ) (rrset : ReceivedRrset) → IsNumbered basis.rrsets k rrset
     → IsSecured basis.meaning basis.moment basis.rrsets basis.anchors k s → IsSignedByTrust basis rrset
 signed_by basis k s rrset numbered secured =
-    let same = same_number basis.rrsets k secured.rrset rrset secured.numbered numbered in
+    let same = one_numbered basis.rrsets k secured.rrset rrset secured.numbered numbered in
     let good = secured.good in
     let signed : IsSignedUnder basis.meaning basis.moment secured.rrset good.key = record {
       rrsig = secured.rrsig;
@@ -136,7 +135,7 @@ has_signed_by basis k rrset facts are numbered has =
 pub has_signed : (basis : Basis) (k : ℕ) (rrset : ReceivedRrset) (facts : RrsetFacts) → AreRrsetFacts basis k facts → IsNumbered basis.rrsets k rrset
     → IsSignedByTrust basis rrset → HasSigned facts.signatures.items
 has_signed basis k rrset facts are numbered by =
-    let same = same_number basis.rrsets k are.rrset rrset are.numbered numbered in
+    let same = one_numbered basis.rrsets k are.rrset rrset are.numbered numbered in
     let its = by.signed.its in
     let at = number_of rrset.signatures its.0 its.1 in
     let signature : IsSignatureAt rrset at.0 by.signed.rrsig = record { rdata = its.0; numbered = at.1; is = its.2 } in
@@ -154,7 +153,7 @@ has_signed basis k rrset facts are numbered by =
 
 -- ---- what vouches for a key
 
-true_by : (b : Bool) → ((IsTrue b → ⊥) → ⊥) → IsTrue b
+pub true_by : (b : Bool) → ((IsTrue b → ⊥) → ⊥) → IsTrue b
 true_by true twice = refl
 true_by false twice = absurd (twice (λ yes. false≢true yes))
 
@@ -215,7 +214,7 @@ module _ (basis : Basis) (zone : Labels) (anchors : List VoucherFacts) (ds : Lis
       let k : ℕ = of.0 in
       let its = of.2 in
       let one = each_of (IsOneAt basis.rrsets zone 43) (numbers_at basis.rrsets zone 43) k (each_number basis.rrsets zone 43) of.1 in
-      let same = same_number basis.rrsets k one.rrset its.set one.is_rrset its.numbered in
+      let same = one_numbered basis.rrsets k one.rrset its.set one.is_rrset its.numbered in
       let owner : SameName its.set.owner zone = subst (λ (r : ReceivedRrset). SameName r.owner zone) same one.owner in
       let rtype : its.set.rtype ≡ 43 = subst (λ (r : ReceivedRrset). r.rtype ≡ 43) same one.same_type in
       let by = some.is.by in
@@ -242,7 +241,7 @@ module _ (basis : Basis) (zone : Labels) (anchors : List VoucherFacts) (ds : Lis
       let found = zip_right (AreDsFacts basis zone) (numbers_at basis.rrsets zone 43) ds k are_ds listed in
       let facts : DsFacts = found.0 in
       let its : AreDsFacts basis zone k facts = found.2 in
-      let same = same_number basis.rrsets k its.set to.ds its.numbered number.1 in
+      let same = one_numbered basis.rrsets k its.set to.ds its.numbered number.1 in
       let read : AllZip IsDs its.set.rdata to.to.records = subst (λ (r : ReceivedRrset). AllZip IsDs r.rdata to.to.records) (sym same) to.to.read in
       let records : to.to.records ≡ its.records = same_ds its.set.rdata to.to.records its.records read its.read in
       let of = zip_left IsDs its.set.rdata to.to.records usable.ds read usable.among in

@@ -14,7 +14,7 @@ use Rattle.dnsv_canonical.proofs.OrderLemmas.{each_of, zip_at}
 use Rattle.dnsv_chain.specs.Anchor.{HasAnchorMatch}
 use Rattle.dnsv_chain.specs.Trusted.{IsTrustedKey, SignsItsSet, anchored, delegated}
 use Rattle.dnsv_verdict.specs.Verdict.{Basis}
-use Rattle.dnsv_verdict.proofs.SearchLemmas.NumberLemmas.{IsOneAt, each_number}
+use Rattle.dnsv_canonical.proofs.NumberLemmas.{each_number, IsOneAt, one_numbered}
 use Rattle.dnsv_lines.specs.declared.line.fault.zone.WhyEntry.{WhyEntry}
 use Rattle.dnsv_mending.specs.Faults.{answer_lines, or_else}
 use Rattle.dnsv_mending.specs.Keys.{fits, fits_by, signing}
@@ -39,7 +39,6 @@ use Rattle.dnsv_faults.proofs.lemmas.zones.InPlaceLemmas.{at_or_above}
 use Rattle.dnsv_faults.proofs.lemmas.zones.MatchLemmas.{match_anchor, matches_it, of_anchor}
 use Rattle.dnsv_faults.proofs.lemmas.zones.PlaceLemmas.{contains_at}
 use Rattle.dnsv_faults.proofs.lemmas.zones.TrustLemmas.{has_signed_by, numbered_among, or_cases, record_matches, zip_left}
-use Rattle.dnsv_zone_keys.proofs.lemmas.ZoneKeyLemmas.{same_number}
 use Rattle.dnsv_faults.proofs.lemmas.zones.ZoneLemmas.{IsHeldAt, held_at}
 
 else_none : (lines others : List Told) → or_else lines others ≡ [] → others ≡ []
@@ -99,7 +98,7 @@ module _ (basis : Basis) (name : Labels) (t : ℕ) (zones : List ZoneFacts) (are
       (contains_of s ds.rrset.signatures.items among_s) in
       let its = one.2 in
       let here = each_of (IsOneAt basis.rrsets zone 43) (numbers_at basis.rrsets zone 43) k (each_number basis.rrsets zone 43) of.1 in
-      let same = same_number basis.rrsets k here.rrset rr.rrset here.is_rrset rr.numbered in
+      let same = one_numbered basis.rrsets k here.rrset rr.rrset here.is_rrset rr.numbered in
       let owner : SameName rr.rrset.owner zone = subst (λ (r : ReceivedRrset). SameName r.owner zone) same here.owner in
       closed_signature basis name t zones are k rr.rrset rr.numbered one.0.0 s its (λ off.
       let up = at_or_below_respects rr.rrset.owner zone its.rrsig.signer its.rrsig.signer owner refl (at_or_above basis name t zones are k rr.rrset one.0.0 s its off) in
@@ -129,7 +128,7 @@ module _ (basis : Basis) (name : Labels) (t : ℕ) (zones : List ZoneFacts) (are
         let of_ds = zip_left (AreDsFacts basis zone) (numbers_at basis.rrsets zone 43) z.ds.items ds facts.ds (contains_of ds z.ds.items among_ds) in
         let its = of_ds.2 in
         let here = each_of (IsOneAt basis.rrsets zone 43) (numbers_at basis.rrsets zone 43) of_ds.0 (each_number basis.rrsets zone 43) of_ds.1 in
-        let same = same_number basis.rrsets of_ds.0 here.rrset its.set here.is_rrset its.numbered in
+        let same = one_numbered basis.rrsets of_ds.0 here.rrset its.set here.is_rrset its.numbered in
         let owner : SameName its.set.owner zone = subst (λ (x : ReceivedRrset). SameName x.owner zone) same here.owner in
         let rtype : its.set.rtype ≡ 43 = subst (λ (x : ReceivedRrset). x.rtype ≡ 43) same here.same_type in
         let to = record_matches basis zone z.anchors.items z.ds.items facts.anchors facts.ds k.key key of.known.is.placed of_ds.0 ds its v
@@ -146,10 +145,10 @@ module _ (basis : Basis) (name : Labels) (t : ℕ) (zones : List ZoneFacts) (are
         let of = zip_at (AreDnskeyFacts basis zone) (numbers_at basis.rrsets zone 48) z.dnskeys.items h r facts.dnskeys at_r in
         let its = of.2 in
         let number_is : holder.k ≡ of.0 = let both : Some holder.k ≡ Some of.0 = sym holder.at ∙ of.1 in cc both in
-        let same = same_number basis.rrsets of.0 holder.set its.set (subst (λ (m : ℕ). IsNumbered basis.rrsets m holder.set) number_is holder.numbered) its.numbered in
+        let same = one_numbered basis.rrsets of.0 holder.set its.set (subst (λ (m : ℕ). IsNumbered basis.rrsets m holder.set) number_is holder.numbered) its.numbered in
         let listed = contains_at (numbers_at basis.rrsets zone 48) h of.0 of.1 in
         let here = each_of (IsOneAt basis.rrsets zone 48) (numbers_at basis.rrsets zone 48) of.0 (each_number basis.rrsets zone 48) listed in
-        let same_here = same_number basis.rrsets of.0 here.rrset its.set here.is_rrset its.numbered in
+        let same_here = one_numbered basis.rrsets of.0 here.rrset its.set here.is_rrset its.numbered in
         one.2.trusted.1 (record {
           set = its.set;
           trusted = its.trusted.0 trusted;

@@ -9,7 +9,7 @@ use Rattle.dnsv_canonical.proofs.OrderLemmas.{each_of, zip_at, zip_from}
 use Rattle.dnsv_chain.specs.Trusted.{IsTrusted}
 use Rattle.dnsv_chain.proofs.TrustedLemmas.{trusted_among, trusted_rtype}
 use Rattle.dnsv_verdict.specs.Verdict.{Basis}
-use Rattle.dnsv_verdict.proofs.SearchLemmas.NumberLemmas.{IsOneAt, each_number}
+use Rattle.dnsv_canonical.proofs.NumberLemmas.{each_number, IsOneAt, one_numbered}
 use Rattle.dnsv_verifier.specs.Admissible.{DnskeyRecord}
 use Rattle.dnsv_mending.specs.declared.facts.keys.DnskeyFacts.{DnskeyFacts}
 use Rattle.dnsv_mending.specs.declared.facts.keys.HeldKey.{HeldKey}
@@ -23,7 +23,7 @@ use Rattle.dnsv_faults.specs.Zones.HolderSearch.{AreHolders, AreHoldersOfEach, H
 use Rattle.dnsv_faults.proofs.lemmas.zones.HolderLemmas.{at_end}
 use Rattle.dnsv_faults.proofs.lemmas.zones.PlaceLemmas.{at_some, contains_at, one_place, set_number}
 use Rattle.dnsv_faults.proofs.lemmas.zones.TrustLemmas.{number_of}
-use Rattle.dnsv_zone_keys.proofs.lemmas.ZoneKeyLemmas.{one_zone_keys, same_number}
+use Rattle.dnsv_zone_keys.proofs.lemmas.ZoneKeyLemmas.{one_zone_keys}
 
 -- ---- the keys in a DNSKEY RRset
 
@@ -89,7 +89,7 @@ module _ (basis : Basis) (zone : Labels) (all : List (List ℕ)) (are_all : AreZ
   is_holder h is =
       let one = zip_from (AreDnskeyFacts basis zone) (numbers_at basis.rrsets zone 48) dnskeys h is.k are is.at in
       let its = one.2 in
-      let same = same_number basis.rrsets is.k its.set is.set its.numbered is.numbered in
+      let same = one_numbered basis.rrsets is.k its.set is.set its.numbered is.numbered in
       let here = (its.in_order.members rdata).1 (subst (λ (r : ReceivedRrset). Contains r.rdata rdata) (sym same) is.holds) in
       let has = has_held basis zone is.k its.set 1 its.canonical one.0.keys.items rdata its.keys here in
       let placed = has.is.placed in
@@ -107,7 +107,7 @@ module _ (basis : Basis) (zone : Labels) (all : List (List ℕ)) (are_all : AreZ
           let its = is.2.0 in
           let listed = contains_at (numbers_at basis.rrsets zone 48) by.h is.0 is.1 in
           let one = each_of (IsOneAt basis.rrsets zone 48) (numbers_at basis.rrsets zone 48) is.0 (each_number basis.rrsets zone 48) listed in
-          let same = same_number basis.rrsets is.0 one.rrset its.set one.is_rrset its.numbered in
+          let same = one_numbered basis.rrsets is.0 one.rrset its.set one.is_rrset its.numbered in
           record {
             set = its.set;
             trusted = its.trusted.0 by.trusted;
@@ -121,7 +121,7 @@ module _ (basis : Basis) (zone : Labels) (all : List (List ℕ)) (are_all : AreZ
           let has = is_holder listed.0 (record { k = number.0; at = listed.1; set = key.set; numbered = number.1; holds = key.among }) in
           let its = zip_at (AreDnskeyFacts basis zone) (numbers_at basis.rrsets zone 48) dnskeys listed.0 has.0 are has.1.at in
           let number_is : its.0 ≡ number.0 = let both : Some its.0 ≡ Some number.0 = sym its.1 ∙ listed.1 in cc both in
-          let same = same_number basis.rrsets number.0 its.2.set key.set (subst (λ (n : ℕ). IsNumbered basis.rrsets n its.2.set) number_is its.2.numbered) number.1 in
+          let same = one_numbered basis.rrsets number.0 its.2.set key.set (subst (λ (n : ℕ). IsNumbered basis.rrsets n its.2.set) number_is its.2.numbered) number.1 in
           holders.trusted.1 (record {
             h = listed.0;
             dnskey = has.0;

@@ -3,12 +3,12 @@ use Rattle.std.specs.List.{slice_get}
 use Rattle.dnsv_names.specs.Name.{Labels, rightmost}
 use Rattle.dnsv_denial.specs.words.EvidenceWords.{Chain}
 use Rattle.dnsv_denial.proofs.lemmas.gathering.GatherLemmas.{mapped_at}
+use Rattle.dnsv_denial.proofs.lemmas.proving.ZoneChainLemmas.{unmapped_at}
 use Rattle.dnsv_gaps.specs.Asking.{asking}
 use Rattle.dnsv_gaps.specs.Sources.{AreSources}
 use Rattle.dnsv_reasons.specs.SourceSearch.{AreNamed, chain_named}
 use Rattle.dnsv_reasons.specs.declared.sources.NamedSource.{NamedSource}
 use Rattle.dnsv_reasons.proofs.EachLemmas.{at_place, each_placed}
-use Rattle.dnsv_reasons.proofs.PlaceLemmas.{unmapped}
 use Rattle.dnsv_reasons.proofs.SourceLemmas.{one_list}
 use Rattle.dnsv_reasons.proofs.sources.source.Goals as goal
 
@@ -27,7 +27,7 @@ returns-in_default-name_at c = λ source is.
     (subst (λ (zone : Labels). AreSources a zone is.chains) is.above.is is.are) ours.are in
     let at : slice_get (map chain_named its.sources.items) c.args.number.place ≡ Some is.chain =
     subst (λ (each : List Chain). slice_get each c.args.number.place ≡ Some is.chain) chains is.placed in
-    let found = unmapped chain_named its.sources.items c.args.number.place is.chain at in
+    let found = unmapped_at chain_named its.sources.items c.args.number.place is.chain at in
     let there : slice_get its.sources.items c.args.number.place ≡ Some found.0 = found.1 in
     let none : slice_get its.sources.items c.args.number.place ≡ None = c.in_default-name_at.ensures in
     cc

@@ -110,8 +110,6 @@ module _ (a : Asking) (n : SourceNumber) (chain : Chain) (at : IsChainAt a n cha
       → IsCutCase a.basis (source_said a (rightmost a.name n.zone) chain) (HasOptOut a (rightmost a.name n.zone) chain)
       (rightmost a.name (c - 1)) (rightmost a.name c) x
       → (s : Said) → IsOfCut n c x s → (l : Line) → IsSaidLine a s l → IsLineTrue (IsReasonTrue a) l
-  cut_true (cut.Delegation rrsets) are s never l of = absurd never
-  cut_true cut.NoCut are s never l of = absurd never
   cut_true (cut.Signed signed) are s told l of =
       let zone = rightmost a.name n.zone in
       let lowest = are.1 in
@@ -131,14 +129,12 @@ module _ (a : Asking) (n : SourceNumber) (chain : Chain) (at : IsChainAt a n cha
       )) l of
   cut_true cut.Uncovered are s told l of = told_is (why.CoverMissing role.Cut) s told (are.0, are.1) l of
   cut_true cut.Unmatched are s told l of = told_is why.MatchMissing s told (are.0, inr name_is) l of
+  cut_true x are s never l of = absurd never
 
 -- a source that proves it, if its records are signed
 pub proving_true : (a : Asking) (zone : Labels) (chain : Chain) (parent x : Labels) (c : CutCase)
     → IsCutCase a.basis (source_said a zone chain) (HasOptOut a zone chain) parent x c → IsProvingCase c → IsProvingCut a zone parent x
 proving_true a zone chain parent x (cut.Delegation rrsets) are proves = (chain, inl are.0)
-proving_true a zone chain parent x cut.NoCut are proves = absurd proves
-proving_true a zone chain parent x (cut.Signed s) are proves = absurd proves
 proving_true a zone chain parent x (cut.OptOut o) are proves =
     (chain, inr (some_such a.basis ((source_said a zone chain).Encloser parent) o.shown.items are.2 proves.0, are.1))
-proving_true a zone chain parent x cut.Uncovered are proves = absurd proves
-proving_true a zone chain parent x cut.Unmatched are proves = absurd proves
+proving_true a zone chain parent x c are proves = absurd proves

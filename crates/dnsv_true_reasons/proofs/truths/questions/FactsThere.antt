@@ -14,7 +14,7 @@ use Rattle.dnsv_faults.specs.KnownZones.{IsGoal}
 use Rattle.dnsv_faults.specs.Signatures.{AreSignatureFacts, IsSignatureAt}
 use Rattle.dnsv_faults.proofs.lemmas.zones.ClosedLemmas.{contains_of}
 use Rattle.dnsv_faults.proofs.lemmas.zones.TrustLemmas.{zip_left}
-use Rattle.dnsv_zone_keys.proofs.lemmas.ZoneKeyLemmas.{same_number}
+use Rattle.dnsv_canonical.proofs.NumberLemmas.{one_numbered}
 use Rattle.dnsv_gaps.specs.Asking.{Asking}
 use Rattle.dnsv_gaps.specs.Cases.{IsSourceCase}
 use Rattle.dnsv_gaps.specs.Sources.{AreSources, source_said}
@@ -53,7 +53,7 @@ module _ (a : Asking) (q : QuestionFacts) (are : AreQuestionFacts a q) where
   goal_there g among =
       let its = each_of (AreGoalFacts a) q.goals.items g are.goals.each (contains_of g q.goals.items among) in
       let one = (are.goals.members g.number).0 (contains_map (λ (each : GoalFacts). each.number) q.goals.items g among) in
-      let same = same_number a.basis.rrsets g.number one.0 its.rrset one.1 its.numbered in
+      let same = one_numbered a.basis.rrsets g.number one.0 its.rrset one.1 its.numbered in
       record { are = its; goal = subst (IsGoal a.name a.rtype) same one.2 }
 
   -- ---- denials
@@ -143,7 +143,7 @@ pub record AnswerThere (a : Asking) (g : GoalFacts) (s : AnswerSignature) : Type
 
 pub one_signature : (rrset : ReceivedRrset) (s : ℕ) (x y : Rrsig) → IsSignatureAt rrset s x → IsSignatureAt rrset s y → x ≡ y
 one_signature rrset s x y first second =
-    let rdata = same_number rrset.signatures s first.rdata second.rdata first.numbered second.numbered in
+    let rdata = one_numbered rrset.signatures s first.rdata second.rdata first.numbered second.numbered in
     one_rrsig second.rdata x y (subst (λ (octets : List ℕ). IsRrsig octets x) rdata first.is) second.is
 
 among_mapped_to : {X Y : Type 0} (f : X → Y) (xs : List X) (ys : List Y) (x : X) → map f xs ≡ ys → IsAmong x xs → Contains ys (f x)
@@ -160,7 +160,7 @@ answer_there a q are g s goal by =
     let one = zip_left (λ (signature : ℕ × Rrsig) facts. AreSignatureFacts a.basis g.number known.rrset signature.0 facts) known.order
     its.known.signatures.items
     s.signature known.each listed in
-    let same = same_number a.basis.rrsets g.number known.rrset its.rrset known.numbered its.numbered in
+    let same = one_numbered a.basis.rrsets g.number known.rrset its.rrset known.numbered its.numbered in
     let facts : AreSignatureFacts a.basis g.number its.rrset one.0.0 s.signature =
     subst (λ (r : ReceivedRrset). AreSignatureFacts a.basis g.number r one.0.0 s.signature) same one.2 in
     let closer = each_of (HasItsCloser a its.rrset) g.signatures.items s its.closers (contains_of s g.signatures.items by) in

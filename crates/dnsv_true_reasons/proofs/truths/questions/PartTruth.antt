@@ -19,7 +19,7 @@ use Rattle.dnsv_faults.specs.Zones.{AreZoneFacts}
 use Rattle.dnsv_faults.proofs.lemmas.zones.ClosedLemmas.{among_of, contains_of, off_by}
 use Rattle.dnsv_faults.proofs.lemmas.zones.InPlaceLemmas.{at_or_above}
 use Rattle.dnsv_faults.proofs.lemmas.zones.TrustLemmas.{number_of, numbered_among, signature_known, zip_left}
-use Rattle.dnsv_zone_keys.proofs.lemmas.ZoneKeyLemmas.{same_number}
+use Rattle.dnsv_canonical.proofs.NumberLemmas.{one_numbered}
 use Rattle.dnsv_gaps.specs.Asking.{Asking}
 use Rattle.dnsv_gaps.specs.Cases.{AreShowing, AreWildcardFacts, IsBestCover, IsSourceCase}
 use Rattle.dnsv_gaps.specs.Cases.AreShowing.{by_records, needless}
@@ -35,8 +35,7 @@ use Rattle.dnsv_mending.specs.declared.facts.signature.RrsetFacts.{RrsetFacts}
 use Rattle.dnsv_mending.specs.declared.facts.signature.SignatureFacts.{SignatureFacts}
 use Rattle.dnsv_mending.specs.declared.facts.zone.ZoneFacts.{ZoneFacts}
 use Rattle.dnsv_mending.specs.declared.told.Told.{Told}
-use Rattle.dnsv_mending.proofs.Reasons.{signer_first}
-use Rattle.dnsv_mending.proofs.SomeWays.{both_parts}
+use Rattle.dnsv_mending.proofs.Reasons.{both_true, signer_first}
 use Rattle.dnsv_remedies.specs.declared.facts.answer.CloserFacts.{CloserFacts}
 use Rattle.dnsv_remedies.specs.declared.facts.cut.CutCase.{CutCase}
 use Rattle.dnsv_remedies.specs.declared.facts.cut.CutCase.TheVariants as cut
@@ -147,10 +146,8 @@ module _ (a : Asking) (n : ℕ) (within : n ≤ length a.name) where
         (sym same) are.first.is))
         (inl one)
     of_case (case.At found) r are one = of_records a.name found r are.2 one
-    of_case case.Apex r are one = absurd one
     of_case (case.NonTerminal rrsets) r are one = of_such _ rrsets.items r are.4
         (λ number is. empty_denial a (rightmost a.name n) chain a.name number is) one
-    of_case case.NoEncloser r are one = absurd one
     of_case (case.Encloser e) r are (inl shown) = of_showing (rightmost a.name e.name) e.shown.items r are.1.shown shown
     of_case (case.Encloser e) r are (inr (inl covered)) = of_such _ e.covers.items r are.1.covers covering covered
       where
@@ -160,13 +157,13 @@ module _ (a : Asking) (n : ℕ) (within : n ≤ length a.name) where
         covering number (inr is) = opted_denial a (rightmost a.name n) chain (rightmost a.name e.next) number is.1
     of_case (case.Encloser e) r are (inr (inr one)) = of_wildcard (rightmost a.name e.next) (wildcard_of (rightmost a.name e.name))
         e.wildcard r are.1.wildcard one
+    of_case c r are one = absurd one
 
     pub of_cut_case : (parent x : Labels) (c : CutCase) (r : RrsetFacts)
         → IsCutCase a.basis (source_said a (rightmost a.name n) chain) (HasOptOut a (rightmost a.name n) chain) parent x c
         → IsOneOfCut c r → PartThere a n r
     of_cut_case parent x (cut.Delegation rrsets) r are one = of_such _ rrsets.items r are.1
         (λ number is. typed_denial a (rightmost a.name n) chain x _ number is) one
-    of_cut_case parent x cut.NoCut r are one = absurd one
     of_cut_case parent x (cut.Signed s) r are one = record {
       k = s.number.rrset;
       its = subst (AreRrsetFacts a.basis s.number.rrset) (sym one) are.2;
@@ -177,8 +174,7 @@ module _ (a : Asking) (n : ℕ) (within : n ≤ length a.name) where
         (λ number is. shown_denial a (rightmost a.name n) chain parent number is) shown
     of_cut_case parent x (cut.OptOut o) r are (inr covered) = of_such _ o.covers.items r are.3
         (λ number is. opted_denial a (rightmost a.name n) chain x number is) covered
-    of_cut_case parent x cut.Uncovered r are one = absurd one
-    of_cut_case parent x cut.Unmatched r are one = absurd one
+    of_cut_case parent x c r are one = absurd one
 
 pub part_there : (a : Asking) (q : QuestionFacts) → AreQuestionFacts a q → (zone : ℕ) (r : RrsetFacts) → IsPartOf q zone r
     → PartThere a zone r
@@ -225,7 +221,7 @@ module _ (a : Asking) (zones : List ZoneFacts) (are : AreZoneFacts a.basis a.nam
   -- the RRset is a denial of the zone, at or below it
   denial : IsDenialOf a (rightmost a.name zone) there.its.rrset
   denial = subst (IsDenialOf a (rightmost a.name zone))
-      (same_number a.basis.rrsets there.k there.denial.rrset there.its.rrset there.denial.numbered there.its.numbered) there.denial.denial
+      (one_numbered a.basis.rrsets there.k there.denial.rrset there.its.rrset there.denial.numbered there.its.numbered) there.denial.denial
 
   -- a signer at or above its owner with as many labels as the zone is the zone
   its_zone : (signer : Labels) → IsAtOrBelow there.its.rrset.owner signer → length signer ≡ zone
@@ -278,7 +274,7 @@ module _ (a : Asking) (zones : List ZoneFacts) (are : AreZoneFacts a.basis a.nam
   pub part_true : (line : Told) → IsOfPart zones zone r line → IsTold a.basis a.name line
   part_true line (part_unsigned none) = unsigned_true a.basis a.name a.rtype zones are formed there.k r there.its none
   part_true line (by_zone s x among is of) =
-      let its = both_parts (not s.faults.signer) (nat_eq s.signer zone) is in
+      let its = both_true (not s.faults.signer) (nat_eq s.signer zone) is in
       one_true a.basis a.name a.rtype zones are formed there.k r there.its s among (λ sn one may.
       its_zone one.rrsig.signer (at_or_above a.basis a.name a.rtype zones are there.k there.its.rrset sn s one may)
       (sym one.signer ∙ eqb-true s.signer zone its.1)) line of

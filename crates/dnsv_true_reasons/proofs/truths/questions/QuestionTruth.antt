@@ -23,7 +23,7 @@ use Rattle.dnsv_faults.specs.KnownZones.{IsKnownZone}
 use Rattle.dnsv_faults.specs.Signatures.{IsSignatureAt}
 use Rattle.dnsv_faults.proofs.lemmas.zones.ClosedLemmas.{contains_of, not_true}
 use Rattle.dnsv_faults.proofs.lemmas.zones.TrustLemmas.{number_of, zip_left}
-use Rattle.dnsv_zone_keys.proofs.lemmas.ZoneKeyLemmas.{same_number}
+use Rattle.dnsv_canonical.proofs.NumberLemmas.{each_number, IsOneAt, one_numbered}
 use Rattle.dnsv_gaps.specs.Asking.{Asking}
 use Rattle.dnsv_gaps.specs.Sources.{HasRecords}
 use Rattle.dnsv_gaps.specs.Speakers.{AreSourceFacts}
@@ -49,7 +49,6 @@ use Rattle.dnsv_remedies.specs.declared.facts.name.UnusableFacts.{UnusableFacts}
 use Rattle.dnsv_remedies.specs.declared.facts.question.DnameFacts.{DnameFacts}
 use Rattle.dnsv_remedies.specs.declared.facts.question.QuestionFacts.{QuestionFacts}
 use Rattle.dnsv_remedies.specs.declared.said.Said.TheVariants as said
-use Rattle.dnsv_verdict.proofs.SearchLemmas.NumberLemmas.{IsOneAt, each_number}
 use Rattle.dnsv_true_reasons.specs.truth.Question.{HasDenial, IsSilent, IsTrueOfCloser, ShouldSpeak}
 use Rattle.dnsv_true_reasons.specs.truth.Reasons.{IsReasonTrue}
 use Rattle.dnsv_true_reasons.specs.truth.Sources.{IsNsec3True}
@@ -69,7 +68,7 @@ pub nsec3_true : (a : Asking) (zone : Labels) (us : List UnusableFacts) → AreU
     → (l : Line) → IsSaidLine a (said.Nsec3 u.why u.number) l → IsLineTrue (IsReasonTrue a) l
 nsec3_true a zone us are u among l of =
     let its = (are.members u.number u.why).0 (contains_of u us among) in
-    let same : of.0 ≡ its.rrset = same_number a.basis.rrsets u.number.rrset of.0 its.rrset of.1 its.at.is_rrset in
+    let same : of.0 ≡ its.rrset = one_numbered a.basis.rrsets u.number.rrset of.0 its.rrset of.1 its.at.is_rrset in
     subst (IsLineTrue (IsReasonTrue a)) (sym of.2) (record {
       rrset = its.rrset;
       rdata = its.rdata;
@@ -161,9 +160,9 @@ module _ (a : Asking) (q : QuestionFacts) (are : AreQuestionFacts a q) where
       subst (λ (n : SignatureNumber). IsNumbered a.basis.rrsets n.rrset rrset) (sym number) there.goal.are.numbered in
       let at : IsSignatureAt rrset s.signature.number.signature its.rrsig =
       subst (λ (n : SignatureNumber). IsSignatureAt rrset n.signature its.rrsig) (sym number) its.its in
-      let one : is.rrset ≡ rrset = same_number a.basis.rrsets s.signature.number.rrset is.rrset rrset is.numbered numbered in
+      let one : is.rrset ≡ rrset = one_numbered a.basis.rrsets s.signature.number.rrset is.rrset rrset is.numbered numbered in
       let rdata : is.rdata ≡ at.rdata =
-      same_number rrset.signatures s.signature.number.signature is.rdata at.rdata
+      one_numbered rrset.signatures s.signature.number.signature is.rdata at.rdata
       (subst (λ (r : ReceivedRrset). IsNumbered r.signatures s.signature.number.signature is.rdata) one is.is_signature) at.numbered in
       let rrsig : is.rrsig ≡ its.rrsig = one_rrsig at.rdata is.rrsig its.rrsig
       (subst (λ (octets : List ℕ). IsRrsig octets is.rrsig) rdata is.read) at.is in

@@ -38,7 +38,7 @@ use Rattle.dnsv_remedies.specs.declared.said.Said.TheVariants as said
 use Rattle.dnsv_true_reasons.specs.truth.Reasons.{IsReasonTrue}
 use Rattle.dnsv_true_reasons.specs.truth.Sources.{IsAskedOf, IsSourceTrue}
 use Rattle.dnsv_true_reasons.proofs.truths.LineTruth.{IsLineTrue}
-use Rattle.dnsv_true_reasons.proofs.truths.questions.OneSources.{one_list}
+use Rattle.dnsv_reasons.proofs.SourceLemmas.{one_list}
 use Rattle.dnsv_true_reasons.proofs.truths.ways.SaidOf.{IsOfCase, IsOfRecordsAt, IsOfWildcard}
 use Rattle.dnsv_true_reasons.proofs.truths.questions.TypedTruth.{held_is, held_none, held_type, none_next, none_open, none_such, typed_any, typed_leads, typed_to}
 

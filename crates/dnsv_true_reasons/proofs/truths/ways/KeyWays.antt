@@ -1,6 +1,5 @@
 -- What is told on the ways on which a DNSKEY RRset is trusted.
 use Rattle.std.proofs.Common.{◌≡◌, inl, inr, ◌+◌, ◌++◌, ◌&&◌, ℕ, Bool, true, false, not, if◌then◌else◌, List, [], ◌∷◌, Option, Some, map, flat_map, refl, sym, subst}
-use Rattle.std.proofs.lemmas.Bool.{false≢true}
 use Rattle.std.specs.List.{AllByRecursion}
 use Rattle.dnsv_lines.specs.declared.line.fault.signature.WhySignature.TheVariants as signature_why
 use Rattle.dnsv_lines.specs.declared.line.fault.zone.WhyEntry.{WhyEntry}
@@ -17,23 +16,21 @@ use Rattle.dnsv_mending.specs.declared.facts.zone.DsFacts.{DsFacts}
 use Rattle.dnsv_mending.specs.declared.told.Told.{Told}
 use Rattle.dnsv_mending.specs.declared.told.Told.TheVariants as told
 use Rattle.dnsv_mending.proofs.AllWays.{all_append, all_flat, all_if, all_joined, mapped_some}
-use Rattle.dnsv_true_reasons.proofs.truths.ways.MendLines.{Kept, Lines, all_among, all_or_else, all_when, of_fault, of_following, of_least, of_telling, of_with_fault}
+use Rattle.dnsv_true_reasons.proofs.truths.ways.MendLines.{Kept, Lines, all_or_else, all_when, of_fault, of_following, of_least, of_telling, of_with_fault}
 use Rattle.dnsv_true_reasons.proofs.truths.ways.Told.{IsOfKey}
 use Rattle.dnsv_true_reasons.proofs.truths.ways.Told.IsOfKey.{not_self_signed, self_answered, self_no_zone_key, self_wrong, unsigned_set}
+use Rattle.dnsv_true_reasons.proofs.Told.{all_from}
+use Rattle.dnsv_true_reasons.proofs.truths.ways.PartWays.{off_by_not}
 
 -- ---- that a key signs its RRset
 
-empty_left : (xs ys : List Told) → xs ++ ys ≡ [] → xs ≡ []
+pub empty_left : (xs ys : List Told) → xs ++ ys ≡ [] → xs ≡ []
 empty_left [] ys none = refl
 empty_left (x ∷ xs) ys none = absurd (cc none)
 
-empty_right : (xs ys : List Told) → xs ++ ys ≡ [] → ys ≡ []
+pub empty_right : (xs ys : List Told) → xs ++ ys ≡ [] → ys ≡ []
 empty_right [] ys none = none
 empty_right (x ∷ xs) ys none = absurd (cc none)
-
-off_by_not : (b : Bool) → not b ≡ true → b ≡ false
-off_by_not true e = absurd (false≢true e)
-off_by_not false e = refl
 
 on_by_none : (b : Bool) (t : Told) → when (not b) t ≡ [] → b ≡ true
 on_by_none true t none = refl
@@ -51,9 +48,9 @@ module _ (P : Told → Type 0) (r : DnskeyFacts) (k : HeldKey) (each : (t : Told
       let wrong = fault_lines s.number s.faults in
       let other = when (not k.is_zone_key) no_zone_key in
       all_or_else P (wrong ++ other) (answer_lines s.number s.answer)
-      (all_append P wrong other (all_among P wrong (λ t there. each t (self_wrong s t among there)))
+      (all_append P wrong other (all_from P wrong (λ t there. each t (self_wrong s t among there)))
       (all_when P (not k.is_zone_key) no_zone_key (λ e. each _ (self_no_zone_key s among (off_by_not k.is_zone_key e)))))
-      (λ none. all_among P (answer_lines s.number s.answer) (λ t there. each t
+      (λ none. all_from P (answer_lines s.number s.answer) (λ t there. each t
       (self_answered s t among (empty_left wrong other none) (on_by_none k.is_zone_key no_zone_key (empty_right wrong other none)) there)))
 
   self_each : AllByRecursion (Lines P) (self_ways r k)

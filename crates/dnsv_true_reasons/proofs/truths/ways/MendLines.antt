@@ -1,18 +1,13 @@
 -- Mends each of whose lines is such.
-use Rattle.std.proofs.Common.{◌≡◌, inl, inr, ◌++◌, Bool, true, false, List, [], ◌∷◌, Option, Some, None, refl}
+use Rattle.std.proofs.Common.{◌≡◌, ◌++◌, Bool, true, false, List, [], ◌∷◌, Option, Some, None, refl}
 use Rattle.std.specs.List.{AllByRecursion}
 use Rattle.dnsv_mending.specs.Faults.{or_else, when}
 use Rattle.dnsv_mending.specs.Mend.{Mended, both, cheapest, fault, following, nothing, telling, untold, with_fault}
-use Rattle.dnsv_mending.specs.Ways.{IsAmong}
 use Rattle.dnsv_mending.specs.declared.price.Class.{Class}
 use Rattle.dnsv_mending.specs.declared.told.Told.{Told}
 use Rattle.dnsv_mending.proofs.AllWays.{all_append, of_cheapest}
 
 -- ---- lists
-
-pub all_among : {X : Type 0} (P : X → Type 0) (xs : List X) → ((x : X) → IsAmong x xs → P x) → AllByRecursion P xs
-all_among P [] each = tt
-all_among P (x ∷ xs) each = (each x (inl refl), all_among P xs (λ y among. each y (inr among)))
 
 pub all_or_else : (P : Told → Type 0) (xs ys : List Told) → AllByRecursion P xs → (xs ≡ [] → AllByRecursion P ys)
     → AllByRecursion P (or_else xs ys)

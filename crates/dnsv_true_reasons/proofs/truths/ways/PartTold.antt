@@ -56,18 +56,15 @@ IsOneOfWildcard (wildcard.Covered rrsets) r = IsAmong r rrsets.items
 abbrev pub IsOneOfCase : SourceCase → RrsetFacts → Type 0
 IsOneOfCase (case.Closed c) r = r ≡ c.rrset
 IsOneOfCase (case.At found) r = IsOneAt found r
-IsOneOfCase case.Apex r = ⊥
 IsOneOfCase (case.NonTerminal rrsets) r = IsAmong r rrsets.items
-IsOneOfCase case.NoEncloser r = ⊥
 IsOneOfCase (case.Encloser e) r = IsAmong r e.shown.items ⊎ (IsAmong r e.covers.items ⊎ IsOneOfWildcard e.wildcard r)
+IsOneOfCase other r = ⊥
 
 abbrev pub IsOneOfCut : CutCase → RrsetFacts → Type 0
 IsOneOfCut (cut.Delegation rrsets) r = IsAmong r rrsets.items
-IsOneOfCut cut.NoCut r = ⊥
 IsOneOfCut (cut.Signed s) r = r ≡ s.rrset
 IsOneOfCut (cut.OptOut o) r = IsAmong r o.shown.items ⊎ IsAmong r o.covers.items
-IsOneOfCut cut.Uncovered r = ⊥
-IsOneOfCut cut.Unmatched r = ⊥
+IsOneOfCut other r = ⊥
 
 -- the RRset is one of a part by the zone with so many labels
 pub data IsPartOf (q : QuestionFacts) : ℕ → RrsetFacts → Type 0 where

@@ -21,28 +21,29 @@ use Rattle.dnsv_mending.specs.declared.told.Told.TheVariants as told
 use Rattle.dnsv_lines.specs.declared.line.fault.signature.WhySignature.TheVariants as signature_why
 use Rattle.dnsv_mending.proofs.AllWays.{all_flat, all_if, all_ways_of}
 use Rattle.dnsv_mending.proofs.DearLines.{no_lines}
-use Rattle.dnsv_mending.proofs.SomeWays.{both_parts, passing, some_flat, some_if, some_kept, there}
+use Rattle.dnsv_mending.proofs.SomeWays.{passing, some_flat, some_if, some_kept, there}
+use Rattle.dnsv_mending.proofs.Reasons.{both_true}
 use Rattle.dnsv_remedies.specs.Parts.{or_missing, part, part_of_one, within_kept}
 use Rattle.dnsv_remedies.specs.Remedy.{missing}
 use Rattle.dnsv_remedies.specs.declared.said.Said.{Said}
 use Rattle.dnsv_remedies.specs.declared.said.Said.TheVariants as said
-use Rattle.dnsv_true_reasons.proofs.truths.ways.MendLines.{Kept, Lines, all_among, all_or_else, of_both, of_fault, of_least, of_telling, of_untold}
+use Rattle.dnsv_faults.proofs.lemmas.zones.ClosedLemmas.{good_by}
+use Rattle.dnsv_true_reasons.proofs.truths.ways.MendLines.{Kept, Lines, all_or_else, of_both, of_fault, of_least, of_telling, of_untold}
 use Rattle.dnsv_true_reasons.proofs.truths.ways.MendLines as lines
 use Rattle.dnsv_true_reasons.proofs.truths.ways.PartTold.{IsOfPart}
 use Rattle.dnsv_true_reasons.proofs.truths.ways.PartTold.IsOfPart.{by_another, by_zone, part_unsigned, unfounded}
 use Rattle.dnsv_true_reasons.proofs.truths.ways.RemedyLines.{Says, says_missing, says_whole}
-use Rattle.dnsv_true_reasons.proofs.truths.ways.SignatureWays.{LevelsOf, all_wrong, good_by}
+use Rattle.dnsv_true_reasons.proofs.truths.ways.SignatureWays.{LevelsOf, all_wrong}
 use Rattle.dnsv_true_reasons.proofs.truths.ways.Told.{IsOfSignature}
 use Rattle.dnsv_true_reasons.proofs.truths.ways.Told.IsOfSignature.{answered, follows, unnamed, untrusted}
+use Rattle.dnsv_true_reasons.proofs.Told.{all_from}
 
 -- ---- the mildest answer is that of a key
 
 milder_either : (a b : KeyAnswer) → (milder a b ≡ a) ⊎ (milder a b ≡ b)
-milder_either answer.Good b = inl refl
 milder_either answer.Bad b = inr refl
 milder_either answer.Unanswered answer.Good = inr refl
-milder_either answer.Unanswered answer.Bad = inl refl
-milder_either answer.Unanswered answer.Unanswered = inl refl
+milder_either a b = inl refl
 
 pub record MildestOf (a : KeyAnswer) (keys : List NamedKey) : Type 0 where
   pub k : NamedKey
@@ -96,7 +97,7 @@ module _ (P : Told → Type 0) (zones : List ZoneFacts) (s : SignatureFacts) (ea
   answers_case false some clean =
       let of = mildest_key s.keys.items some in
       subst (λ (a : KeyAnswer). AllByRecursion P (answer_lines s.number a)) (sym of.is)
-      (all_among P (answer_lines s.number of.k.answer) (λ t there. each t (answered of.k t of.among clean there)))
+      (all_from P (answer_lines s.number of.k.answer) (λ t there. each t (answered of.k t of.among clean there)))
 
   own_all : AllByRecursion P (own_lines s)
   own_all = all_or_else P (signature_lines s) (answer_lines s.number (mildest s)) (all_wrong P zones s each)
@@ -128,7 +129,7 @@ signer_level : (P : Told → Type 0) (zones : List ZoneFacts) (levels : List Lev
 signer_level P zones levels n are None at trusted = absurd (false≢true trusted)
 signer_level P zones levels n are (Some level) at trusted = let l = are n level at in (l.z, l.is, sym l.trusted ∙ trusted)
 
-off_by_not : (b : Bool) → not b ≡ true → b ≡ false
+pub off_by_not : (b : Bool) → not b ≡ true → b ≡ false
 off_by_not true e = absurd (false≢true e)
 off_by_not false e = refl
 
@@ -143,7 +144,7 @@ module _ (P : Told → Type 0) (zones : List ZoneFacts) (levels : List Leveled) 
   by_its_zone s among loose false e = tt
   by_its_zone s among loose true e =
       let its = λ (t : Told) (of : IsOfSignature zones s t). each t (by_zone s t among e of) in
-      let may = off_by_not s.faults.signer (both_parts (not s.faults.signer) (nat_eq s.signer zone) e).0 in
+      let may = off_by_not s.faults.signer (both_true (not s.faults.signer) (nat_eq s.signer zone) e).0 in
       (own_told P zones s its levels (λ clean good trusted. good_key its may clean good trusted (is_none s.keys.items) refl), tt)
     where
       good_key : ((t : Told) → IsOfSignature zones s t → P t) → s.faults.signer ≡ false → signature_lines s ≡ [] → mildest s ≡ answer.Good

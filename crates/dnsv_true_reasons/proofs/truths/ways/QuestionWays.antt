@@ -66,9 +66,6 @@ zone_there : (P : Told → Type 0) (zones : List ZoneFacts) (levels : List Level
 zone_there P zones levels n are None at m is = absurd (none_some m is)
 zone_there P zones levels n are (Some level) at m is = (are n level at).zone m is
 
-is_there : (b : Bool) → b ≡ false → b ≡ true → ⊥
-is_there b off on = false≢true (sym off ∙ on)
-
 module _ (zones : List ZoneFacts) (q : QuestionFacts) (levels : List Leveled)
     (are : LevelsOf (λ t. IsSaidOf zones q (said.Trust t)) zones levels) where
   after_zone : (n : ℕ) (m : Remedied) → Says (IsSaidOf zones q) m → AllByRecursion (Says (IsSaidOf zones q)) (after (zone_kept levels n) m)

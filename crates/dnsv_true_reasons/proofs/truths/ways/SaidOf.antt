@@ -67,21 +67,17 @@ IsOfCase labels n (case.Encloser e) line =
 
 -- of a name that may be an unsigned delegation
 abbrev pub IsOfCut : SourceNumber → ℕ → CutCase → Said → Type 0
-IsOfCut n c (cut.Delegation rrsets) line = ⊥
-IsOfCut n c cut.NoCut line = ⊥
 IsOfCut n c (cut.Signed s) line = line ≡ said.Source (why.TypeHeld s.number s.held) n (name.At c)
 IsOfCut n c (cut.OptOut o) line = (o.shown.items ≡ []) × (line ≡ said.Source why.EncloserMissing n (name.At c))
 IsOfCut n c cut.Uncovered line = line ≡ said.Source (why.CoverMissing role.Cut) n (name.At c)
 IsOfCut n c cut.Unmatched line = line ≡ said.Source why.MatchMissing n (name.At c)
+IsOfCut n c other line = ⊥
 
 -- the source proves an unsigned delegation, if its records are signed
 abbrev pub IsProvingCase : CutCase → Type 0
 IsProvingCase (cut.Delegation rrsets) = is_none rrsets.items ≡ false
-IsProvingCase cut.NoCut = ⊥
-IsProvingCase (cut.Signed s) = ⊥
 IsProvingCase (cut.OptOut o) = (is_none o.shown.items ≡ false) × (is_none o.covers.items ≡ false)
-IsProvingCase cut.Uncovered = ⊥
-IsProvingCase cut.Unmatched = ⊥
+IsProvingCase other = ⊥
 
 -- the name is a way: it is shown, or some source proves it
 abbrev pub IsWayBy : CutFacts → Type 0

@@ -1,15 +1,12 @@
 -- What is told on the ways on which a signature is good and an RRset signed.
 use Rattle.std.proofs.Common.{◌≡◌, ℕ, ◌++◌, Bool, true, false, if◌then◌else◌, List, [], ◌∷◌, Option, Some, None, flat_map, refl, sym, slice_get}
 use Rattle.std.specs.List.{AllByRecursion}
-use Rattle.dnsv_canonical.specs.declared.number.SignatureNumber.{SignatureNumber}
 use Rattle.dnsv_mending.specs.Faults.{answer_lines, consequence, lines_under, or_else, signature_lines, unnamed_lines}
 use Rattle.dnsv_mending.specs.Level.{Held, Leveled}
 use Rattle.dnsv_mending.specs.Mend.{Mended, after, both, fault, is_none, nothing, telling, untold}
 use Rattle.dnsv_mending.specs.Rrset.{held_way, held_ways, rrset_ways, signature_ways, signer_ways, unheld_way, unheld_ways}
 use Rattle.dnsv_mending.specs.Ways.{IsAmong}
 use Rattle.dnsv_mending.specs.Zone.{is_zone_trusted}
-use Rattle.dnsv_mending.specs.declared.facts.signature.KeyAnswer.{KeyAnswer}
-use Rattle.dnsv_mending.specs.declared.facts.signature.KeyAnswer.TheVariants as answer
 use Rattle.dnsv_mending.specs.declared.facts.signature.NamedKey.{NamedKey}
 use Rattle.dnsv_mending.specs.declared.facts.signature.RrsetFacts.{RrsetFacts}
 use Rattle.dnsv_mending.specs.declared.facts.signature.SignatureFacts.{SignatureFacts}
@@ -19,11 +16,13 @@ use Rattle.dnsv_mending.specs.declared.told.Told.{Told}
 use Rattle.dnsv_mending.specs.declared.told.Told.TheVariants as told
 use Rattle.dnsv_mending.proofs.AllWays.{all_after, all_append, all_flat, all_if}
 use Rattle.dnsv_mending.proofs.DearLines.{no_lines}
-use Rattle.dnsv_true_reasons.proofs.truths.ways.MendLines.{Kept, Lines, all_among, all_or_else, of_both, of_fault, of_following, of_telling, of_untold}
+use Rattle.dnsv_faults.proofs.lemmas.zones.ClosedLemmas.{good_by}
+use Rattle.dnsv_true_reasons.proofs.truths.ways.MendLines.{Kept, Lines, all_or_else, of_both, of_fault, of_following, of_telling, of_untold}
 use Rattle.dnsv_true_reasons.proofs.truths.ways.MendLines as lines
 use Rattle.dnsv_true_reasons.proofs.truths.ways.Told.{IsOfRrset, IsOfSignature}
 use Rattle.dnsv_true_reasons.proofs.truths.ways.Told.IsOfRrset.{by_signature, unsigned}
 use Rattle.dnsv_true_reasons.proofs.truths.ways.Told.IsOfSignature.{answered, follows, untrusted, wrong}
+use Rattle.dnsv_true_reasons.proofs.Told.{all_from}
 
 -- what is kept of a zone
 pub record LevelOf (P : Told → Type 0) (zones : List ZoneFacts) (n : ℕ) (level : Leveled) : Type 0 where
@@ -38,17 +37,12 @@ LevelsOf P zones levels = (n : ℕ) (level : Leveled) → slice_get levels n ≡
 
 -- ---- the lines of a signature
 
-pub good_by : (said : KeyAnswer) (n : SignatureNumber) → answer_lines n said ≡ [] → said ≡ answer.Good
-good_by answer.Good n none = refl
-good_by answer.Bad n none = absurd (cc none)
-good_by answer.Unanswered n none = absurd (cc none)
-
 module _ (P : Told → Type 0) (zones : List ZoneFacts) (s : SignatureFacts) (each : (t : Told) → IsOfSignature zones s t → P t) where
   pub all_wrong : AllByRecursion P (signature_lines s)
-  all_wrong = all_among P (signature_lines s) (λ t among. each t (wrong t among))
+  all_wrong = all_from P (signature_lines s) (λ t among. each t (wrong t among))
 
   pub all_answered : (k : NamedKey) → IsAmong k s.keys.items → signature_lines s ≡ [] → AllByRecursion P (answer_lines s.number k.answer)
-  all_answered k among clean = all_among P (answer_lines s.number k.answer) (λ t there. each t (answered k t among clean there))
+  all_answered k among clean = all_from P (answer_lines s.number k.answer) (λ t there. each t (answered k t among clean there))
 
   of_trust : (z : ZoneFacts) (k : NamedKey) (t : Bool) → slice_get zones s.signer ≡ Some z → is_zone_trusted z ≡ t → s.is_signed ≡ false
       → s.faults.signer ≡ false → IsAmong k s.keys.items → signature_lines s ≡ [] → answer_lines s.number k.answer ≡ []

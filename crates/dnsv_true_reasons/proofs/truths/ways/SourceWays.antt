@@ -1,5 +1,5 @@
 -- What is told of the sources of a zone, to deny a question or to prove an unsigned delegation.
-use Rattle.std.proofs.Common.{◌≡◌, inl, inr, ℕ, ◌||◌, not, Bool, true, false, if◌then◌else◌, List, [], ◌∷◌, Some, map, refl, sym, subst}
+use Rattle.std.proofs.Common.{◌≡◌, inl, inr, ℕ, ◌||◌, Bool, true, false, if◌then◌else◌, List, [], ◌∷◌, Some, map, refl, sym, subst}
 use Rattle.std.proofs.lemmas.Bool.{false≢true}
 use Rattle.std.proofs.lemmas.Option.{same_Some}
 use Rattle.std.specs.List.{AllByRecursion}
@@ -33,7 +33,7 @@ use Rattle.dnsv_remedies.specs.declared.facts.name.SourceNumber.{SourceNumber}
 use Rattle.dnsv_remedies.specs.declared.said.Said.{Said}
 use Rattle.dnsv_remedies.specs.declared.said.Said.TheVariants as said
 use Rattle.dnsv_true_reasons.proofs.truths.ways.PartTold.{IsOfPart, IsOneAt, IsOneOfCase, IsOneOfCut, IsOneOfWildcard}
-use Rattle.dnsv_true_reasons.proofs.truths.ways.PartWays.{one_says, part_says}
+use Rattle.dnsv_true_reasons.proofs.truths.ways.PartWays.{off_by_not, one_says, part_says}
 use Rattle.dnsv_true_reasons.proofs.truths.ways.RemedyLines.{Says, says_both, says_missing, says_nothing}
 use Rattle.dnsv_true_reasons.proofs.truths.ways.SaidOf.{IsOfCase, IsOfCut, IsOfRecordsAt, IsOfWildcard, IsProvingCase}
 use Rattle.dnsv_true_reasons.proofs.truths.ways.SignatureWays.{LevelsOf}
@@ -142,23 +142,17 @@ part_there : (levels : List Leveled) (zone : ℕ) (rrsets : List RrsetFacts) (li
 part_there levels zone [] lines whole = absurd (false≢true (sym whole))
 part_there levels zone (r ∷ rrsets) lines whole = refl
 
-off_by_not : (b : Bool) → not b ≡ true → b ≡ false
-off_by_not true e = absurd (false≢true e)
-off_by_not false e = refl
-
-neither : (a b : Bool) → (a || b) ≡ false → (a ≡ false) × (b ≡ false)
+pub neither : (a b : Bool) → (a || b) ≡ false → (a ≡ false) × (b ≡ false)
 neither true b e = absurd (false≢true (sym e))
 neither false b e = (refl, e)
 
 pub proving : (levels : List Leveled) (n : SourceNumber) (c : ℕ) (x : CutCase) → lacks_nothing (cut_remedy levels n c x) ≡ true
     → IsProvingCase x
 proving levels n c (cut.Delegation rrsets) e = part_there levels n.zone rrsets.items [] (off_by_not _ e)
-proving levels n c cut.NoCut e = absurd (false≢true e)
 proving levels n c (cut.Signed s) e = absurd (false≢true (sym (neither (part_of_one levels n.zone s.rrset).lacks true (off_by_not _ e)).1))
 proving levels n c (cut.OptOut o) e =
     let line = said.Source why.EncloserMissing n (name.At c) in
     let whole = neither (part levels n.zone o.shown.items (line ∷ [])).lacks (part levels n.zone o.covers.items []).lacks (off_by_not _ e)
     in
     (part_there levels n.zone o.shown.items (line ∷ []) whole.0, part_there levels n.zone o.covers.items [] whole.1)
-proving levels n c cut.Uncovered e = absurd (false≢true e)
-proving levels n c cut.Unmatched e = absurd (false≢true e)
+proving levels n c x e = absurd (false≢true e)

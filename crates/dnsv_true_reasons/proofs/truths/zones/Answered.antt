@@ -1,7 +1,6 @@
 -- What a verifier is asked of a signature with which nothing is wrong, and what it says.
-use Rattle.std.proofs.Common.{◌≡◌, ◌≢◌, ◌⊎◌, ◌<◌, ◌≤◌, ◌^◌, ℕ, suc, Bool, true, false, IsTrue, ⊎_elim, List, [], ◌∷◌, Some, None, if◌then◌else◌, nat_le, refl, sym, ap, ◌∙◌, subst, arith}
+use Rattle.std.proofs.Common.{◌≡◌, ◌≢◌, ◌⊎◌, ◌<◌, ◌≤◌, ◌^◌, ℕ, Bool, true, false, IsTrue, ⊎_elim, List, Some, None, if◌then◌else◌, nat_le, refl, sym, ap, ◌∙◌, subst}
 use Rattle.std.proofs.lemmas.Bool.{cases_lt, false≢true, leb-false}
-use Rattle.std.proofs.lemmas.List.Elements.{Contains-append_cases}
 use Rattle.std.specs.Prelude.{Contains, IsBitSet}
 use Rattle.dnsv_names.specs.Name.{Labels, SameName, IsAtOrBelow}
 use Rattle.dnsv_names.specs.Order.{IsBelow}
@@ -14,21 +13,21 @@ use Rattle.dnsv_records.specs.declared.rrsig.Rrsig.{Rrsig}
 use Rattle.dnsv_records.proofs.OneRecord.{one_rrsig}
 use Rattle.dnsv_canonical.specs.Index.{numbers_at}
 use Rattle.dnsv_canonical.specs.Rdata.{IsSignatureOver, IsWellFormed}
-use Rattle.dnsv_canonical.specs.Rrsets.{IsNumbered, ReceivedRrset}
+use Rattle.dnsv_canonical.specs.Rrsets.{ReceivedRrset}
 use Rattle.dnsv_canonical.specs.SignedData.{signed_label_count}
 use Rattle.dnsv_canonical.proofs.LawLemmas.{first_appearances_members, signed_somehow}
 use Rattle.dnsv_canonical.proofs.OrderLemmas.{each_of}
 use Rattle.dnsv_zone_keys.specs.Answers.{IsAnswered, IsKeyAnswer}
-use Rattle.dnsv_zone_keys.specs.Keys.{AreStanding, IsKeyPlaced}
+use Rattle.dnsv_zone_keys.specs.Keys.{IsKeyPlaced}
 use Rattle.dnsv_faults.specs.Signatures.{AreSignatureFaults, IsMeant, IsSignatureAt, expired, not_yet}
 use Rattle.dnsv_faults.proofs.lemmas.zones.PlaceLemmas.{contains_at}
-use Rattle.dnsv_faults.proofs.lemmas.zones.TrustLemmas.{numbered_among}
-use Rattle.dnsv_zone_keys.proofs.lemmas.ZoneKeyLemmas.{same_number}
+use Rattle.dnsv_faults.proofs.lemmas.zones.TrustLemmas.{numbered_among, true_by}
+use Rattle.dnsv_faults.proofs.lemmas.zones.InPlaceLemmas.{stands_in}
+use Rattle.dnsv_canonical.proofs.NumberLemmas.{each_number, IsOneAt, one_numbered}
 use Rattle.dnsv_mending.specs.declared.facts.signature.KeyAnswer.TheVariants as said
 use Rattle.dnsv_mending.specs.declared.facts.signature.SignatureFaults.{SignatureFaults}
 use Rattle.dnsv_lines.specs.declared.line.fault.signature.SignatureTimes.{SignatureTimes}
 use Rattle.dnsv_verdict.specs.Verdict.{Basis}
-use Rattle.dnsv_verdict.proofs.SearchLemmas.NumberLemmas.{IsOneAt, each_number}
 use Rattle.dnsv_verifier.specs.Admissible.{DnskeyRecord, IsAdmissible, IsEntryOf, IsKeyAmong, MaySign, entry_over}
 use Rattle.dnsv_verifier.specs.declared.answer.Answer.{Answer}
 use Rattle.dnsv_verifier.specs.declared.answer.Answer.TheVariants.{Valid, Invalid, Unknown}
@@ -36,41 +35,6 @@ use Rattle.dnsv_verifier.specs.declared.entry.Entry.{Entry}
 use Rattle.dnsv_true_reasons.specs.truth.Signatures.{HasAnswer}
 
 -- ---- keys of the evidence
-
--- a key of a zone, as the RRset that it stands in has it
-pub record StandsIn (rrsets : List ReceivedRrset) (numbers : List ℕ) (rdata : List ℕ) : Type 0 where
-  pub k : ℕ
-  pub listed : Contains numbers k
-  pub set : ReceivedRrset
-  pub numbered : IsNumbered rrsets k set
-  pub holds : Contains set.rdata rdata
-
-stands_in : (rrsets : List ReceivedRrset) (numbers : List ℕ) (standing : List (List ℕ)) (rdata : List ℕ)
-    → AreStanding rrsets numbers standing
-    → Contains standing rdata → StandsIn rrsets numbers rdata
-stands_in rrsets [] standing rdata stand there =
-    absurd (let none = subst (λ (all : List (List ℕ)). Contains all rdata) stand there in let within = none.1 in omega (arith, within))
-stands_in rrsets (n ∷ numbers) standing rdata stand there = ⊎_elim
-    (λ (here : Contains stand.0 rdata).
-    let its = stand.2 in
-    record {
-      k = n;
-      listed = (0, omega arith, refl);
-      set = its.rrset;
-      numbered = its.numbered;
-      holds = (its.canonical.members rdata).0
-          here;
-    })
-    (λ (later : Contains stand.1 rdata).
-    let rest = stands_in rrsets numbers stand.1 rdata stand.3 later in
-    record {
-      k = rest.k;
-      listed = (suc rest.listed.0, let within = rest.listed.1 in omega (arith, within), rest.listed.2);
-      set = rest.set;
-      numbered = rest.numbered;
-      holds = rest.holds;
-    })
-    (Contains-append_cases stand.0 stand.1 rdata (subst (λ (all : List (List ℕ)). Contains all rdata) stand.4 there))
 
 -- the same key, with the owner of its RRset
 pub record IsSameKeyAmong (rrsets : List ReceivedRrset) (zone : Labels) (key : DnskeyRecord) : Type 0 where
@@ -88,7 +52,7 @@ among_placed rrsets zone place key placed =
     (subst (λ (each : List (List ℕ)). Contains each key.rdata) placed.are.once there) in
     let stands = stands_in rrsets (numbers_at rrsets zone 48) placed.are.standing key.rdata placed.are.stand appears in
     let one = each_of (IsOneAt rrsets zone 48) (numbers_at rrsets zone 48) stands.k (each_number rrsets zone 48) stands.listed in
-    let set = same_number rrsets stands.k one.rrset stands.set one.is_rrset stands.numbered in
+    let set = one_numbered rrsets stands.k one.rrset stands.set one.is_rrset stands.numbered in
     record {
       same = record { owner = stands.set.owner; rdata = key.rdata; dnskey = key.dnskey };
       among = record {
@@ -142,10 +106,6 @@ has_answer basis rrset rrsig place key answer placed answered =
     }
 
 -- ---- a signature with which nothing is wrong
-
-pub true_by : (b : Bool) → ((IsTrue b → ⊥) → ⊥) → IsTrue b
-true_by true twice = refl
-true_by false twice = absurd (twice (λ yes. false≢true yes))
 
 pub may_sign : (signer : Labels) (rtype : ℕ) (owner : Labels) → ((MaySign signer rtype owner → ⊥) → ⊥) → MaySign signer rtype owner
 may_sign signer rtype owner twice = record {

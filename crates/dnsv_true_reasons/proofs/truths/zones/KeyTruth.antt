@@ -149,7 +149,6 @@ module _ (basis : Basis) (name zone : Labels) (k : ℕ) (r : DnskeyFacts) (its :
   answer_told s own clean zone_key said.Good is line never = absurd never
   answer_told s own clean zone_key said.Bad is line (inl same) = subst (IsTold basis name) (sym same)
       (it_is s own why.Bad (its_answer s own Invalid is))
-  answer_told s own clean zone_key said.Bad is line (inr never) = absurd never
   answer_told s own clean zone_key said.Unanswered is line (inl same) =
       let no_faults = clean_of s.number s.faults clean in
       let may = may_sign own.rrsig.signer its.set.rtype its.set.owner
@@ -161,7 +160,7 @@ module _ (basis : Basis) (name zone : Labels) (k : ℕ) (r : DnskeyFacts) (its :
       (covers its.set s.number.signature own.rrsig formed own.its) there.is.key
       (record { named = own.may.named; zone_key = there.is.zone_key.0 zone_key }) owner is in
       subst (IsTold basis name) (sym same) (it_is s own why.Unanswered (its_answer s own Unknown asked))
-  answer_told s own clean zone_key said.Unanswered is line (inr never) = absurd never
+  answer_told s own clean zone_key a is line (inr never) = absurd never
 
   pub key_true : (line : Told) → IsOfKey r held line → IsTold basis name line
   key_true line (not_self_signed none has) = key_told none has

@@ -18,7 +18,7 @@ use Rattle.dnsv_faults.specs.Signatures.{AreSignatureFacts, AreSignatureFaults, 
 use Rattle.dnsv_faults.specs.Zones.{AreZoneFacts}
 use Rattle.dnsv_faults.proofs.lemmas.zones.ClosedLemmas.{closed_signature, contains_of}
 use Rattle.dnsv_faults.proofs.lemmas.zones.TrustLemmas.{zip_left}
-use Rattle.dnsv_zone_keys.proofs.lemmas.ZoneKeyLemmas.{same_number}
+use Rattle.dnsv_canonical.proofs.NumberLemmas.{each_number, IsOneAt, one_numbered}
 use Rattle.dnsv_lines.specs.declared.line.fault.signature.SignatureTimes.{SignatureTimes}
 use Rattle.dnsv_lines.specs.declared.line.fault.signature.WhySignature.{WhySignature}
 use Rattle.dnsv_lines.specs.declared.line.fault.signature.WhySignature.TheVariants as why
@@ -37,7 +37,6 @@ use Rattle.dnsv_mending.specs.declared.told.Told.TheVariants as told
 use Rattle.dnsv_mending.proofs.AllWays.{all_append}
 use Rattle.dnsv_mending.proofs.SomeWays.{passing}
 use Rattle.dnsv_verdict.specs.Verdict.{Basis}
-use Rattle.dnsv_verdict.proofs.SearchLemmas.NumberLemmas.{IsOneAt, each_number}
 use Rattle.dnsv_verifier.specs.declared.answer.Answer.TheVariants.{Valid, Invalid, Unknown}
 use Rattle.dnsv_true_reasons.specs.Ends.{IsTrustedZone}
 use Rattle.dnsv_true_reasons.specs.truth.Signatures.{IsSignatureTrue}
@@ -46,6 +45,7 @@ use Rattle.dnsv_true_reasons.proofs.truths.ways.MendLines.{all_when}
 use Rattle.dnsv_true_reasons.proofs.truths.ways.Told.{IsOfSignature}
 use Rattle.dnsv_true_reasons.proofs.truths.ways.Told.IsOfSignature.{answered, follows, unnamed, untrusted, wrong}
 use Rattle.dnsv_true_reasons.proofs.truths.zones.TrueTold.{IsSignatureTold, IsTold}
+use Rattle.dnsv_true_reasons.proofs.truths.ways.KeyWays.{empty_left, empty_right}
 
 -- ---- lists
 
@@ -53,14 +53,6 @@ pub among_all : {X : Type 0} (P : X → Type 0) (xs : List X) (x : X) → AllByR
 among_all P [] x all among = absurd among
 among_all P (y ∷ xs) x all (inl same) = subst P (sym same) all.0
 among_all P (y ∷ xs) x all (inr later) = among_all P xs x all.1 later
-
-empty_left : (xs ys : List Told) → xs ++ ys ≡ [] → xs ≡ []
-empty_left [] ys none = refl
-empty_left (x ∷ xs) ys none = absurd (cc none)
-
-empty_right : (xs ys : List Told) → xs ++ ys ≡ [] → ys ≡ []
-empty_right [] ys none = none
-empty_right (x ∷ xs) ys none = absurd (cc none)
 
 not_when : (b : Bool) (t : Told) → when b t ≡ [] → b ≡ false
 not_when false t none = refl
@@ -180,12 +172,11 @@ module _ (basis : Basis) (name : Labels) (t : ℕ) (zones : List ZoneFacts) (are
   answer_told n key clean said.Good is line among = absurd among
   answer_told n key clean said.Bad is line (inl same) =
       subst (IsTold basis name) (sym same) (it_is why.Bad (has_answer basis rrset its.rrsig n.key key.key Invalid key.placed is))
-  answer_told n key clean said.Bad is line (inr never) = absurd never
   answer_told n key clean said.Unanswered is line (inl same) =
       let asked = unknown basis rrset its.rrsig s.faults its.faults (faults_clean clean) (covers rrset sn its.rrsig formed its.its)
       key.key key.meant key.placed.owner is in
       subst (IsTold basis name) (sym same) (it_is why.Unanswered (has_answer basis rrset its.rrsig n.key key.key Unknown key.placed asked))
-  answer_told n key clean said.Unanswered is line (inr never) = absurd never
+  answer_told n key clean a is line (inr never) = absurd never
 
   trusted_signer : (z : ZoneFacts) → slice_get zones s.signer ≡ Some z → is_zone_trusted z ≡ true → s.faults.signer ≡ false
       → IsTrustedZone basis its.rrsig.signer
@@ -198,7 +189,7 @@ module _ (basis : Basis) (name : Labels) (t : ℕ) (zones : List ZoneFacts) (are
       let of = zip_left (AreDnskeyFacts basis zone) (numbers_at basis.rrsets zone 48) z.dnskeys.items one.x (are.each s.signer z at).dnskeys
       (contains_of one.x z.dnskeys.items one.among) in
       let listed = each_of (IsOneAt basis.rrsets zone 48) (numbers_at basis.rrsets zone 48) of.0 (each_number basis.rrsets zone 48) of.1 in
-      let same = same_number basis.rrsets of.0 listed.rrset of.2.set listed.is_rrset of.2.numbered in
+      let same = one_numbered basis.rrsets of.0 listed.rrset of.2.set listed.is_rrset of.2.numbered in
       let owner : SameName of.2.set.owner zone = subst (λ (r : ReceivedRrset). SameName r.owner zone) same listed.owner in
       (of.2.set, of.2.trusted.0 one.passes, owner ∙ sym signer)
 

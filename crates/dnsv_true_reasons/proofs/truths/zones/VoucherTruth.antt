@@ -17,7 +17,7 @@ use Rattle.dnsv_faults.specs.Groups.{AreAnchorFactsFrom, AreRecordFacts, anchor_
 use Rattle.dnsv_zone_keys.specs.Keys.{IsKeyPlaced}
 use Rattle.dnsv_zone_keys.specs.Vouchers.{AreVoucherFacts, HasNoKey, HasSuchKey, IsFirstOf, IsMatchOf, IsVoucherFault, IsWantedBy, HasTag, Wanted, voucher_faults, wanted_key}
 use Rattle.dnsv_zone_keys.specs.Vouchers.Wanted.{by_digest, whole_key}
-use Rattle.dnsv_zone_keys.proofs.lemmas.VoucherLemmas.{match_wanted}
+use Rattle.dnsv_zone_keys.proofs.lemmas.VoucherLemmas.{match_wanted, wanted_tag}
 use Rattle.dnsv_faults.proofs.lemmas.zones.MatchLemmas.{nothing_said}
 use Rattle.dnsv_zone_keys.proofs.lemmas.ZoneKeyLemmas.{placed_same}
 use Rattle.dnsv_lines.specs.declared.line.derivation.KeyName.{KeyName}
@@ -48,14 +48,12 @@ some_key_moves rrsets a b Such same some = (some.0, some.1, placed_same rrsets a
 pub fault_moves : (rrsets : List ReceivedRrset) (a b : Labels) (wanted : Wanted) (w : WhyEntry) → SameName a b
     → IsVoucherFault rrsets a wanted w
     → IsVoucherFault rrsets b wanted w
-fault_moves rrsets a b wanted why.Algorithm same is = is
-fault_moves rrsets a b wanted why.DigestType same is = is
-fault_moves rrsets a b wanted why.DigestIgnored same is = is
 fault_moves rrsets a b wanted why.KeyMissing same is = no_key_moves rrsets a b (HasTag wanted) same is
 fault_moves rrsets a b wanted why.KeyAlgorithm same is =
     (some_key_moves rrsets a b (HasTag wanted) same is.0, no_key_moves rrsets a b (IsWantedBy wanted) same is.1)
 fault_moves rrsets a b wanted why.DigestDiffers same is =
     (some_key_moves rrsets a b (IsWantedBy wanted) same is.0, no_key_moves rrsets a b (IsMatchOf wanted) same is.1)
+fault_moves rrsets a b wanted w same is = is
 
 pub fits_moves : (rrsets : List ReceivedRrset) (a b : Labels) (wanted : Wanted) (key : DnskeyRecord) → SameName a b
     → Fits rrsets a wanted key → Fits rrsets b wanted key
@@ -136,10 +134,6 @@ wanted_algorithm_is : (wanted : Wanted) (key : DnskeyRecord) → IsDnskey key.rd
 wanted_algorithm_is (by_digest records ds) key read is = sym is.1
 wanted_algorithm_is (whole_key rdata) key read is = ap (λ octets. number_at octets 3 1) (sym is) ∙ sym read.algorithm
 
-wanted_tagged : (wanted : Wanted) (key : DnskeyRecord) → IsWantedBy wanted key → HasTag wanted key
-wanted_tagged (by_digest records ds) key is = is.0
-wanted_tagged (whole_key rdata) key is = is
-
 module _ (rrsets : List ReceivedRrset) (zone : Labels) (n : EntryNumber) (wanted : Wanted) (v : VoucherFacts)
     (are : AreVoucherFacts rrsets zone n wanted v)
     (r : DnskeyFacts) (held : HeldKey) (key : DnskeyRecord) (placed : IsKeyPlaced rrsets zone held.key key)
@@ -154,7 +148,7 @@ module _ (rrsets : List ReceivedRrset) (zone : Labels) (n : EntryNumber) (wanted
   both_on false b first second = absurd (false≢true first)
 
   same_name : IsWantedBy wanted key → is_name v.name (signing r held).name ≡ true
-  same_name is = both_on (is_tag v.name (signing r held).name) _ (same_tag (wanted_tagged wanted key is))
+  same_name is = both_on (is_tag v.name (signing r held).name) _ (same_tag (wanted_tag wanted key is))
       (eq-eqb v.name.algorithm.0 (signing r held).name.algorithm.0
       (ap (λ (name : KeyName). name.algorithm.0) are.name ∙ wanted_algorithm_is wanted key placed.read is ∙ sym algorithm
       ∙ ap (λ (name : KeyName). name.algorithm.0) (sym (key_name r held))))

@@ -1,5 +1,5 @@
 -- What is told of zones is so.
-use Rattle.std.proofs.Common.{◌≡◌, ◌≢◌, ◌+◌, ◌<◌, ◌||◌, ◌&&◌, ℕ, Bool, true, false, inl, inr, List, [], ◌∷◌, Some, map, length, refl, sym, ap, ◌∙◌, subst, slice_get, arith}
+use Rattle.std.proofs.Common.{◌≡◌, ◌≢◌, ◌+◌, ◌&&◌, ℕ, Bool, true, false, inl, inr, List, [], ◌∷◌, Some, map, refl, sym, ap, ◌∙◌, subst, slice_get}
 use Rattle.std.proofs.lemmas.Bool.{false≢true}
 use Rattle.std.specs.List.{AllByRecursion, AllZip, list_any}
 use Rattle.std.specs.Prelude.{Contains}
@@ -27,7 +27,8 @@ use Rattle.dnsv_faults.proofs.lemmas.zones.MatchLemmas.{anchor_known, record_kno
 use Rattle.dnsv_faults.proofs.lemmas.zones.PlaceLemmas.{at_some, same_record}
 use Rattle.dnsv_faults.proofs.lemmas.zones.TrustLemmas.{number_of, numbered_among, zip_left, zip_right}
 use Rattle.dnsv_faults.proofs.lemmas.zones.ZoneLemmas.{has_held}
-use Rattle.dnsv_zone_keys.proofs.lemmas.ZoneKeyLemmas.{same_number}
+use Rattle.dnsv_faults.proofs.lemmas.zones.InPlaceLemmas.{first_of as first_in}
+use Rattle.dnsv_canonical.proofs.NumberLemmas.{each_number, IsOneAt, one_numbered}
 use Rattle.dnsv_lines.specs.declared.line.derivation.KeyName.{KeyName}
 use Rattle.dnsv_lines.specs.declared.line.fault.zone.EntryNumber.{EntryNumber}
 use Rattle.dnsv_lines.specs.declared.line.fault.zone.EntryNumber.TheVariants as number
@@ -42,10 +43,9 @@ use Rattle.dnsv_mending.specs.declared.facts.keys.VoucherFacts.{VoucherFacts}
 use Rattle.dnsv_mending.specs.declared.facts.zone.DsFacts.{DsFacts}
 use Rattle.dnsv_mending.specs.declared.facts.zone.ZoneFacts.{ZoneFacts}
 use Rattle.dnsv_mending.specs.declared.told.Told.{Told}
-use Rattle.dnsv_mending.proofs.SomeWays.{both_parts}
+use Rattle.dnsv_mending.proofs.Reasons.{both_true}
 use Rattle.dnsv_verdict.specs.Verdict.{Basis}
 use Rattle.dnsv_verdict.proofs.SearchLemmas.{numbers_are}
-use Rattle.dnsv_verdict.proofs.SearchLemmas.NumberLemmas.{IsOneAt, each_number}
 use Rattle.dnsv_verifier.specs.Admissible.{DnskeyRecord}
 use Rattle.dnsv_true_reasons.specs.truth.Entries.{Fits, IsVoucherOf}
 use Rattle.dnsv_true_reasons.proofs.truths.zones.KeyTruth.{key_true, numbered_next}
@@ -55,6 +55,7 @@ use Rattle.dnsv_true_reasons.proofs.truths.ways.Told.{IsOfZone, IsOfZones}
 use Rattle.dnsv_true_reasons.proofs.truths.ways.Told.IsOfZone.{no_anchor, no_dnskey, no_ds, of_anchor, of_ds, of_key, of_record, without_voucher}
 use Rattle.dnsv_true_reasons.proofs.truths.zones.TrueTold.{IsSetTold, IsTold}
 use Rattle.dnsv_true_reasons.proofs.truths.zones.VoucherTruth.{anchor_there, first_is, fits_moves, not_fitting, record_there}
+use Rattle.dnsv_true_reasons.proofs.truths.ways.SourceWays.{neither}
 
 -- ---- lists
 
@@ -75,18 +76,10 @@ first_of : {X : Type 0} (xs : List X) → is_none xs ≡ false → (x : X) × Is
 first_of [] some = absurd (false≢true (sym some))
 first_of (x ∷ xs) some = (x, inl refl)
 
-first_in : {X : Type 0} (xs : List X) → 0 < length xs → (x : X) × Contains xs x
-first_in [] some = absurd (omega (arith, some))
-first_in (x ∷ xs) some = (x, (0, omega arith, refl))
-
 among_map : {X Y : Type 0} (f : X → Y) (xs : List X) (x : X) → IsAmong x xs → IsAmong (f x) (map f xs)
 among_map f [] x among = absurd among
 among_map f (y ∷ xs) x (inl same) = inl (ap f same)
 among_map f (y ∷ xs) x (inr later) = inr (among_map f xs x later)
-
-neither : (a b : Bool) → (a || b) ≡ false → (a ≡ false) × (b ≡ false)
-neither true b e = absurd (false≢true (sym e))
-neither false b e = (refl, e)
 
 one_off : (a b : Bool) → (a && b) ≡ false → (a ≡ true → b ≡ false)
 one_off true b e on = e
@@ -113,7 +106,7 @@ it_is_at : (rrsets : List ReceivedRrset) (zone : Labels) (rtype k : ℕ) (rrset 
     → IsNumbered rrsets k rrset → ItIsAt zone rtype rrset
 it_is_at rrsets zone rtype k rrset there numbered =
     let one = each_of (IsOneAt rrsets zone rtype) (numbers_at rrsets zone rtype) k (each_number rrsets zone rtype) there in
-    let same = same_number rrsets k one.rrset rrset one.is_rrset numbered in record {
+    let same = one_numbered rrsets k one.rrset rrset one.is_rrset numbered in record {
       owner = subst (λ (r : ReceivedRrset). SameName r.owner zone) same one.owner;
       rtype_is = subst (λ (r : ReceivedRrset). r.rtype ≡ rtype) same one.same_type;
     }
@@ -223,7 +216,7 @@ module _ (basis : Basis) (name : Labels) (t : ℕ) (zones : List ZoneFacts) (are
       (record { rrset = vouches.rrset; is_rrset = vouches.numbered; owner = vouches.owner ∙ same; same_type = vouches.rtype }) in
       let found = zip_right (AreDsFacts basis zone) (numbers_at basis.rrsets zone 43) z.ds.items k facts.ds in_list in
       let its = found.2 in
-      let set : its.set ≡ vouches.rrset = same_number basis.rrsets k its.set vouches.rrset its.numbered vouches.numbered in
+      let set : its.set ≡ vouches.rrset = one_numbered basis.rrsets k its.set vouches.rrset its.numbered vouches.numbered in
       let canonical : vouches.placed.canonical ≡ its.canonical =
       canonical_unique vouches.rrset.rdata vouches.placed.canonical its.canonical vouches.placed.in_order
       (subst (λ (r : ReceivedRrset). IsCanonical r.rdata its.canonical) set its.in_order) in
@@ -358,7 +351,7 @@ module _ (basis : Basis) (name : Labels) (t : ℕ) (zones : List ZoneFacts) (are
       none_there (AreDnskeyFacts basis zone) (numbers_at basis.rrsets zone 48) z.dnskeys.items one.0 facts.dnskeys none one.1
   zone_true line (no_ds none) =
       let zone = rightmost name n in
-      let both = both_parts (is_none z.anchors.items) (is_none z.ds.items) none in (
+      let both = both_true (is_none z.anchors.items) (is_none z.ds.items) none in (
         λ has.
             let found = anchor_known basis.rrsets zone 1 basis.anchors z.anchors.items has.0 facts.anchors has.1 has.2 in
             no_member z.anchors.items found.known both.0 found.among,
@@ -375,7 +368,7 @@ module _ (basis : Basis) (name : Labels) (t : ℕ) (zones : List ZoneFacts) (are
   zone_true line (of_ds ds x in_zone of) =
       let there = ds_there ds in_zone in
       let its = there.its.rrset in
-      let set = same_number basis.rrsets there.k there.its.set its.rrset there.its.numbered its.numbered in
+      let set = one_numbered basis.rrsets there.k there.its.set its.rrset there.its.numbered its.numbered in
       let owner : SameName its.rrset.owner (rightmost name n) = subst (λ (r : ReceivedRrset). SameName r.owner (rightmost name n)) set
       there.it_is.owner in
       rrset_true basis name t zones are formed there.k ds.rrset its

@@ -1,9 +1,9 @@
 use Rattle.std.proofs.Common.{List, [], length, map, sym, ap, ◌∙◌, subst, ℕ}
 use Rattle.std.specs.List.{AllZip}
+use Rattle.dnsv_canonical.proofs.OrderLemmas.{zip_length}
 use Rattle.dnsv_verifier.specs.Admissible.{DnskeyRecord}
 use Rattle.dnsv_verifier.specs.Asking.{AddsJust, ComesOfSome, IsEntryOfMade, IsMadeAt, MadeSignature}
 use Rattle.dnsv_verifier.specs.Numbers.{IsPartNumber, entry_of}
-use Rattle.dnsv_verifier.proofs.AskLemmas.{zip_length}
 use Rattle.dnsv_verifier.proofs.EntryLemmas.{just_asked}
 use Rattle.dnsv_verifier.proofs.ask.asked_entries.Goals as goal
 

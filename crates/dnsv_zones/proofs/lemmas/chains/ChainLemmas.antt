@@ -33,7 +33,7 @@ any_left : {X : Type 0} (P : X → Type 0) (xs ys : List X) → Any P xs → Any
 any_left P [] ys some = absurd some
 any_left P (x ∷ xs) ys some = ⊎_elim (λ (here : P x). inl here) (λ (rest : Any P xs). inr (any_left P xs ys rest)) some
 
-any_right : {X : Type 0} (P : X → Type 0) (xs ys : List X) → Any P ys → Any P (xs ++ ys)
+pub any_right : {X : Type 0} (P : X → Type 0) (xs ys : List X) → Any P ys → Any P (xs ++ ys)
 any_right P [] ys some = some
 any_right P (x ∷ xs) ys some = inr (any_right P xs ys some)
 

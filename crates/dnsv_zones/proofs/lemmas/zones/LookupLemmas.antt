@@ -94,14 +94,8 @@ along zone a b t same holds = subst (λ (name : Labels). Holds zone name t) same
 -- no two answers of a lookup differ
 pub one_answer : (zone : Zone) (name : Labels) (t : ℕ) (p q : Answer) → IsLookup zone name t p → IsLookup zone name t q → p ≡ q
 one_answer zone name t Elsewhere Elsewhere h k = refl
-one_answer zone name t Elsewhere (Held b) h k = absurd (k.0 h)
-one_answer zone name t Elsewhere (Alias b) h k = absurd (k.0 h)
-one_answer zone name t Elsewhere (NoData b) h k = absurd (k.0 h)
-one_answer zone name t Elsewhere NoName h k = absurd (k.0 h)
-one_answer zone name t (Held a) Elsewhere h k = absurd (h.0 k)
-one_answer zone name t (Alias a) Elsewhere h k = absurd (h.0 k)
-one_answer zone name t (NoData a) Elsewhere h k = absurd (h.0 k)
-one_answer zone name t NoName Elsewhere h k = absurd (h.0 k)
+one_answer zone name t p Elsewhere h k = absurd (h.0 k)
+one_answer zone name t Elsewhere q h k = absurd (k.0 h)
 one_answer zone name t (Held a) (Held b) h k = ap Held (one_source zone name a b h.1.0 k.1.0)
 one_answer zone name t (Held a) (Alias b) h k = absurd (k.1.1 (along zone a b t (one_source zone name a b h.1.0 k.1.0) h.1.1))
 one_answer zone name t (Held a) (NoData b) h k = absurd (k.1.1 (along zone a b t (one_source zone name a b h.1.0 k.1.0) h.1.1))

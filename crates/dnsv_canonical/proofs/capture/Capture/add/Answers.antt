@@ -3,7 +3,7 @@ use Rattle.std.proofs.lemmas.Result.{err_from_is_err_and}
 use Rattle.std.specs.List.{AllByRecursion}
 use Rattle.dnsv_message.specs.Message.{Contents, records_of}
 use Rattle.dnsv_canonical.specs.declared.capture.CaptureError.{CaptureError}
-use Rattle.dnsv_canonical.specs.declared.capture.CaptureError.TheVariants.{OutOfMemory, NotAResponse, Truncated, BadRdata, Limit}
+use Rattle.dnsv_canonical.specs.declared.capture.CaptureError.TheVariants.{OutOfMemory, Limit}
 use Rattle.dnsv_canonical.specs.Evidence.{AreParameters, AtMost, Evidence, AreParametersAmong, IsReadable, IsReasonAgainst, IsSmall, IsWhole, IsWithinLimits, nsec3_rdata, with_message}
 use Rattle.dnsv_canonical.specs.Index.Grouping.{IsIndexOf}
 use Rattle.dnsv_canonical.specs.Kept.{IsHeld, IsParametersRefusal}
@@ -18,10 +18,8 @@ use Rattle.dnsv_canonical.proofs.capture.Capture.add.Goals as goal
 pairs_refusal : (held : Evidence) (message : Contents) (received : List (List ℕ)) (error : CaptureError) → IsWhole message → AllByRecursion IsReadable (records_of message)
     → (¬ AtMost 8 (AreParametersAmong received) → ¬ IsWithinLimits (with_message held message)) → IsParametersRefusal received error → IsReasonAgainst held message error
 pairs_refusal held message received OutOfMemory whole readable above refused = whole
-pairs_refusal held message received NotAResponse whole readable above refused = absurd refused
-pairs_refusal held message received Truncated whole readable above refused = absurd refused
-pairs_refusal held message received (BadRdata k) whole readable above refused = absurd refused
 pairs_refusal held message received Limit whole readable above many = (whole, readable, above many)
+pairs_refusal held message received error whole readable above refused = absurd refused
 
 pub returns-in_err-check_whole-clause-refused : goal.returns-in_err-check_whole-clause-refused
 returns-in_err-check_whole-clause-refused c =

@@ -3,12 +3,11 @@ use Rattle.std.proofs.Common.{◌≡◌, ◌<◌, ◌≤◌, ◌+◌, ℕ, List,
 use Rattle.dnsv_names.specs.Name.{Labels, SameName}
 use Rattle.dnsv_canonical.specs.Index.{numbers_at}
 use Rattle.dnsv_canonical.specs.Rrsets.{IsNumbered, ReceivedRrset}
-use Rattle.dnsv_derivations.proofs.lemmas.NumberLemmas.{IsOneAt}
+use Rattle.dnsv_canonical.proofs.NumberLemmas.{IsOneAt, one_numbered}
 use Rattle.dnsv_derivations.specs.Explained.{Setting}
 use Rattle.dnsv_derivations.specs.derivations.WaySearch.{IsNoWay, IsNoWayBefore, MayDelegate, number_or_end}
 use Rattle.dnsv_derivations.specs.derivations.Ways.{HasSecured, IsWayInto, Way, voucher_rank}
 use Rattle.dnsv_derivations.proofs.lemmas.IndexLemmas.{bound_past, bound_within, first_at_most, next_at_most, one_there}
-use Rattle.dnsv_derivations.proofs.lemmas.NumberedLemmas.{same_number}
 use Rattle.dnsv_derivations.proofs.lemmas.derivations.WayLemmas.RankLemmas.{by_record, next_rrset, records_end, rrsets_passed}
 
 module _ (setting : Setting) (k : ℕ) (set : ReceivedRrset) (is_set : IsNumbered setting.rrsets k set) where
@@ -20,7 +19,7 @@ module _ (setting : Setting) (k : ℕ) (set : ReceivedRrset) (is_set : IsNumbere
       → IsOneOf (voucher_rank way.voucher).rrset × HasSecured setting (voucher_rank way.voucher).rrset
   delegates way is counted =
       let by = by_record setting way.voucher way.key is.matched counted in
-      let same : is.set ≡ set = same_number setting.rrsets k is.set set is.good.is_rrset is_set in
+      let same : is.set ≡ set = one_numbered setting.rrsets k is.set set is.good.is_rrset is_set in
       let owner : way.key.owner ≡ set.owner = is.stands.owner ∙ ap (λ (each : ReceivedRrset). each.owner) same in
       let AtOwner : Labels → Type 0 = λ each. SameName by.1.rrset.owner each in (
         record {
@@ -39,7 +38,7 @@ module _ (setting : Setting) (k : ℕ) (set : ReceivedRrset) (is_set : IsNumbere
       let counted = is_ds.0 in
       let by = delegates way is (omega (arith, counted, here)) in
       let Numbered : ℕ → Type 0 = λ n. IsNumbered setting.rrsets n by.0.rrset in
-      let same : by.0.rrset ≡ ds = same_number setting.rrsets number by.0.rrset ds (subst Numbered here by.0.is_rrset) is_ds in
+      let same : by.0.rrset ≡ ds = one_numbered setting.rrsets number by.0.rrset ds (subst Numbered here by.0.is_rrset) is_ds in
       absurd (never (subst (λ (T : Type 0). T) (λ i. MayDelegate setting (here i) (same i) set.owner)
       (record { rtype = by.0.same_type; owner = by.0.owner; secured = by.1 }))))
 

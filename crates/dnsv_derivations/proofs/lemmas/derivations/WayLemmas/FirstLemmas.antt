@@ -8,11 +8,11 @@ use Rattle.dnsv_denial.specs.words.EvidenceWords.{number_cmp}
 use Rattle.dnsv_canonical.specs.declared.number.RecordNumber.{RecordNumber}
 use Rattle.dnsv_derivations.specs.Explained.{Setting}
 use Rattle.dnsv_derivations.specs.Following.{IsGoodUnder, IsMatchedBy}
-use Rattle.dnsv_derivations.specs.derivations.WaySearch.{IsFirstUnder, IsFoundWay, IsNoWayBefore, IsNoneUnder, record_at, signature_of}
-use Rattle.dnsv_derivations.specs.derivations.Ways.{HasSecured, IsWayInto, Way, voucher_rank}
+use Rattle.dnsv_derivations.specs.derivations.WaySearch.{IsFirstUnder, IsFoundWay, IsNoWayBefore, IsNoneUnder, signature_of}
+use Rattle.dnsv_derivations.specs.derivations.Ways.{HasSecured, IsWayInto, Way, record_at, voucher_rank}
 use Rattle.dnsv_lines.specs.declared.line.derivation.Voucher.{Voucher}
 use Rattle.dnsv_derivations.specs.declared.derivations.ways.FoundWay.{FoundWay}
-use Rattle.dnsv_derivations.proofs.lemmas.NumberedLemmas.{same_number}
+use Rattle.dnsv_canonical.proofs.NumberLemmas.{one_numbered}
 
 abbrev pub Matched : Setting → Voucher → DnskeyRecord → Type 0
 Matched setting = IsMatchedBy (HasSecured setting) setting
@@ -25,7 +25,7 @@ pub record IsTold (setting : Setting) (rrset place : ℕ) (told : Voucher) (Matc
 
 module _ (setting : Setting) (k : ℕ) (set : ReceivedRrset) (numbered : IsNumbered setting.rrsets k set) where
   same : (way : Way) (is : IsWayInto setting k way) → is.set ≡ set
-  same way is = same_number setting.rrsets k is.set set is.good.is_rrset numbered
+  same way is = one_numbered setting.rrsets k is.set set is.good.is_rrset numbered
 
   -- a way is by a key that stands in the RRset and signs it
   stands : (way : Way) → IsWayInto setting k way → IsKeyOf set way.key

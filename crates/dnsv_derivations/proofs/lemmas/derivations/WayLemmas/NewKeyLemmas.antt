@@ -15,7 +15,7 @@ use Rattle.dnsv_derivations.specs.declared.derivations.ways.FoundWay.{FoundWay}
 use Rattle.dnsv_derivations.specs.declared.derivations.ways.kept.KeptWay.{KeptWay}
 use Rattle.dnsv_derivations.specs.declared.derivations.ways.kept.NewKey.{NewKey}
 use Rattle.dnsv_derivations.proofs.lemmas.IndexLemmas.{one_there}
-use Rattle.dnsv_derivations.proofs.lemmas.NumberedLemmas.{same_number}
+use Rattle.dnsv_canonical.proofs.NumberLemmas.{one_numbered}
 use Rattle.dnsv_derivations.proofs.lemmas.derivations.WayLemmas.{way_leads}
 use Rattle.dnsv_derivations.proofs.lemmas.derivations.WayLemmas.TrustedLemmas.{not_trusted}
 
@@ -43,7 +43,7 @@ module _ (setting : Setting) where
   had_by n k set rdata is numbered has =
       let Has : ReceivedRrset → Type 0 = λ each. Contains each.rdata rdata in record {
         is = is;
-        has = subst Has (same_number setting.rrsets k set is.set numbered is.is_set) has;
+        has = subst Has (one_numbered setting.rrsets k set is.set numbered is.is_set) has;
       }
 
   -- one of the owner, by its number
@@ -54,7 +54,7 @@ module _ (setting : Setting) where
       let AtName : ReceivedRrset → Type 0 = λ each. SameName each.owner owner in record {
         number = get_or numbers i 0;
         by = by;
-        same_owner = subst AtName (same_number setting.rrsets (get_or numbers i 0) one.rrset by.is.set one.is_rrset by.is.is_set) one.owner;
+        same_owner = subst AtName (one_numbered setting.rrsets (get_or numbers i 0) one.rrset by.is.set one.is_rrset by.is.is_set) one.owner;
       }
 
   pub no_way_in : (k : ℕ) (way : Option FoundWay) → IsWayOf setting k way → is_some way ≡ false → IsNoWay setting k
@@ -69,7 +69,7 @@ module _ (setting : Setting) where
   pub new_at : (n : ℕ) (rrset : ReceivedRrset) (keys : List NewKey) → IsNumbered setting.rrsets (n + 1) rrset
       → AreNewKeys setting n rrset keys → HasNewKeys setting (n + 1) keys
   new_at n rrset keys numbered are = λ set its trusted.
-      let same : rrset ≡ set = same_number setting.rrsets (n + 1) rrset set numbered its in
+      let same : rrset ≡ set = one_numbered setting.rrsets (n + 1) rrset set numbered its in
       let before : n ≡ n + 1 - 1 = omega arith in
       let Of : ReceivedRrset → Type 0 = λ each. AreNewKeys setting n each keys in
       let Among : ℕ → Type 0 = λ m. AreNewKeys setting m set keys in

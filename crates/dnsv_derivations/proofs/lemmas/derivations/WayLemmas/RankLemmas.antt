@@ -18,11 +18,11 @@ use Rattle.dnsv_chain.specs.declared.anchor.Anchor.TheVariants as anchor
 use Rattle.dnsv_canonical.specs.declared.number.RecordNumber.{RecordNumber}
 use Rattle.dnsv_derivations.specs.Explained.{Setting}
 use Rattle.dnsv_derivations.specs.Following.{IsDsMatch}
-use Rattle.dnsv_derivations.specs.derivations.WaySearch.{IsNoWay, IsNoWayBefore, IsNoneUnder, IsVoucherOf, record_at}
-use Rattle.dnsv_derivations.specs.derivations.Ways.{HasSecured, IsWayInto, Way, voucher_rank}
+use Rattle.dnsv_derivations.specs.derivations.WaySearch.{IsNoWay, IsNoWayBefore, IsNoneUnder, IsVoucherOf}
+use Rattle.dnsv_derivations.specs.derivations.Ways.{HasSecured, IsWayInto, Way, record_at, voucher_rank}
 use Rattle.dnsv_lines.specs.declared.line.derivation.Voucher.{Voucher}
 use Rattle.dnsv_lines.specs.declared.line.derivation.Voucher.TheVariants as voucher
-use Rattle.dnsv_derivations.proofs.lemmas.NumberedLemmas.{same_number}
+use Rattle.dnsv_canonical.proofs.NumberLemmas.{one_numbered}
 use Rattle.dnsv_derivations.proofs.lemmas.derivations.WayLemmas.FirstLemmas.{IsTold, Matched, none_by}
 
 -- ---- DS RRsets
@@ -138,7 +138,7 @@ module _ (setting : Setting) where
         let by = by_anchor other key matched (ap (λ (n : RecordNumber). n.rrset) same) in
         let At : ℕ → Type 0 = λ n. IsNumbered setting.anchors n by.0 in
         let there : by.0 ≡ each =
-        same_number setting.anchors number by.0 each (subst At (ap (λ (n : RecordNumber). n.place) same) by.1) numbered in
+        one_numbered setting.anchors number by.0 each (subst At (ap (λ (n : RecordNumber). n.place) same) by.1) numbered in
         subst (λ (one : Anchor). IsAnchorMatch one key) there by.2;
   }
 

@@ -21,12 +21,13 @@ use Rattle.dnsv_denial.specs.gathering.Evidence.{IsRecordAt}
 use Rattle.dnsv_canonical.specs.declared.number.RecordNumber.{RecordNumber}
 use Rattle.dnsv_derivations.specs.Explained.{Setting}
 use Rattle.dnsv_derivations.specs.Following.{IsDsMatch}
-use Rattle.dnsv_derivations.specs.derivations.WaySearch.{IsFirstUnder, IsFoundWay, IsNoWayBefore, IsNoneUnder, record_at}
-use Rattle.dnsv_derivations.specs.derivations.Ways.{HasSecured, voucher_rank}
+use Rattle.dnsv_derivations.specs.derivations.WaySearch.{IsFirstUnder, IsFoundWay, IsNoWayBefore, IsNoneUnder}
+use Rattle.dnsv_derivations.specs.derivations.Ways.{HasSecured, record_at, voucher_rank}
 use Rattle.dnsv_lines.specs.declared.line.derivation.Voucher.{Voucher}
 use Rattle.dnsv_lines.specs.declared.line.derivation.Voucher.TheVariants as voucher
 use Rattle.dnsv_derivations.specs.declared.derivations.ways.FoundWay.{FoundWay}
-use Rattle.dnsv_derivations.proofs.lemmas.NumberedLemmas.{among, numbered_at, same_number}
+use Rattle.dnsv_derivations.proofs.lemmas.NumberedLemmas.{among, numbered_at}
+use Rattle.dnsv_canonical.proofs.NumberLemmas.{one_numbered}
 use Rattle.dnsv_derivations.proofs.lemmas.derivations.WayLemmas.FirstLemmas.{IsTold, found_first}
 use Rattle.dnsv_derivations.proofs.lemmas.derivations.WayLemmas.KeysLemmas.{each_at}
 use Rattle.dnsv_derivations.proofs.lemmas.derivations.WayLemmas.RankLemmas.{by_record, ds_read, forms_of, next_rrset, none_there}
@@ -47,7 +48,7 @@ module _ {X : Type 0} (rdata : X → List ℕ) (record_of : X → Ds) (setting :
       → IsRecordAt setting.rrsets number rrset octets → (rrset ≡ ds) × IsNumbered (map rdata items) number.place octets
   its_place number rrset octets of at =
       let Numbered : ℕ → Type 0 = λ n. IsNumbered setting.rrsets n rrset in
-      let one : rrset ≡ ds = same_number setting.rrsets from rrset ds (subst Numbered of at.is_rrset) is_ds in
+      let one : rrset ≡ ds = one_numbered setting.rrsets from rrset ds (subst Numbered of at.is_rrset) is_ds in
       let Canonical : ReceivedRrset → Type 0 = λ each. IsCanonical (map (canonical_form each.rtype) each.rdata) at.canonical in
       let lists : at.canonical ≡ map rdata items =
       canonical_unique (map (canonical_form ds.rtype) ds.rdata) at.canonical (map rdata items) (subst Canonical one at.is_canonical)
@@ -112,7 +113,7 @@ module _ {X : Type 0} (rdata : X → List ℕ) (record_of : X → Ds) (setting :
     same_record number digest_type key is here =
         let there = its_place number is.rrset is.rdata (ap (λ (n : RecordNumber). n.rrset) here) is.at in
         let At : RecordNumber → Type 0 = λ n. IsNumbered (map rdata items) n.place is.rdata in
-        let octets : is.rdata ≡ rdata x = same_number (map rdata items) (place + 1) is.rdata (rdata x) (subst At here there.1) numbered in
+        let octets : is.rdata ≡ rdata x = one_numbered (map rdata items) (place + 1) is.rdata (rdata x) (subst At here there.1) numbered in
         let Read : List ℕ → Type 0 = λ each. IsDs each is.ds in
         let value : is.ds ≡ record_of x = one_ds (rdata x) is.ds (record_of x) (subst Read octets is.read) is_read in
         let Zip : ReceivedRrset → Type 0 = λ each. AllZip IsDs each.rdata is.records in

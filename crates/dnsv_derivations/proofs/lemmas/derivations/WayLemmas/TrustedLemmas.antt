@@ -22,7 +22,7 @@ use Rattle.dnsv_names.specs.Name.{Labels}
 use Rattle.dnsv_derivations.specs.derivations.WaySearch.{IsFoundWay, IsNoWay, signature_of}
 use Rattle.dnsv_derivations.specs.derivations.Ways.{HasSecured, IsTrustedLine, IsTrustedSet, IsWayInto, Way}
 use Rattle.dnsv_derivations.specs.declared.derivations.ways.FoundWay.{FoundWay}
-use Rattle.dnsv_derivations.proofs.lemmas.NumberedLemmas.{same_number}
+use Rattle.dnsv_canonical.proofs.NumberLemmas.{one_numbered}
 use Rattle.dnsv_derivations.proofs.lemmas.derivations.WayLemmas.{way_leads}
 use Rattle.dnsv_lines.specs.declared.line.derivation.Voucher.{Voucher}
 use Rattle.dnsv_lines.specs.declared.line.derivation.Voucher.TheVariants as voucher
@@ -173,7 +173,7 @@ module _ (setting : Setting) (k : ℕ) where
         todo = found.signature.todo;
       })
   the_line set found zone numbered is owner =
-      let same : set ≡ is.first.is.set = same_number setting.rrsets k set is.first.is.set numbered is.first.is.good.is_rrset in record {
+      let same : set ≡ is.first.is.set = one_numbered setting.rrsets k set is.first.is.set numbered is.first.is.good.is_rrset in record {
         way = record { voucher = found.voucher; key = is.key; signature = found.signature.number };
         first = is.first;
         zone = owner ∙ ap (λ (each : ReceivedRrset). each.owner) same;
@@ -193,7 +193,7 @@ module _ (setting : Setting) (k : ℕ) where
   )
   way_in_or_not set (Some found) some numbered first is = (
     λ yes.
-        let same : first.first.is.set ≡ set = same_number setting.rrsets k first.first.is.set set first.first.is.good.is_rrset numbered in
+        let same : first.first.is.set ≡ set = one_numbered setting.rrsets k first.first.is.set set first.first.is.good.is_rrset numbered in
         let Is : ReceivedRrset → Type 0 = λ each. IsTrusted setting.meaning setting.moment setting.rrsets setting.anchors each in
         subst Is same (way_leads setting k _ first.first.is),
     λ trusted. is,

@@ -1,7 +1,7 @@
 use Rattle.std.proofs.Common.{List, sym, subst}
 use Rattle.dnsv_canonical.specs.Rrsets.{IsNumbered, ReceivedRrset}
 use Rattle.dnsv_faults.specs.Dnskeys.DnskeySearch.{IsSetOf}
-use Rattle.dnsv_zone_keys.proofs.lemmas.ZoneKeyLemmas.{same_number}
+use Rattle.dnsv_canonical.proofs.NumberLemmas.{one_numbered}
 use Rattle.dnsv_faults.proofs.zone.dnskeys.add_dnskey.Goals as goal
 
 pub returns-in_default : goal.returns-in_default
@@ -16,7 +16,7 @@ facts_of_set-requires-clause-set c =
     let rrset = c.in-Some.rrset.now in
     let numbered = subst (λ (all : List ReceivedRrset). IsNumbered all c.args.number rrset) c.capture.ensures c.in-Some.ensures in
     subst (λ (each : ReceivedRrset). IsSetOf rrsets c.args.keyed.now.zone.now c.args.number each)
-    (same_number rrsets c.args.number set rrset c.requires.number.1.numbered numbered) c.requires.number.1
+    (one_numbered rrsets c.args.number set rrset c.requires.number.1.numbered numbered) c.requires.number.1
 
 pub returns : goal.returns
 returns c = record { known = c.in_ok-facts_of_set.field-0; is = c.in_ok-facts_of_set.ensures; added = c.in_ok-push.ensures.items }

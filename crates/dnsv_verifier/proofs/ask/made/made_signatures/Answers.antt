@@ -7,10 +7,10 @@ use Rattle.dnsv_verifier.proofs.ask.made.made_signatures.Goals as goal
 
 pub loop-place-init : goal.loop-place-init
 loop-place-init c = record {
-  adds = subst (λ (made : List MadeSignature). AddsJust (ComesOfSome (IsMadeIn c.args.range.from c.args.range.to c.args.keys.now) []) [] made) (sym c.new.ensures.items)
+  adds = subst (λ (made : List MadeSignature). AddsJust (ComesOfSome (IsMadeIn c.args.range.from c.args.range.to c.args.keys.now) []) [] made) (sym c.new-2.ensures.items)
       (some_none (IsMadeIn c.args.range.from c.args.range.to c.args.keys.now) c.args.rrsets.now []);
-  numbers = subst (λ (numbers : List SignatureNumber). AreMadeAt c.args.rrsets.now numbers c.new.result.items) (sym c.new-2.ensures.items)
-      (subst (λ (made : List MadeSignature). AreMadeAt c.args.rrsets.now [] made) (sym c.new.ensures.items) tt);
+  numbers = subst (λ (numbers : List SignatureNumber). AreMadeAt c.args.rrsets.now numbers c.new-2.result.items) (sym c.new-3.ensures.items)
+      (subst (λ (made : List MadeSignature). AreMadeAt c.args.rrsets.now [] made) (sym c.new-2.ensures.items) tt);
 }
 
 pub loop-place-preserved : goal.loop-place-preserved

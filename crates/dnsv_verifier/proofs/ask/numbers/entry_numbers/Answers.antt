@@ -1,8 +1,8 @@
 use Rattle.std.proofs.Common.{List, [], map, sym, subst}
 use Rattle.std.proofs.lemmas.Result.{IfOk-weaker}
+use Rattle.dnsv_canonical.proofs.OrderLemmas.{zip_length}
 use Rattle.dnsv_verifier.specs.Asking.{AddsJust, CanSign, ComesOfSome, GivesEach, IsAny, IsEntryOfMade, NumberedName}
 use Rattle.dnsv_verifier.specs.Numbers.{AllOfParts, IsNumberedKey, IsNumberedSignature, IsPartNumber, entry_of}
-use Rattle.dnsv_verifier.proofs.AskLemmas.{zip_length}
 use Rattle.dnsv_verifier.proofs.NumberedLemmas.{entries_of_pairs, pairs_of_parts}
 use Rattle.dnsv_verifier.proofs.ask.numbers.entry_numbers.Goals as goal
 
