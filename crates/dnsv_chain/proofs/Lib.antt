@@ -5,6 +5,7 @@ pub mod DelegatedLemmas
 pub mod DerivationLemmas
 pub mod KeptLemmas
 pub mod MatchingLemmas
+pub mod NumberedLemmas
 pub mod SigningLemmas
 pub mod StepLemmas
 pub mod TrustedLemmas

@@ -1,6 +1,7 @@
 pub mod Anchor
 pub mod AnchorFile
 pub mod AnchorsError
+pub mod Basis
 pub mod ByOwner
 pub mod Chain
 pub mod Derivation

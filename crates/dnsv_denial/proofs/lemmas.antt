@@ -2,6 +2,7 @@
 pub mod WildcardAnswerLemmas
 pub mod forms
 pub mod gathering
+pub mod more
 pub mod proving
 pub mod records
 pub mod unsigned_cuts

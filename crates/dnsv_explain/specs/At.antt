@@ -1,7 +1,7 @@
 -- What is told at one name of a way.
 use Rattle.std.specs.Prelude.{◌≡◌}
 use Rattle.dnsv_denial.specs.Viewed.{Viewed}
-use Rattle.dnsv_verdict.specs.Case.{HasTrust}
+use Rattle.dnsv_chain.specs.Basis.{HasTrust}
 use Rattle.dnsv_verdict.specs.Report.{hashed_in}
 use Rattle.dnsv_derivations.specs.Explained.{Explained}
 use Rattle.dnsv_explain.specs.Explained.{explained_by}

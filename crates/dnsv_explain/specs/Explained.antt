@@ -2,8 +2,7 @@
 use Rattle.std.specs.Prelude.{List}
 use Rattle.dnsv_verifier.specs.Table.{hopeful, table_answer}
 use Rattle.dnsv_verifier.specs.declared.entry.Entry.{Entry}
-use Rattle.dnsv_verdict.specs.Case.{CaseContents}
-use Rattle.dnsv_verdict.specs.Verdict.{Basis, basis_of}
+use Rattle.dnsv_chain.specs.Basis.{CaseContents, Basis, basis_of}
 pub use Rattle.dnsv_derivations.specs.Explained.{Explained}
 
 -- what it is judged by

@@ -16,7 +16,8 @@ use Rattle.dnsv_verifier.specs.Table.{IsTableOf, TableContents}
 use Rattle.dnsv_verifier.specs.declared.entry.Entry.{Entry}
 use Rattle.dnsv_verdict.specs.Insecure.{IsOptOutWildcardSet}
 use Rattle.dnsv_verdict.specs.Secure.{IsFirstSuch}
-use Rattle.dnsv_verdict.specs.Verdict.{Basis, IsSettledAsBy, basis_of}
+use Rattle.dnsv_chain.specs.Basis.{Basis, basis_of}
+use Rattle.dnsv_verdict.specs.Verdict.{IsSettledAsBy}
 use Rattle.dnsv_verdict.specs.declared.link.Link.{Link}
 use Rattle.dnsv_verdict.specs.declared.report.Report.{Report}
 use Rattle.dnsv_verdict.specs.declared.verdict.Verdict.{Verdict}

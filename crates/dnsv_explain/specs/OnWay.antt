@@ -2,7 +2,7 @@
 use Rattle.std.specs.Prelude.{◌≡◌, ℕ, List, map}
 use Rattle.dnsv_names.specs.Name.{Labels}
 use Rattle.dnsv_denial.specs.QuestionHashes.{HashedQuestion}
-use Rattle.dnsv_verdict.specs.Case.{CaseContents, basis_by}
+use Rattle.dnsv_chain.specs.Basis.{CaseContents, basis_by}
 use Rattle.dnsv_verdict.specs.Report.{hashed_in}
 use Rattle.dnsv_verdict.specs.Way.{LeadTo, names_on}
 use Rattle.dnsv_verdict.specs.declared.link.Link.{Link}

@@ -1,8 +1,8 @@
 -- What is kept of a case for the explanations of all questions. No public clause cites this module.
 use Rattle.std.specs.Prelude.{List, []}
 use Rattle.dnsv_verifier.specs.declared.entry.Entry.{Entry}
-use Rattle.dnsv_verdict.specs.Case.{CaseContents, IsCaseOf, basis_by}
-use Rattle.dnsv_verdict.specs.Verdict.{AreUnknown, Basis}
+use Rattle.dnsv_chain.specs.Basis.{CaseContents, IsCaseOf, basis_by, Basis}
+use Rattle.dnsv_verdict.specs.Verdict.{AreUnknown}
 use Rattle.dnsv_derivations.specs.Explained.{setting_in}
 use Rattle.dnsv_derivations.specs.derivations.WaySearch.{AreFirstWays}
 use Rattle.dnsv_derivations.specs.declared.derivations.ways.kept.KeptWay.{KeptWay}

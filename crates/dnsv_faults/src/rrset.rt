@@ -2,7 +2,7 @@
 ghost use Rattle.std.specs.Prelude.{◌≡◌, ℕ, IfOk, MatchOption, map};
 ghost use Rattle.std.specs.List.{AllByRecursion, AllZip};
 ghost use Rattle.dnsv_canonical.specs.Rrsets.{IsNumbered, ReceivedRrset};
-ghost use Rattle.dnsv_verdict.specs.Case.{basis_by};
+ghost use Rattle.dnsv_chain.specs.Basis.{basis_by};
 ghost use Rattle.dnsv_faults.specs.Rrsets.{AreInOrder, AreRrsetFacts, rank_cmp};
 ghost use Rattle.dnsv_faults.specs.Rrsets.RrsetSearch.{IsSignatureOf, rank, seen_signature};
 ghost use Rattle.dnsv_faults.specs.Signatures.{AreSignatureFacts};

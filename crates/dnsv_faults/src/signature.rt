@@ -7,7 +7,7 @@ ghost use Rattle.std.specs.Prelude.{◌↔◌, Contains, IfOk, IsTrue, List};
 ghost use Rattle.dnsv_canonical.specs.Rrsets.{ReceivedRrset};
 ghost use Rattle.dnsv_records.specs.declared.rrsig.Rrsig.{Rrsig};
 ghost use Rattle.dnsv_chain.specs.Trusted.{IsSecured};
-ghost use Rattle.dnsv_verdict.specs.Case.{basis_by};
+ghost use Rattle.dnsv_chain.specs.Basis.{basis_by};
 ghost use Rattle.dnsv_zone_keys.specs.Keys.{HasKeys, NamesKey, NamesZoneKey};
 ghost use Rattle.dnsv_zone_keys.specs.Keys.KeySearch.{AreNamedOf, HasZoneKey};
 ghost use Rattle.dnsv_faults.specs.Signatures.{AreSignatureFacts, IsSignatureAt};

@@ -10,7 +10,7 @@ pub mod vouched;
 
 ghost use Rattle.std.specs.Prelude.{◌↔◌, ℕ, IfOk, IsTrue};
 ghost use Rattle.dnsv_names.specs.Name.{Labels};
-ghost use Rattle.dnsv_verdict.specs.Case.{basis_by};
+ghost use Rattle.dnsv_chain.specs.Basis.{basis_by};
 ghost use Rattle.dnsv_faults.specs.KnownZones.{IsKnownZone};
 ghost use Rattle.dnsv_faults.specs.Zones.{AreFactsOfZone, AreZoneFacts, IsAnchored};
 

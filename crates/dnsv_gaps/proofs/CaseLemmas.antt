@@ -26,8 +26,7 @@ use Rattle.dnsv_denial.specs.declared.words.asked.AskedWord.{AskedWord}
 use Rattle.dnsv_denial.specs.declared.words.asked.AskedWord.TheVariants as word
 use Rattle.dnsv_denial.specs.words.Asked.{asked_name, said_word}
 use Rattle.dnsv_lines.specs.declared.line.fault.denial.WhySource.{WhySource}
-use Rattle.dnsv_verdict.specs.Case.{basis_by}
-use Rattle.dnsv_verdict.specs.Verdict.{Basis}
+use Rattle.dnsv_chain.specs.Basis.{basis_by, Basis}
 use Rattle.dnsv_remedies.specs.declared.facts.denial.ClosedFacts.{ClosedFacts}
 use Rattle.dnsv_gaps.specs.CaseSearch.{AreClosedFactsAt, AreFactsAtPlace, HasNoneClosedAt, IsHeldBy}
 use Rattle.dnsv_gaps.specs.Cases.{AreAt, AreClosedFacts, AreHeld, HasNone, HasNoneClosed, HasNoneShown, IsAt, IsClosedAbove, IsFirstClosed, IsHeld, IsHeldAt, IsLongestShown, IsShown}

@@ -15,7 +15,7 @@ use Rattle.dnsv_canonical.specs.Rrsets.{IsNumbered, ReceivedRrset}
 use Rattle.dnsv_chain.specs.declared.anchor.Anchor.{Anchor}
 use Rattle.dnsv_denial.proofs.lemmas.gathering.EvidenceLemmas.{numbered_here}
 use Rattle.dnsv_canonical.proofs.NumberLemmas.{one_numbered}
-use Rattle.dnsv_verdict.specs.Verdict.{Basis}
+use Rattle.dnsv_chain.specs.Basis.{Basis}
 use Rattle.dnsv_faults.specs.KnownZones.{HasOwnAnchor, HasRrset, IsKnownZone, IsSpeaker}
 use Rattle.dnsv_gaps.proofs.RisingLemmas.{nat_less, rising_push}
 use Rattle.dnsv_gaps.specs.Asking.{Asking}

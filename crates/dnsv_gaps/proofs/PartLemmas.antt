@@ -9,7 +9,7 @@ use Rattle.std.specs.Prelude.{Contains}
 use Rattle.dnsv_canonical.proofs.OrderLemmas.{each_member, each_of}
 use Rattle.dnsv_canonical.specs.Rrsets.{ReceivedRrset}
 use Rattle.dnsv_canonical.specs.declared.number.RecordNumber.{RecordNumber}
-use Rattle.dnsv_verdict.specs.Verdict.{Basis}
+use Rattle.dnsv_chain.specs.Basis.{Basis}
 use Rattle.dnsv_mending.specs.declared.facts.signature.RrsetFacts.{RrsetFacts}
 use Rattle.dnsv_faults.specs.Rrsets.{AreRrsetFacts}
 use Rattle.dnsv_gaps.proofs.RisingLemmas.{contains_map, mapped_from}

@@ -2,8 +2,7 @@
 use Rattle.std.specs.Prelude.{◌≡◌, ℕ}
 use Rattle.dnsv_names.specs.Name.{Labels}
 use Rattle.dnsv_denial.specs.QuestionHashes.{HashedQuestion}
-use Rattle.dnsv_verdict.specs.Case.{CaseContents, basis_by}
-use Rattle.dnsv_verdict.specs.Verdict.{Basis}
+use Rattle.dnsv_chain.specs.Basis.{CaseContents, basis_by, Basis}
 use Rattle.dnsv_faults.specs.KnownZones.{AreKnownZones}
 use Rattle.dnsv_gaps.specs.declared.asked.AskedQuestion.{AskedQuestion}
 

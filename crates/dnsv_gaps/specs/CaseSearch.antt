@@ -6,7 +6,7 @@ use Rattle.dnsv_denial.specs.proving.Numbers.{number_at, numbers_of}
 use Rattle.dnsv_denial.specs.words.ChainSaid.{IsTypesAt}
 use Rattle.dnsv_faults.specs.Rrsets.{AreRrsetFacts}
 use Rattle.dnsv_lines.specs.declared.line.fault.denial.WhySource.{WhySource}
-use Rattle.dnsv_verdict.specs.Case.{basis_by}
+use Rattle.dnsv_chain.specs.Basis.{basis_by, Basis}
 use Rattle.std.specs.declared.cmp.Ordering.TheVariants.{Less}
 use Rattle.dnsv_names.specs.Name.{Labels, rightmost}
 use Rattle.dnsv_zones.specs.forms.RecordWords.{RecordWords}
@@ -14,7 +14,6 @@ use Rattle.dnsv_zones.specs.zones.TypeNumbers.{dname}
 use Rattle.dnsv_zones.specs.zones.Types.{IsClosed}
 use Rattle.dnsv_canonical.specs.declared.number.RecordNumber.{RecordNumber}
 use Rattle.dnsv_denial.specs.words.EvidenceWords.{number_cmp}
-use Rattle.dnsv_verdict.specs.Verdict.{Basis}
 use Rattle.dnsv_remedies.specs.declared.facts.denial.ClosedFacts.{ClosedFacts}
 use Rattle.dnsv_gaps.specs.Cases.{HasNone, IsHeld, why_held}
 use Rattle.dnsv_gaps.specs.Parts.{AreFactsOf}

@@ -14,7 +14,7 @@ use Rattle.dnsv_canonical.specs.declared.number.RecordNumber.{RecordNumber}
 use Rattle.dnsv_denial.specs.words.EvidenceWords.{number_cmp}
 use Rattle.dnsv_lines.specs.declared.line.fault.denial.WhySource.{WhySource}
 use Rattle.dnsv_lines.specs.declared.line.fault.denial.WhySource.TheVariants as why
-use Rattle.dnsv_verdict.specs.Verdict.{Basis}
+use Rattle.dnsv_chain.specs.Basis.{Basis}
 use Rattle.dnsv_remedies.specs.declared.facts.denial.ClosedFacts.{ClosedFacts}
 use Rattle.dnsv_remedies.specs.declared.facts.denial.EncloserFacts.{EncloserFacts}
 use Rattle.dnsv_remedies.specs.declared.facts.denial.RecordsAt.{RecordsAt}

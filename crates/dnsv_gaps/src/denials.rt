@@ -6,7 +6,7 @@ ghost use Rattle.std.specs.Prelude.{◌≡◌, ◌↔◌, ◌≤◌, ℕ, Contai
 ghost use Rattle.std.specs.List.Sorted.{IsStrictlySortedBy};
 ghost use Rattle.std.specs.Ordering.{nat_cmp};
 ghost use Rattle.dnsv_names.specs.Name.{rightmost};
-ghost use Rattle.dnsv_verdict.specs.Case.{basis_by};
+ghost use Rattle.dnsv_chain.specs.Basis.{basis_by};
 ghost use Rattle.dnsv_faults.specs.KnownZones.{IsKnownZone};
 ghost use Rattle.dnsv_gaps.specs.Asking.{IsAsked, asking};
 ghost use Rattle.dnsv_gaps.specs.DenialSearch.{HasKnownBetween, IsDenialType, IsKnownAbove};

@@ -6,7 +6,8 @@ mod dnames;
 mod goals;
 
 ghost use Rattle.std.specs.Prelude.{◌≡◌, IfOk};
-ghost use Rattle.dnsv_verdict.specs.Case.{basis_by};
+ghost use Rattle.dnsv_chain.specs.Trust.{SecuredIn};
+ghost use Rattle.dnsv_denial.specs.gathering.ByZone.{AreDenialRecords};
 ghost use Rattle.dnsv_gaps.specs.Asking.{IsAsked, asking, asking_of};
 ghost use Rattle.dnsv_gaps.specs.questions.CloserSearch.{IsViewOf};
 ghost use Rattle.dnsv_gaps.specs.questions.Questions.{AreQuestionFacts};
@@ -16,27 +17,29 @@ use crate::question::cuts::{has_anchor, parents};
 use crate::question::dnames::dnames;
 use crate::question::goals::goals;
 use crate::speakers::speaker_facts;
+use dnsv_canonical::Capture;
 use dnsv_chain::Anchor;
-use dnsv_denial::{Hashes, View};
+use dnsv_denial::{DenialRecords, Hashes, View};
 use dnsv_faults::CaseFacts;
 use dnsv_names::{Name, RecordType};
 use dnsv_remedies::QuestionFacts;
-use dnsv_verdict::Case;
 use std::alloc::{AllocError, Global};
 
 /// What the evidence of the case has that may answer the question of a name and a type or deny it, whether it is trusted or not.
-/// `facts` are found in the case, and `hashes` are those for the name. Nothing is asked of a verifier, and nothing is hashed.
+/// `facts` are found in the case, `denials` are the records of denials that its trust secures, and `hashes` are those for the name. Nothing is asked of a verifier, and nothing is hashed.
 pub fn question_facts<'s, 'a>(
     alloc: Global,
-    case: &'s Case<'a>,
+    capture: &'a Capture<'a>,
+    denials: &'s DenialRecords<'s>,
     facts: &'s CaseFacts<'s>,
     hashes: &'s Hashes<'a>,
     name: &'s Name,
     rtype: RecordType,
 ) -> Result<QuestionFacts, AllocError>
-    requires facts { facts.now ≡ case.now }
-    requires hashes { hashes.now ≡ record { rrsets = case.now.rrsets; name = name.now } }
-    ensures { IfOk result (AreQuestionFacts (asking_of case.now name.now rtype.0)) }
+    requires capture { capture.now.rrsets ≡ facts.now.rrsets }
+    requires denials { AreDenialRecords (SecuredIn facts.now.trust) facts.now.rrsets denials.now }
+    requires hashes { hashes.now ≡ record { rrsets = facts.now.rrsets; name = name.now } }
+    ensures { IfOk result (AreQuestionFacts (asking_of facts.now name.now rtype.0)) }
 {
     let known = facts.known_zones(alloc, name, rtype)?;
     let question = AskedQuestion {
@@ -46,8 +49,8 @@ pub fn question_facts<'s, 'a>(
         known: &known,
         hashes,
     };
-    let view = View::through(alloc, case.capture(), case.trust(), case.denials(), hashes)?;
-    Ok(facts_of(alloc, &question, &view, case.anchors().as_slice())?)
+    let view = View::through(alloc, capture, facts.trust(), denials, hashes)?;
+    Ok(facts_of(alloc, &question, &view, facts.anchors())?)
 }
 
 /// What is so of the question. The view is of its name, and the anchors are those of the case.

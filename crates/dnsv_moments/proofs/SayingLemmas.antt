@@ -7,8 +7,7 @@ use Rattle.dnsv_lines.specs.declared.line.Line.{Line}
 use Rattle.dnsv_explain.specs.Derived.{IsDerived}
 use Rattle.dnsv_explain.specs.declared.explanation.derivation.Outcome.{Outcome}
 use Rattle.dnsv_explain.specs.declared.explanation.derivation.Outcome.TheVariants as outcome
-use Rattle.dnsv_verdict.specs.Case.{CaseContents, IsCaseOf}
-use Rattle.dnsv_verdict.specs.Verdict.{Basis, basis_of}
+use Rattle.dnsv_chain.specs.Basis.{CaseContents, IsCaseOf, Basis, basis_of}
 use Rattle.dnsv_verifier.specs.Table.{TableContents}
 use Rattle.dnsv_verifier.specs.Within.{IsTableWithin}
 use Rattle.dnsv_verifier.specs.declared.answer.Answer.{Answer}

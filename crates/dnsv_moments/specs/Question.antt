@@ -7,7 +7,7 @@ use Rattle.dnsv_texts.specs.declared.format.Format.{Format}
 use Rattle.dnsv_timeline_laws.specs.Said.{IsSaidAt, Said}
 use Rattle.dnsv_timeline_laws.specs.SameValid.{at_moment}
 use Rattle.dnsv_timeline_laws.specs.declared.kind.Kind.{Kind}
-use Rattle.dnsv_verdict.specs.Verdict.{Basis}
+use Rattle.dnsv_chain.specs.Basis.{Basis}
 use Rattle.dnsv_verdict.specs.Way.{IsRefusal}
 use Rattle.dnsv_verdict.specs.declared.error.VerdictError.{VerdictError}
 use Rattle.dnsv_verifier.specs.declared.answer.Answer.{Answer}

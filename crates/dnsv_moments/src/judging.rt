@@ -5,7 +5,7 @@ ghost use Rattle.dnsv_moments.specs.Moments.{IsOfEvidence};
 ghost use Rattle.dnsv_moments.specs.Saying.{IsSaidWithin, told_of};
 ghost use Rattle.dnsv_names.specs.Name.{Labels};
 ghost use Rattle.dnsv_timeline_laws.specs.Said.{IsSaid};
-ghost use Rattle.dnsv_verdict.specs.Verdict.{Basis};
+ghost use Rattle.dnsv_chain.specs.Basis.{Basis};
 
 use crate::moments::Moments;
 use crate::said::Said;

@@ -11,7 +11,7 @@ ghost use Rattle.dnsv_timeline.specs.Timeline.{IsTimelineBy};
 ghost use Rattle.dnsv_timeline.specs.declared.stretch.Stretch.{Stretch};
 ghost use Rattle.dnsv_timeline_laws.specs.Said.{IsSaidAt, Said};
 ghost use Rattle.dnsv_timeline_laws.specs.declared.kind.Kind.TheVariants.{Refused};
-ghost use Rattle.dnsv_verdict.specs.Verdict.{Basis};
+ghost use Rattle.dnsv_chain.specs.Basis.{Basis};
 ghost use Rattle.dnsv_verdict.specs.declared.error.VerdictError.{VerdictError};
 ghost use Rattle.dnsv_verifier.specs.declared.answer.Answer.{Answer};
 ghost use Rattle.dnsv_verifier.specs.declared.entry.Entry.{Entry};

@@ -4,7 +4,7 @@ use Rattle.std.proofs.lemmas.Bool.{false≢true}
 use Rattle.std.specs.List.{AllByRecursion}
 use Rattle.std.specs.Prelude.{Contains}
 use Rattle.dnsv_names.specs.Name.{rightmost}
-use Rattle.dnsv_verdict.specs.Verdict.{HasAnchor}
+use Rattle.dnsv_chain.specs.Basis.{HasAnchor}
 use Rattle.dnsv_gaps.specs.Asking.{Asking}
 use Rattle.dnsv_lines.specs.declared.line.Line.{Line}
 use Rattle.dnsv_lines.specs.declared.line.Line.TheVariants as line

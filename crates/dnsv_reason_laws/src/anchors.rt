@@ -6,7 +6,7 @@ ghost use Rattle.dnsv_lines.specs.declared.line.Line.TheVariants as line;
 ghost use Rattle.dnsv_lines.specs.declared.line.fault.signature.UntrustedSigner.{UntrustedSigner};
 ghost use Rattle.dnsv_reason_laws.specs.Anchors.{no_anchor_line};
 ghost use Rattle.dnsv_reasons.specs.Failures.{AreFailures};
-ghost use Rattle.dnsv_verdict.specs.Verdict.{HasAnchor};
+ghost use Rattle.dnsv_chain.specs.Basis.{HasAnchor};
 
 /// A law: where no trust anchor is at or above a question's name, what fails begins with that, and no line only follows from
 /// what fails. Where one is, no line says that there is none.

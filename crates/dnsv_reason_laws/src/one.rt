@@ -8,7 +8,7 @@ ghost use Rattle.dnsv_lines.specs.declared.line.Line.{Line};
 ghost use Rattle.dnsv_mending.specs.declared.facts.signature.RrsetFacts.{RrsetFacts};
 ghost use Rattle.dnsv_mending.specs.declared.facts.signature.SignatureFacts.{SignatureFacts};
 ghost use Rattle.dnsv_mending.specs.declared.facts.zone.ZoneFacts.{ZoneFacts};
-ghost use Rattle.dnsv_verdict.specs.Verdict.{Basis};
+ghost use Rattle.dnsv_chain.specs.Basis.{Basis};
 ghost use Rattle.dnsv_faults.specs.Rrsets.{AreRrsetFacts};
 ghost use Rattle.dnsv_faults.specs.Signatures.{AreSignatureFacts};
 ghost use Rattle.dnsv_faults.specs.Zones.{AreZoneFacts};

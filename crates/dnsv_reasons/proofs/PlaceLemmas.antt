@@ -11,7 +11,7 @@ use Rattle.dnsv_canonical.proofs.CanonicalLemmas.{canonical_unique}
 use Rattle.dnsv_canonical.proofs.NumberLemmas.{one_numbered}
 use Rattle.dnsv_denial.proofs.lemmas.gathering.GatherLemmas.{mapped_at}
 use Rattle.dnsv_denial.proofs.lemmas.proving.ZoneChainLemmas.{unmapped_at}
-use Rattle.dnsv_verdict.proofs.SearchLemmas.{rdata_at, rrsig_at}
+use Rattle.dnsv_chain.proofs.NumberedLemmas.{rdata_at, rrsig_at}
 use Rattle.dnsv_lines.specs.declared.line.fault.signature.ShownSignature.{ShownSignature}
 use Rattle.dnsv_reasons.specs.Places.{IsPlaced, IsShown, shown_of}
 

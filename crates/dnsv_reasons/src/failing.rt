@@ -1,6 +1,8 @@
 //! What fails, where nothing answers a question.
 ghost use Rattle.std.specs.Prelude.{◌≡◌, IfOk};
 ghost use Rattle.std.specs.Option.{option_map};
+ghost use Rattle.dnsv_chain.specs.Trust.{SecuredIn};
+ghost use Rattle.dnsv_denial.specs.gathering.ByZone.{AreDenialRecords};
 ghost use Rattle.dnsv_remedies.specs.Question.{lines_told};
 ghost use Rattle.dnsv_remedies.specs.Remedy.{seen};
 ghost use Rattle.dnsv_gaps.specs.Asking.{IsAsked, asking, asking_of};
@@ -10,31 +12,34 @@ ghost use Rattle.dnsv_reasons.specs.SourceSearch.{AreAllDenials};
 
 use crate::lines::said_lines;
 use crate::sources::{all_denials, named_sources};
-use dnsv_denial::Hashes;
+use dnsv_canonical::Capture;
+use dnsv_denial::{DenialRecords, Hashes};
 use dnsv_faults::CaseFacts;
 use dnsv_gaps::{AskedQuestion, ZoneDenials, question_facts};
 use dnsv_lines::Line;
 use dnsv_mending::levels_of;
 use dnsv_names::{Name, RecordType};
 use dnsv_remedies::{QuestionFacts, Remedy, Said, lines_told, question_remedy};
-use dnsv_verdict::Case;
 use std::alloc::{AllocError, Global};
 
 /// What fails of the question of a name and a type, where nothing answers it: the least that has to be mended, from the root
-/// down. `facts` are found in the case, and `hashes` are those for the name.
+/// down. `facts` are found in the case of the capture, `denials` are the records of denials that its trust secures, and
+/// `hashes` are those for the name.
 pub fn failures<'s, 'a>(
     alloc: Global,
-    case: &'s Case<'a>,
+    capture: &'a Capture<'a>,
+    denials: &'s DenialRecords<'s>,
     facts: &'s CaseFacts<'s>,
     hashes: &'s Hashes<'a>,
     name: &'s Name,
     rtype: RecordType,
 ) -> Result<Vec<Line>, AllocError>
-    requires facts { facts.now ≡ case.now }
-    requires hashes { hashes.now ≡ record { rrsets = case.now.rrsets; name = name.now } }
-    ensures { IfOk result (λ lines. AreFailures (asking_of case.now name.now rtype.0) lines.items) }
+    requires capture { capture.now.rrsets ≡ facts.now.rrsets }
+    requires denials { AreDenialRecords (SecuredIn facts.now.trust) facts.now.rrsets denials.now }
+    requires hashes { hashes.now ≡ record { rrsets = facts.now.rrsets; name = name.now } }
+    ensures { IfOk result (λ lines. AreFailures (asking_of facts.now name.now rtype.0) lines.items) }
 {
-    let told = told(alloc, case, facts, hashes, name, rtype)?;
+    let told = told(alloc, capture, denials, facts, hashes, name, rtype)?;
     let known = facts.known_zones(alloc, name, rtype)?;
     let question = AskedQuestion {
         facts,
@@ -50,18 +55,20 @@ pub fn failures<'s, 'a>(
 /// What is reported of the question, by numbers.
 fn told<'s, 'a>(
     alloc: Global,
-    case: &'s Case<'a>,
+    capture: &'a Capture<'a>,
+    denials: &'s DenialRecords<'s>,
     facts: &'s CaseFacts<'s>,
     hashes: &'s Hashes<'a>,
     name: &'s Name,
     rtype: RecordType,
 ) -> Result<Vec<Said>, AllocError>
-    requires facts { facts.now ≡ case.now }
-    requires hashes { hashes.now ≡ record { rrsets = case.now.rrsets; name = name.now } }
-    ensures { IfOk result (λ told. AreToldOf (asking_of case.now name.now rtype.0) told.items) }
+    requires capture { capture.now.rrsets ≡ facts.now.rrsets }
+    requires denials { AreDenialRecords (SecuredIn facts.now.trust) facts.now.rrsets denials.now }
+    requires hashes { hashes.now ≡ record { rrsets = facts.now.rrsets; name = name.now } }
+    ensures { IfOk result (λ told. AreToldOf (asking_of facts.now name.now rtype.0) told.items) }
 {
     let zones = facts.zone_facts(alloc, name, rtype)?;
-    let question = question_facts(alloc, case, facts, hashes, name, rtype)?;
+    let question = question_facts(alloc, capture, denials, facts, hashes, name, rtype)?;
     let levels = levels_of(alloc, question.is_anchored, &zones)?;
     let remedy = question_remedy(alloc, &levels, &question)?;
     let lines = told_by(alloc, &question, &remedy)?;

@@ -7,7 +7,8 @@ use Rattle.dnsv_verifier.specs.declared.answer.Answer.{Answer}
 use Rattle.dnsv_verifier.specs.declared.entry.Entry.{Entry}
 use Rattle.dnsv_chain.specs.Trusted.{IsSecured}
 use Rattle.dnsv_verdict.proofs.SettledLemmas.{settled_as_to, settled_to}
-use Rattle.dnsv_verdict.specs.Verdict.{AreUnknown, Basis, IsSettledAsBy, IsSettledBy, IsVerdictAt, MayBeSettledBy, with_meaning}
+use Rattle.dnsv_verdict.specs.Verdict.{AreUnknown, IsSettledAsBy, IsSettledBy, IsVerdictAt, MayBeSettledBy}
+use Rattle.dnsv_chain.specs.Basis.{Basis, with_meaning}
 use Rattle.dnsv_verdict.specs.Way.{IsRefusal, IsRefusedFor, IsWay, LeadTo}
 use Rattle.dnsv_verdict.specs.declared.error.VerdictError.{VerdictError}
 use Rattle.dnsv_verdict.specs.declared.link.Link.{Link}

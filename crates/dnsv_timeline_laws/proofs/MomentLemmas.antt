@@ -13,7 +13,8 @@ use Rattle.dnsv_verifier.specs.declared.entry.Entry.{Entry}
 use Rattle.dnsv_chain.specs.Trusted.{IsGoodByTrust, IsKeyOf, IsSecured, IsSignedUnder, IsTrusted, SignsItsSet, anchored, delegated}
 use Rattle.dnsv_chain.specs.declared.anchor.Anchor.{Anchor}
 use Rattle.dnsv_chain.proofs.TrustedLemmas.{trusted_among}
-use Rattle.dnsv_verdict.specs.Verdict.{AreUnknown, Basis, HasAnchor, IsSettledAsBy, IsSettledBy, IsVerdictAt, MayBeSettledBy}
+use Rattle.dnsv_verdict.specs.Verdict.{AreUnknown, IsSettledAsBy, IsSettledBy, IsVerdictAt, MayBeSettledBy}
+use Rattle.dnsv_chain.specs.Basis.{Basis, HasAnchor}
 use Rattle.dnsv_verdict.specs.Way.{IsLink, IsRefusal, IsRefusedFor, IsTarget, IsVerdictOf, IsWay, LeadTo}
 use Rattle.dnsv_verdict.specs.declared.error.VerdictError.{VerdictError}
 use Rattle.dnsv_verdict.specs.declared.link.Link.{Link}

@@ -11,7 +11,7 @@ use Rattle.dnsv_canonical.specs.declared.number.SignatureNumber.{SignatureNumber
 use Rattle.dnsv_lines.specs.declared.line.Line.{Line}
 use Rattle.dnsv_verifier.specs.EntryLaws.{octet_Equal, then_Equal}
 use Rattle.dnsv_verdict.proofs.WayLemmas.RefusalLemmas.{stopped_where_refused}
-use Rattle.dnsv_verdict.specs.Verdict.{Basis}
+use Rattle.dnsv_chain.specs.Basis.{Basis}
 use Rattle.dnsv_verdict.specs.Way.{IsRefusedFor, IsStoppedAt, IsVerdictOf}
 use Rattle.dnsv_verdict.specs.declared.error.VerdictError.{VerdictError}
 use Rattle.dnsv_verdict.specs.declared.link.Link.{Link}

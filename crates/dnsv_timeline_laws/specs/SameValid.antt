@@ -5,7 +5,7 @@ use Rattle.dnsv_records.specs.declared.rrsig.Rrsig.{Rrsig}
 use Rattle.dnsv_canonical.specs.Rrsets.{ReceivedRrset}
 use Rattle.dnsv_verifier.specs.Admissible.{IsSignatureOf}
 use Rattle.dnsv_timeline.specs.declared.times.Times.{Times}
-use Rattle.dnsv_verdict.specs.Verdict.{Basis, basis_of}
+use Rattle.dnsv_chain.specs.Basis.{Basis, basis_of}
 
 -- each signature of the RRsets is valid at both moments, or at neither
 abbrev pub AreSignaturesSameValid : List ReceivedRrset → ℕ → ℕ → Type 0

@@ -7,7 +7,8 @@ use Rattle.dnsv_lines.specs.declared.line.Line.{Line}
 use Rattle.dnsv_lines.specs.declared.line.Line.TheVariants as line
 use Rattle.dnsv_lines.specs.declared.line.fault.Reason.{Reason}
 use Rattle.dnsv_mending.specs.Zone.{levels_of}
-use Rattle.dnsv_verdict.specs.Verdict.{HasAnchor, IsVerdictAt}
+use Rattle.dnsv_chain.specs.Basis.{HasAnchor}
+use Rattle.dnsv_verdict.specs.Verdict.{IsVerdictAt}
 use Rattle.dnsv_verdict.specs.declared.verdict.Verdict.TheVariants.{Bogus}
 use Rattle.dnsv_faults.proofs.lemmas.zones.InPlaceLemmas.{in_place}
 use Rattle.dnsv_faults.proofs.lemmas.zones.WholeLemmas.{whole}

@@ -7,7 +7,7 @@ use Rattle.dnsv_lines.specs.declared.line.Line.{Line}
 use Rattle.dnsv_lines.specs.declared.line.Line.TheVariants as line
 use Rattle.dnsv_lines.specs.declared.line.fault.Reason.{Reason}
 use Rattle.dnsv_lines.specs.declared.line.fault.Reason.TheVariants as reason
-use Rattle.dnsv_verdict.specs.Verdict.{Basis}
+use Rattle.dnsv_chain.specs.Basis.{Basis}
 use Rattle.dnsv_gaps.specs.Asking.{Asking}
 
 -- an RRset of the type at the owner is a DNSKEY RRset of the zone, or a DS RRset that leads to it

@@ -8,7 +8,7 @@ ghost use Rattle.dnsv_lines.specs.declared.line.Line.TheVariants as line;
 ghost use Rattle.dnsv_lines.specs.declared.line.fault.signature.UntrustedSigner.{UntrustedSigner};
 ghost use Rattle.dnsv_reasons.specs.Failures.{AreFailures};
 ghost use Rattle.dnsv_true_reasons.specs.Ends.{IsExplained};
-ghost use Rattle.dnsv_verdict.specs.Verdict.{HasAnchor};
+ghost use Rattle.dnsv_chain.specs.Basis.{HasAnchor};
 
 /// A law: each signer that is reported as untrusted isn't trusted, and a reason is reported of it or of a zone above it.
 /// Where no anchor is at or above the name, none is reported.

@@ -14,7 +14,8 @@ ghost use Rattle.dnsv_true_reasons.specs.Unmet.{IsUnproved};
 ghost use Rattle.dnsv_remedies.specs.InPlace.{IsQuestionInPlace};
 ghost use Rattle.dnsv_remedies.specs.Reasons.{IsWholeQuestion};
 ghost use Rattle.dnsv_remedies.specs.declared.facts.question.QuestionFacts.{QuestionFacts};
-ghost use Rattle.dnsv_verdict.specs.Verdict.{HasAnchor, IsVerdictAt};
+ghost use Rattle.dnsv_chain.specs.Basis.{HasAnchor};
+ghost use Rattle.dnsv_verdict.specs.Verdict.{IsVerdictAt};
 
 use dnsv_verdict::Verdict;
 

@@ -29,7 +29,8 @@ use Rattle.dnsv_canonical.specs.declared.number.RecordNumber.{RecordNumber}
 use Rattle.dnsv_verdict.proofs.CaseLemmas.{some_is_one}
 use Rattle.dnsv_verdict.specs.Secure.{IsSecuredAt}
 use Rattle.dnsv_verdict.specs.Settled.{IsSettled}
-use Rattle.dnsv_verdict.specs.Verdict.{Basis, HasAnchor, IsVerdictAt, IsSettledBy, hopeful}
+use Rattle.dnsv_chain.specs.Basis.{Basis, HasAnchor, hopeful}
+use Rattle.dnsv_verdict.specs.Verdict.{IsVerdictAt, IsSettledBy}
 use Rattle.dnsv_verdict.specs.declared.verdict.Verdict.TheVariants.{Indeterminate}
 
 -- an anchor at or above a name is at or above each name below it

@@ -16,7 +16,8 @@ use Rattle.dnsv_verdict.proofs.UnknownLemmas.{one_unknown}
 use Rattle.dnsv_verdict.specs.Insecure.{IsOptOutWildcardCut, IsOptOutWildcardSet, IsUnsigned, IsUnsignedFrom}
 use Rattle.dnsv_verdict.specs.Secure.{IsFirstSuch, IsSecuredAt, IsSecureSet}
 use Rattle.dnsv_verdict.specs.Settled.{HasAlias, HasAnswer, IsSettled, IsSettledAs}
-use Rattle.dnsv_verdict.specs.Verdict.{AreUnknown, Basis, HasAnchor, IsVerdictAt, MayBeSettledBy, IsSettledBy, IsSettledAsBy}
+use Rattle.dnsv_verdict.specs.Verdict.{AreUnknown, IsVerdictAt, MayBeSettledBy, IsSettledBy, IsSettledAsBy}
+use Rattle.dnsv_chain.specs.Basis.{Basis, HasAnchor}
 use Rattle.dnsv_verdict.specs.declared.verdict.Verdict.{Verdict}
 use Rattle.dnsv_verdict.specs.declared.verdict.Verdict.TheVariants.{SecureAnswer, SecureAlias, SecureNoName, SecureNoData, Insecure, Pending, Bogus, Indeterminate}
 

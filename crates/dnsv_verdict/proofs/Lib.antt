@@ -1,6 +1,5 @@
 mod AnchorLemmas
 pub mod CaseLemmas
-pub mod FormLemmas
 mod HashedLemmas
 mod MeaningLemmas
 pub mod OfCase

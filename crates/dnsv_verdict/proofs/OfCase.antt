@@ -8,8 +8,7 @@ use Rattle.dnsv_verifier.specs.declared.entry.Entry.{Entry}
 use Rattle.dnsv_chain.specs.Trust.{IsTrustOf}
 use Rattle.dnsv_chain.specs.declared.anchor.Anchor.{Anchor}
 use Rattle.dnsv_verdict.proofs.ReportLemmas.{table_of_itself}
-use Rattle.dnsv_verdict.specs.Case.{CaseContents, HasTrust, IsCaseOf, IsCaseWith}
-use Rattle.dnsv_verdict.specs.Verdict.{Basis, basis_of}
+use Rattle.dnsv_chain.specs.Basis.{CaseContents, HasTrust, IsCaseOf, IsCaseWith, Basis, basis_of}
 
 -- a case with the table of a verifier is one of what that verifier says
 case_with : (basis : Basis) (table : TableContents) (case : CaseContents) → IsCaseWith basis.rrsets basis.anchors table case

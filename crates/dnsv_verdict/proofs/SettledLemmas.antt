@@ -1,5 +1,4 @@
 -- What is settled depends on which signatures are secured, and more of them settle no less, also among more RRsets.
-pub mod EvidenceLemmas
 pub mod NoLessLemmas
 pub mod PendingLemmas
 use Rattle.std.proofs.Common.{◌≡◌, ◌⊎◌, ℕ, List, inl, inr, ⊎_elim}
@@ -9,7 +8,7 @@ use Rattle.dnsv_zones.specs.zones.TypeNumbers.{cname}
 use Rattle.dnsv_canonical.specs.Rrsets.{IsNumbered, ReceivedRrset}
 use Rattle.dnsv_canonical.specs.SignedData.{IsExpanded}
 use Rattle.dnsv_denial.specs.proving.FirstProof.{CanProveNoCloser}
-use Rattle.dnsv_verdict.proofs.SettledLemmas.EvidenceLemmas.{no_name_can_to, no_data_can_to, no_closer_can_to, has_cut_to, opt_out_closer_to, first_no_name_to, first_no_data_to, cut_is_to}
+use Rattle.dnsv_denial.proofs.lemmas.more.EvidenceLemmas.{no_name_can_to, no_data_can_to, no_closer_can_to, has_cut_to, opt_out_closer_to, first_no_name_to, first_no_data_to, cut_is_to}
 use Rattle.dnsv_verdict.proofs.SearchLemmas.FirstSuchLemmas.{first_such_respects}
 use Rattle.dnsv_verdict.specs.Insecure.{IsOptOutWildcard, IsOptOutWildcardCut, IsOptOutWildcardSet, IsUnsigned, IsUnsignedFrom}
 use Rattle.dnsv_verdict.specs.Secure.{HoldsForName, IsFirstSuch, IsSecureSet, IsSecuredAt}

@@ -5,7 +5,7 @@ use Rattle.dnsv_names.specs.Name.{Labels}
 use Rattle.dnsv_canonical.proofs.CanonicalLemmas.{IsMember-from_contains, member_passes}
 use Rattle.dnsv_canonical.specs.Rrsets.{ReceivedRrset}
 use Rattle.dnsv_denial.specs.QuestionHashes.{HashedQuestion}
-use Rattle.dnsv_verdict.specs.Case.Shared.{AreHashedIn}
+use Rattle.dnsv_verdict.specs.Shared.{AreHashedIn}
 use Rattle.dnsv_verdict.specs.Report.{hashed_in}
 
 -- one that is kept for the name is the one of the evidence

@@ -9,7 +9,7 @@ use Rattle.dnsv_verdict.specs.Hope.{HasHope}
 use Rattle.dnsv_verdict.specs.Report.{IsKept, hashed_in}
 use Rattle.dnsv_verdict.specs.Settled.{IsSettledAs}
 use Rattle.dnsv_verdict.specs.Trail.{AddsHashes, IsEmpty, KeepsHope, Trails, kept_hashes}
-use Rattle.dnsv_verdict.specs.Case.{CaseContents}
+use Rattle.dnsv_chain.specs.Basis.{CaseContents}
 use Rattle.dnsv_verdict.specs.declared.at_name.Hope.{Hope}
 use Rattle.dnsv_verdict.specs.declared.link.Link.{Link}
 use Rattle.dnsv_verdict.specs.declared.trail.Trail.{Trail}

@@ -11,8 +11,8 @@ use Rattle.dnsv_chain.specs.declared.anchor.Anchor.{Anchor}
 use Rattle.dnsv_names.specs.Name.{Labels}
 use Rattle.dnsv_verdict.proofs.SettledLemmas.{settled_as_to, settled_to}
 use Rattle.dnsv_verdict.specs.Settled.{IsSettled, IsSettledAs}
-use Rattle.dnsv_verdict.specs.Verdict.{Basis, IsSettledAsBy, IsSettledBy, IsVerdictAt, basis_of}
-use Rattle.dnsv_verdict.specs.Case.{CaseContents}
+use Rattle.dnsv_chain.specs.Basis.{Basis, basis_of, CaseContents}
+use Rattle.dnsv_verdict.specs.Verdict.{IsSettledAsBy, IsSettledBy, IsVerdictAt}
 use Rattle.dnsv_verdict.specs.declared.verdict.Verdict.{Verdict}
 use Rattle.dnsv_verdict.specs.declared.verdict.Verdict.TheVariants.{Pending, Bogus, Indeterminate}
 

@@ -10,7 +10,8 @@ use Rattle.dnsv_verifier.specs.Table.{IsTableOf, TableContents, is_unknown, unkn
 use Rattle.dnsv_verifier.specs.declared.answer.Answer.{Answer}
 use Rattle.dnsv_verifier.specs.declared.answer.Answer.TheVariants.{Valid, Invalid, Unknown}
 use Rattle.dnsv_verifier.specs.declared.entry.Entry.{Entry}
-use Rattle.dnsv_verdict.specs.Verdict.{AreUnknown, Basis}
+use Rattle.dnsv_verdict.specs.Verdict.{AreUnknown}
+use Rattle.dnsv_chain.specs.Basis.{Basis}
 
 -- there is one such list
 pub one_unknown : (basis : Basis) (xs ys : List Entry) → AreUnknown basis xs → AreUnknown basis ys → xs ≡ ys

@@ -9,7 +9,7 @@ use Rattle.dnsv_zones.specs.zones.Zone.{Zone, Holds}
 use Rattle.dnsv_chain.specs.Trusted.{IsSecured}
 use Rattle.dnsv_denial.specs.proving.WholeChain.{HasWholeChain, HasWholeChainWithoutOptOut, HasWholeNsec3Chain, IsJustChainWithoutOptOut, IsJustNsec3Chain}
 use Rattle.dnsv_verdict.specs.Settled.{HasAnswer}
-use Rattle.dnsv_verdict.specs.Verdict.{Basis}
+use Rattle.dnsv_chain.specs.Basis.{Basis}
 use Rattle.dnsv_verdict.specs.declared.verdict.Verdict.{Verdict}
 use Rattle.dnsv_verdict.specs.declared.verdict.Verdict.TheVariants.{SecureNoName, SecureNoData, Insecure}
 

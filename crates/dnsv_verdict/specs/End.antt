@@ -1,7 +1,7 @@
 -- How a way ends. No public clause cites this module.
 use Rattle.std.specs.Prelude.{ℕ, List}
 use Rattle.dnsv_names.specs.Name.{Labels}
-use Rattle.dnsv_verdict.specs.Verdict.{Basis}
+use Rattle.dnsv_chain.specs.Basis.{Basis}
 use Rattle.dnsv_verdict.specs.Way.{IsStoppedAt, IsVerdictOf}
 use Rattle.dnsv_verdict.specs.declared.link.Link.{Link}
 use Rattle.dnsv_verdict.specs.declared.verdict.Verdict.{Verdict}

@@ -2,7 +2,7 @@
 use Rattle.std.specs.Prelude.{◌≡◌, ℕ, Option, Some, None}
 use Rattle.dnsv_names.specs.Name.{Labels}
 use Rattle.dnsv_verifier.specs.Table.{hopeful}
-use Rattle.dnsv_verdict.specs.Case.{CaseContents, HasTrust, IsCaseWith, basis_by}
+use Rattle.dnsv_chain.specs.Basis.{CaseContents, HasTrust, IsCaseWith, basis_by}
 use Rattle.dnsv_verdict.specs.Verdict.{IsSettledAsBy}
 use Rattle.dnsv_verdict.specs.declared.at_name.Hope.{Hope}
 use Rattle.dnsv_verdict.specs.declared.verdict.Verdict.{Verdict}

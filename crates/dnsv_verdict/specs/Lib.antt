@@ -1,4 +1,3 @@
-pub mod Case
 pub mod Complete
 pub mod End
 pub mod Hashed
@@ -10,6 +9,7 @@ pub mod Report
 pub mod Search
 pub mod Secure
 pub mod Settled
+pub mod Shared
 pub mod Traced
 pub mod Trail
 pub mod Verdict

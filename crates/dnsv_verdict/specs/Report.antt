@@ -9,11 +9,10 @@ use Rattle.dnsv_verdict.specs.Complete.{TellsWholeChains}
 use Rattle.dnsv_verdict.specs.Hope.{HasHope}
 use Rattle.dnsv_verdict.specs.Hashed.{IsFewHashedOn, IsNumberHashedOn}
 use Rattle.dnsv_verdict.specs.Meaning.{AreOwnOrFromWildcards, IsTrueOfZones}
-use Rattle.dnsv_verdict.specs.Verdict.{Basis}
+use Rattle.dnsv_chain.specs.Basis.{Basis, CaseContents}
 use Rattle.dnsv_verdict.specs.Way.{IsRefusal, IsVerdictOf, names_on}
 use Rattle.dnsv_verdict.specs.declared.error.VerdictError.{VerdictError}
 use Rattle.dnsv_verdict.specs.declared.error.VerdictError.TheVariants.{BadQuestion, OutOfMemory}
-use Rattle.dnsv_verdict.specs.Case.{CaseContents}
 use Rattle.dnsv_verdict.specs.declared.at_name.Hope.{Hope}
 use Rattle.dnsv_verdict.specs.declared.link.Link.{Link}
 use Rattle.dnsv_verdict.specs.declared.report.Judged.{Judged}

@@ -2,9 +2,8 @@
 use Rattle.std.specs.Prelude.{◌≡◌, ℕ, [], List, None, map}
 use Rattle.dnsv_names.specs.Name.{Labels}
 use Rattle.dnsv_denial.specs.QuestionHashes.{HashedQuestion}
-use Rattle.dnsv_verdict.specs.Case.{CaseContents}
+use Rattle.dnsv_chain.specs.Basis.{CaseContents, Basis}
 use Rattle.dnsv_verdict.specs.Report.{IsKept, IsReport, hashed_in, hashes_in}
-use Rattle.dnsv_verdict.specs.Verdict.{Basis}
 use Rattle.dnsv_verdict.specs.Way.{IsStoppedAt, IsVerdictOf, names_on}
 use Rattle.dnsv_verdict.specs.declared.traced.StoppedWay.{StoppedWay}
 use Rattle.dnsv_verdict.specs.declared.traced.Traced.{Traced}

@@ -1,45 +1,16 @@
 -- The verdict on a question: the first of eight cases that holds.
 use Rattle.std.specs.Prelude.{◌≡◌, ◌↔◌, ℕ, List, Contains}
 use Rattle.std.specs.List.Sorted.{IsStrictlySortedBy}
-use Rattle.dnsv_names.specs.Name.{Labels, IsAtOrBelow}
-use Rattle.dnsv_canonical.specs.Rrsets.{ReceivedRrset}
+use Rattle.dnsv_names.specs.Name.{Labels}
 use Rattle.dnsv_verifier.specs.Admissible.{IsAsked}
 use Rattle.dnsv_verifier.specs.Entry.{entry_cmp}
-use Rattle.dnsv_verifier.specs.Table.{hoped_answer}
-use Rattle.dnsv_verifier.specs.declared.answer.Answer.{Answer}
 use Rattle.dnsv_verifier.specs.declared.answer.Answer.TheVariants.{Unknown}
 use Rattle.dnsv_verifier.specs.declared.entry.Entry.{Entry}
-use Rattle.dnsv_chain.specs.Anchor.{anchor_owner}
+use Rattle.dnsv_chain.specs.Basis.{Basis, HasAnchor, hopeful}
 use Rattle.dnsv_chain.specs.Trusted.{IsSecured}
-use Rattle.dnsv_chain.specs.declared.anchor.Anchor.{Anchor}
 use Rattle.dnsv_verdict.specs.Settled.{IsSettled, IsSettledAs}
 use Rattle.dnsv_verdict.specs.declared.verdict.Verdict.{Verdict}
 use Rattle.dnsv_verdict.specs.declared.verdict.Verdict.TheVariants.{Pending, Bogus, Indeterminate}
-
--- ---- what a question is judged by
-
--- the RRsets of the evidence, the trust anchors, the moment, and what a verifier says of each entry
-pub record Basis : Type 0 where
-  pub rrsets : List ReceivedRrset
-  pub anchors : List Anchor
-  pub moment : ℕ
-  pub meaning : Entry → Answer
-
-abbrev pub basis_of : List ReceivedRrset → List Anchor → ℕ → (Entry → Answer) → Basis
-basis_of rrsets anchors moment meaning = record {
-  rrsets = rrsets;
-  anchors = anchors;
-  moment = moment;
-  meaning = meaning;
-}
-
--- the same with a verifier of another meaning
-abbrev pub with_meaning : Basis → (Entry → Answer) → Basis
-with_meaning basis meaning = basis_of basis.rrsets basis.anchors basis.moment meaning
-
--- the same with each Unknown taken as Valid
-abbrev pub hopeful : Basis → Basis
-hopeful basis = with_meaning basis (λ entry. hoped_answer (basis.meaning entry))
 
 -- ---- the cases, in their order
 
@@ -63,9 +34,7 @@ pub record AreUnknown (basis : Basis) (entries : List Entry) : Type 0 where
   pub members : (entry : Entry) → Contains entries entry
       ↔ (IsAsked basis.moment basis.rrsets entry × (basis.meaning entry ≡ Unknown))
 
--- 7: there is a trust anchor at or above the name (RFC 4035 4.3). 8: there is none.
-abbrev pub HasAnchor : List Anchor → Labels → Type 0
-HasAnchor anchors name = (anchor : Anchor) × Contains anchors anchor × IsAtOrBelow name (anchor_owner anchor)
+-- 7: there is a trust anchor at or above the name, as `HasAnchor` says (RFC 4035 4.3). 8: there is none.
 
 -- ---- the verdict
 

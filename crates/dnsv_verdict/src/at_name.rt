@@ -8,11 +8,12 @@ ghost use Rattle.dnsv_chain.specs.Trust.{SecuredIn};
 ghost use Rattle.dnsv_verifier.specs.Table.{IsTableOf};
 ghost use Rattle.dnsv_verifier.specs.declared.answer.Answer.{Answer};
 ghost use Rattle.dnsv_verifier.specs.declared.entry.Entry.{Entry};
-ghost use Rattle.dnsv_verdict.specs.Case.Shared.{IsSharedOf};
+ghost use Rattle.dnsv_verdict.specs.Shared.{IsSharedOf};
 ghost use Rattle.dnsv_verdict.specs.Hope.{IsHope};
 ghost use Rattle.dnsv_verdict.specs.Settled.{IsSettled, IsSettledAs};
 ghost use Rattle.dnsv_verdict.specs.Trail.{KeepsHope, Trails};
-ghost use Rattle.dnsv_verdict.specs.Verdict.{HasAnchor, IsSettledBy, IsVerdictAt, MayBeSettledBy, basis_of};
+ghost use Rattle.dnsv_chain.specs.Basis.{HasAnchor, basis_of};
+ghost use Rattle.dnsv_verdict.specs.Verdict.{IsSettledBy, IsVerdictAt, MayBeSettledBy};
 
 use crate::case::Case;
 use crate::case::shared::Shared;

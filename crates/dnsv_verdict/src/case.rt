@@ -10,8 +10,7 @@ ghost use Rattle.std.specs.Prelude.{◌≡◌, ℕ, IfOk, List, length};
 ghost use Rattle.dnsv_canonical.specs.Rrsets.{ReceivedRrset};
 ghost use Rattle.dnsv_chain.specs.Trust.{SecuredIn};
 ghost use Rattle.dnsv_denial.specs.gathering.ByZone.{AreDenialRecords};
-ghost use Rattle.dnsv_verdict.specs.Case.{HasTrust, IsCaseOf, IsCaseWith};
-ghost use Rattle.dnsv_verdict.specs.Verdict.{basis_of};
+ghost use Rattle.dnsv_chain.specs.Basis.{HasTrust, IsCaseOf, IsCaseWith, basis_of};
 ghost use Rattle.dnsv_verifier.specs.Asked.{IsNumberAsked};
 ghost use Rattle.dnsv_verifier.specs.Table.{IsTableOf, hopeful};
 ghost use Rattle.dnsv_verifier.specs.declared.answer.Answer.{Answer};
@@ -41,7 +40,7 @@ pub struct Case<'a> {
 impl<'a> Model for Case<'a> {
     ghost use Rattle.dnsv_chain.specs.Trust.{SecuredIn};
     ghost use Rattle.dnsv_denial.specs.gathering.ByZone.{AreDenialRecords};
-    ghost use Rattle.dnsv_verdict.specs.Case.{CaseContents, HasTrust};
+    ghost use Rattle.dnsv_chain.specs.Basis.{CaseContents, HasTrust};
 
     ghost Value = { CaseContents };
 

@@ -3,7 +3,8 @@ ghost use Rattle.std.specs.Prelude.{ℕ};
 ghost use Rattle.dnsv_names.specs.Name.{Labels};
 ghost use Rattle.dnsv_canonical.specs.Rrsets.{IsQuestion};
 ghost use Rattle.dnsv_verdict.specs.Complete.{TellsWholeChains};
-ghost use Rattle.dnsv_verdict.specs.Verdict.{Basis, IsVerdictAt};
+ghost use Rattle.dnsv_chain.specs.Basis.{Basis};
+ghost use Rattle.dnsv_verdict.specs.Verdict.{IsVerdictAt};
 
 use crate::verdict::Verdict;
 

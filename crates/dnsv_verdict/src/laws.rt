@@ -9,7 +9,8 @@ ghost use Rattle.dnsv_verifier.specs.declared.answer.Answer.TheVariants.{Valid};
 ghost use Rattle.dnsv_verifier.specs.declared.entry.Entry.{Entry};
 ghost use Rattle.dnsv_chain.specs.declared.anchor.Anchor.{Anchor};
 ghost use Rattle.dnsv_verdict.specs.NoLess.{AnswersNoLess, IsNoLess, basis_of_messages, case_of};
-ghost use Rattle.dnsv_verdict.specs.Verdict.{Basis, HasAnchor, IsSettledVerdict, IsVerdictAt, IsSettledBy, with_meaning};
+ghost use Rattle.dnsv_chain.specs.Basis.{Basis, HasAnchor, with_meaning};
+ghost use Rattle.dnsv_verdict.specs.Verdict.{IsSettledVerdict, IsVerdictAt, IsSettledBy};
 
 use crate::verdict::Verdict;
 use dnsv_canonical::earlier_rrsets_keep_their_numbers;

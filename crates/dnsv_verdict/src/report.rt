@@ -7,7 +7,7 @@ ghost use Rattle.dnsv_verdict.specs.Hashed.{IsFewHashedOn, IsNumberHashedOn};
 ghost use Rattle.dnsv_verdict.specs.Meaning.{AreOwnOrFromWildcards, IsTrueOfZones};
 ghost use Rattle.dnsv_verifier.specs.Asked.{IsNumberAsked};
 ghost use Rattle.dnsv_verdict.specs.Report.{hashes_in};
-ghost use Rattle.dnsv_verdict.specs.Verdict.{basis_of};
+ghost use Rattle.dnsv_chain.specs.Basis.{basis_of};
 ghost use Rattle.dnsv_verdict.specs.Way.{IsRefusal, IsVerdictOf, names_on};
 ghost use Rattle.dnsv_verdict.specs.declared.error.VerdictError.{VerdictError};
 

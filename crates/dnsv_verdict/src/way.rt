@@ -12,12 +12,12 @@ ghost use Rattle.dnsv_verifier.specs.declared.entry.Entry.{Entry};
 ghost use Rattle.dnsv_verdict.specs.End.{IsEndOf, verdict_at_end};
 ghost use Rattle.dnsv_verdict.specs.Hashed.{hashes_on};
 ghost use Rattle.dnsv_verdict.specs.Report.{IsKept};
-ghost use Rattle.dnsv_verdict.specs.Case.Shared.{IsSharedOf};
+ghost use Rattle.dnsv_verdict.specs.Shared.{IsSharedOf};
 ghost use Rattle.dnsv_verdict.specs.Trail.{IsEmpty, kept_hashes};
 ghost use Rattle.dnsv_verdict.specs.Way.{IsAlias, IsAmong, IsTarget, Stops, most_links, names_on};
 ghost use Rattle.dnsv_verdict.specs.declared.link.Link.{Link};
 ghost use Rattle.dnsv_verdict.specs.declared.verdict.Verdict.TheVariants.{SecureAlias};
-ghost use Rattle.dnsv_verdict.specs.Verdict.{basis_of};
+ghost use Rattle.dnsv_chain.specs.Basis.{basis_of};
 
 use crate::at_name::verdict_at;
 use crate::case::Case;

@@ -1,7 +1,7 @@
 //! What of an explanation derives a question.
 ghost use Rattle.std.specs.Prelude.{◌≡◌, ◌++◌, ◌∷◌, [], ℕ, IfOk, map};
 ghost use Rattle.dnsv_names.specs.Name.{Labels};
-ghost use Rattle.dnsv_verdict.specs.Case.{HasTrust, basis_by};
+ghost use Rattle.dnsv_chain.specs.Basis.{HasTrust, basis_by};
 ghost use Rattle.dnsv_verdict.specs.Report.{IsKept, hashed_in, hashes_in};
 ghost use Rattle.dnsv_verdict.specs.Traced.{hashes_on_way};
 ghost use Rattle.dnsv_verdict.specs.Way.{IsStoppedAt, IsVerdictOf, names_on};

@@ -7,10 +7,10 @@ ghost use Rattle.dnsv_explain.specs.Explained.{explained_by};
 ghost use Rattle.dnsv_explain.specs.Explanation.{IsExplanationOf};
 ghost use Rattle.dnsv_explain.specs.SharedWays.{AreHopedWays, AreOfCase};
 ghost use Rattle.dnsv_derivations.specs.derivations.WaySearch.{AreFirstWays};
-ghost use Rattle.dnsv_verdict.specs.Case.{IsCaseOf, basis_by};
+ghost use Rattle.dnsv_chain.specs.Basis.{IsCaseOf, basis_by, Basis, basis_of};
 ghost use Rattle.dnsv_verdict.specs.Hope.{HasHope};
 ghost use Rattle.dnsv_verdict.specs.Report.{IsReport, Refuses};
-ghost use Rattle.dnsv_verdict.specs.Verdict.{Basis, IsVerdictAt, basis_of};
+ghost use Rattle.dnsv_verdict.specs.Verdict.{IsVerdictAt};
 ghost use Rattle.dnsv_verdict.specs.declared.error.VerdictError.{VerdictError};
 
 use crate::explanation::at::evidence_of;
@@ -39,7 +39,7 @@ pub struct Explainer<'a> {
 
 impl<'a> Model for Explainer<'a> {
     ghost use Rattle.dnsv_explain.specs.SharedWays.{AreHopedWays, AreOfCase};
-    ghost use Rattle.dnsv_verdict.specs.Case.{CaseContents};
+    ghost use Rattle.dnsv_chain.specs.Basis.{CaseContents};
 
     ghost Value = { CaseContents };
 

@@ -43,8 +43,11 @@ fn failing(alloc: Global, at: &At<'_, '_>, rtype: RecordType) -> Result<Vec<Line
     requires { at.now.hashes.now ≡ hashed_in at.now.case.now.rrsets at.now.name.now }
     ensures { IfOk result (λ lines. AreFailures (asking_of at.now.case.now at.now.name.now rtype.0) lines.items) }
 {
-    let facts = CaseFacts::of(alloc, at.case)?;
-    failures(alloc, at.case, &facts, at.hashes, at.name, rtype)
+    let case = at.case;
+    let capture = case.capture();
+    let facts = CaseFacts::of(alloc, capture, case.anchors(), case.table(), case.trust())?;
+    let denials = case.denials();
+    failures(alloc, capture, denials, &facts, at.hashes, at.name, rtype)
 }
 
 /// Whether nothing is proved.

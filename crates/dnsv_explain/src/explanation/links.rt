@@ -1,6 +1,6 @@
 //! What holds for the links of a way.
 ghost use Rattle.std.specs.Prelude.{◌≡◌, ◌<◌, ℕ, [], OnOk, get_or, length, map};
-ghost use Rattle.dnsv_verdict.specs.Case.{HasTrust};
+ghost use Rattle.dnsv_chain.specs.Basis.{HasTrust};
 ghost use Rattle.dnsv_verdict.specs.Report.{hashed_in};
 ghost use Rattle.dnsv_verdict.specs.Secure.{IsSecureSet};
 ghost use Rattle.dnsv_derivations.specs.Explained.{setting_in};

@@ -1,6 +1,6 @@
 //! What holds for a verdict.
 ghost use Rattle.std.specs.Prelude.{◌≡◌, ◌↔◌, [], IsTrue, OnOk};
-ghost use Rattle.dnsv_verdict.specs.Case.{HasTrust, basis_by};
+ghost use Rattle.dnsv_chain.specs.Basis.{HasTrust, basis_by};
 ghost use Rattle.dnsv_verdict.specs.Hope.{HasHope, IsHope};
 ghost use Rattle.dnsv_verdict.specs.Report.{hashed_in};
 ghost use Rattle.dnsv_verdict.specs.Verdict.{AreUnknown, IsSettledVerdict, IsVerdictAt};

@@ -17,7 +17,7 @@ use Rattle.dnsv_chain.specs.Ds.{GoesBefore, IsIgnored}
 use Rattle.dnsv_chain.specs.declared.anchor.Anchor.{Anchor}
 use Rattle.dnsv_digest.specs.DigestAlgorithm.{digest_algorithm_of}
 use Rattle.dnsv_digest.specs.declared.digest_algorithm.DigestAlgorithm.TheVariants.{Sha1, Sha256, Sha384}
-use Rattle.dnsv_verdict.specs.Verdict.{Basis}
+use Rattle.dnsv_chain.specs.Basis.{Basis}
 use Rattle.dnsv_canonical.proofs.NumberLemmas.{IsOneAt, each_number}
 use Rattle.dnsv_lines.specs.declared.line.fault.zone.EntryNumber.TheVariants as number
 use Rattle.dnsv_mending.specs.declared.facts.keys.VoucherFacts.{VoucherFacts}

@@ -17,8 +17,8 @@ use Rattle.dnsv_records.proofs.OneRecord.{one_rrsig}
 use Rattle.dnsv_canonical.specs.Index.{numbers_at}
 use Rattle.dnsv_canonical.specs.Rrsets.{IsNumbered, ReceivedRrset}
 use Rattle.dnsv_chain.proofs.ZipLemmas.{zip_at, zip_length}
-use Rattle.dnsv_verdict.specs.Verdict.{Basis}
-use Rattle.dnsv_verdict.proofs.SearchLemmas.{numbers_are}
+use Rattle.dnsv_chain.specs.Basis.{Basis}
+use Rattle.dnsv_chain.proofs.NumberedLemmas.{numbers_are}
 use Rattle.dnsv_canonical.proofs.NumberLemmas.{IsOneAt}
 use Rattle.dnsv_verifier.proofs.AskLemmas.{adds_nothing, adds_same}
 use Rattle.dnsv_verifier.specs.Admissible.{IsSignatureOf}

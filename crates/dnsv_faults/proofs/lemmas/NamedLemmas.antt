@@ -16,7 +16,7 @@ use Rattle.dnsv_mending.specs.declared.facts.signature.NamedKey.{NamedKey}
 use Rattle.dnsv_verifier.proofs.NumberLemmas.{contains_map}
 use Rattle.dnsv_verifier.specs.Admissible.{DnskeyRecord}
 use Rattle.dnsv_verifier.specs.Asking.{GivesEach}
-use Rattle.dnsv_verdict.specs.Verdict.{Basis}
+use Rattle.dnsv_chain.specs.Basis.{Basis}
 use Rattle.dnsv_zone_keys.specs.Answers.AnswerSearch.{ArePutInOrder, IsSaidOf}
 use Rattle.dnsv_zone_keys.specs.Keys.Index.{Placed}
 use Rattle.dnsv_zone_keys.specs.Keys.KeySearch.{AreNamedOf}

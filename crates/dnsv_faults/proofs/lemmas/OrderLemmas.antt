@@ -15,7 +15,7 @@ use Rattle.dnsv_canonical.specs.Rrsets.{IsNumbered, ReceivedRrset}
 use Rattle.dnsv_canonical.proofs.OrderLemmas.{each_member, each_of, whole_by_count, zip_at}
 use Rattle.dnsv_canonical.proofs.GroupLemmas.{placed-push}
 use Rattle.dnsv_mending.specs.declared.facts.signature.RrsetFacts.{RrsetFacts}
-use Rattle.dnsv_verdict.specs.Verdict.{Basis}
+use Rattle.dnsv_chain.specs.Basis.{Basis}
 use Rattle.dnsv_faults.specs.Rrsets.{AreInOrder, AreRrsetFacts, Rank, rank_cmp, rank_of}
 use Rattle.dnsv_faults.specs.Rrsets.RrsetSearch.{rank, seen_signature}
 use Rattle.dnsv_faults.specs.Signatures.{AreSignatureFacts, IsSignatureAt}

@@ -12,8 +12,7 @@ use Rattle.dnsv_canonical.specs.Rrsets.{IsNumbered, ReceivedRrset}
 use Rattle.dnsv_chain.specs.Anchor.{HasAnchorMatch}
 use Rattle.dnsv_chain.specs.Trusted.{DelegatesTo, IsKeyOf, IsSignedUnder, IsTrusted}
 use Rattle.dnsv_verifier.specs.Admissible.{DnskeyRecord, IsGood}
-use Rattle.dnsv_verdict.specs.Case.{CaseContents, basis_by}
-use Rattle.dnsv_verdict.specs.Verdict.{Basis}
+use Rattle.dnsv_chain.specs.Basis.{CaseContents, basis_by, Basis}
 use Rattle.dnsv_mending.specs.declared.facts.keys.DnskeyFacts.{DnskeyFacts}
 use Rattle.dnsv_mending.specs.declared.facts.keys.SelfSignature.{SelfSignature}
 use Rattle.dnsv_zone_keys.specs.Answers.AnswerSearch.{IsAskedOf}

@@ -1,7 +1,7 @@
 //! The zone keys that a signature names.
 ghost use Rattle.std.specs.Prelude.{IfOk, OnOk};
 ghost use Rattle.std.specs.Option.{option_map};
-ghost use Rattle.dnsv_verdict.specs.Case.{basis_by};
+ghost use Rattle.dnsv_chain.specs.Basis.{basis_by};
 ghost use Rattle.dnsv_verifier.specs.Asking.{GivesEach, GivesMore};
 ghost use Rattle.dnsv_verifier.specs.Table.{table_answer};
 ghost use Rattle.dnsv_zone_keys.specs.Answers.AnswerSearch.{ArePutInOrder, IsAskedOf, IsSaidOf};

@@ -1,7 +1,7 @@
 //! A zone with what its DNSKEY RRsets are found by.
 ghost use Rattle.std.specs.Prelude.{◌≡◌, ◌≢◌, Contains, IfOk, IsPermutation, IsSortedByKey, MatchOption};
 ghost use Rattle.dnsv_canonical.specs.Canonical.{rdata_cmp};
-ghost use Rattle.dnsv_verdict.specs.Case.{basis_by};
+ghost use Rattle.dnsv_chain.specs.Basis.{basis_by};
 ghost use Rattle.dnsv_faults.specs.Dnskeys.DnskeySearch.{IsKeyedFor, rdata_of};
 ghost use Rattle.dnsv_faults.specs.Groups.{AreAllDsFacts, AreAnchorFacts};
 ghost use Rattle.dnsv_zone_keys.specs.Keys.Index.{Placed};

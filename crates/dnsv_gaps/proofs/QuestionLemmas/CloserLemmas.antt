@@ -30,9 +30,8 @@ use Rattle.dnsv_denial.specs.proving.FirstProof.{CanProveNoCloser}
 use Rattle.dnsv_denial.specs.words.EvidenceWords.{Chain, number_cmp}
 use Rattle.dnsv_denial.specs.words.EvidenceWords.Chain.{ByNsec, ByNsec3}
 use Rattle.dnsv_mending.specs.declared.facts.signature.RrsetFacts.{RrsetFacts}
-use Rattle.dnsv_verdict.specs.Case.{CaseContents, HasTrust, basis_by}
-use Rattle.dnsv_verdict.specs.Verdict.{Basis}
-use Rattle.dnsv_verdict.proofs.SettledLemmas.EvidenceLemmas.{no_closer_can_to}
+use Rattle.dnsv_chain.specs.Basis.{CaseContents, HasTrust, basis_by, Basis}
+use Rattle.dnsv_denial.proofs.lemmas.more.EvidenceLemmas.{no_closer_can_to}
 use Rattle.dnsv_verifier.specs.Asking.{AddsJust}
 use Rattle.dnsv_faults.specs.Signatures.{IsSignatureAt}
 use Rattle.dnsv_gaps.specs.Asking.{Asking, asking}

@@ -25,7 +25,7 @@ use Rattle.dnsv_denial.specs.declared.words.asked.AskedName.TheVariants as name
 use Rattle.dnsv_denial.specs.declared.words.asked.AskedTypes.TheVariants as types
 use Rattle.dnsv_denial.specs.declared.words.asked.AskedWord.TheVariants as word
 use Rattle.dnsv_mending.specs.declared.facts.signature.RrsetFacts.{RrsetFacts}
-use Rattle.dnsv_verdict.specs.Verdict.{Basis}
+use Rattle.dnsv_chain.specs.Basis.{Basis}
 use Rattle.dnsv_gaps.specs.Asking.{Asking, asking}
 use Rattle.dnsv_gaps.specs.Cases.{HasNone, HasOne, IsAt}
 use Rattle.dnsv_gaps.specs.Parts.{AreFactsOf}

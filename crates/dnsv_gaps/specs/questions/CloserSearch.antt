@@ -4,7 +4,7 @@ use Rattle.dnsv_records.specs.declared.rrsig.Rrsig.{Rrsig}
 use Rattle.dnsv_canonical.specs.Rrsets.{ReceivedRrset}
 use Rattle.dnsv_denial.specs.Viewed.{Viewed}
 use Rattle.dnsv_faults.specs.Signatures.{IsSignatureAt}
-use Rattle.dnsv_verdict.specs.Case.{HasTrust}
+use Rattle.dnsv_chain.specs.Basis.{HasTrust}
 use Rattle.dnsv_mending.specs.declared.facts.signature.SignatureFacts.{SignatureFacts}
 use Rattle.dnsv_gaps.specs.declared.asked.AskedQuestion.{AskedQuestion}
 

@@ -15,7 +15,7 @@ use Rattle.dnsv_canonical.specs.Rrsets.{ReceivedRrset}
 use Rattle.dnsv_canonical.specs.declared.number.RecordNumber.{RecordNumber}
 use Rattle.dnsv_denial.specs.words.EvidenceWords.{Chain, number_cmp}
 use Rattle.dnsv_denial.specs.words.EvidenceWords.Chain.{ByNsec, ByNsec3}
-use Rattle.dnsv_verdict.specs.Verdict.{Basis, HasAnchor}
+use Rattle.dnsv_chain.specs.Basis.{Basis, HasAnchor}
 use Rattle.dnsv_verifier.specs.Admissible.{IsSignatureOf}
 use Rattle.dnsv_faults.specs.KnownZones.{HasOwnAnchor, HasRrset, IsGoal, IsKnownZone}
 use Rattle.dnsv_faults.specs.Rrsets.{AreRrsetFacts}

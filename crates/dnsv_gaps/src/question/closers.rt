@@ -5,7 +5,7 @@ ghost use Rattle.std.specs.List.Sorted.{IsStrictlySortedBy};
 ghost use Rattle.dnsv_denial.specs.words.EvidenceWords.{number_cmp};
 ghost use Rattle.dnsv_denial.specs.words.Asked.{IsWithin};
 ghost use Rattle.dnsv_faults.specs.KnownZones.{IsGoal};
-ghost use Rattle.dnsv_verdict.specs.Case.{basis_by};
+ghost use Rattle.dnsv_chain.specs.Basis.{basis_by};
 ghost use Rattle.dnsv_gaps.specs.Asking.{IsAsked, asking};
 ghost use Rattle.dnsv_gaps.specs.Parts.{AreFactsOf};
 ghost use Rattle.dnsv_gaps.specs.SourceSearch.{AreZoneDenials, IsHeldIn};

@@ -7,8 +7,7 @@ ghost use Rattle.std.specs.Prelude.{◌≡◌, ◌↔◌, ◌≤◌, ◌<◌, �
 ghost use Rattle.std.specs.List.{AllZip, enumerate_from, range_with_len};
 ghost use Rattle.dnsv_faults.specs.KnownZones.{IsKnownZone};
 ghost use Rattle.dnsv_names.specs.Name.{rightmost};
-ghost use Rattle.dnsv_verdict.specs.Case.{basis_by};
-ghost use Rattle.dnsv_verdict.specs.Verdict.{HasAnchor};
+ghost use Rattle.dnsv_chain.specs.Basis.{basis_by, HasAnchor};
 ghost use Rattle.dnsv_gaps.specs.Asking.{IsAsked, asking};
 ghost use Rattle.dnsv_gaps.specs.SourceSearch.{AreZoneDenials, held_chain, zone_in};
 ghost use Rattle.dnsv_gaps.specs.questions.Cuts.{AreCutFacts, AreCutsBelow, AreParentFacts, AreParents, IsCutSource, IsNext, IsParent, lowest_cut};

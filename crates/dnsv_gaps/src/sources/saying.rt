@@ -4,7 +4,7 @@ ghost use Rattle.std.specs.List.{AllByRecursion};
 ghost use Rattle.dnsv_denial.specs.proving.Numbers.{number_at, numbers_of, record_count};
 ghost use Rattle.dnsv_denial.specs.words.Asked.{IsWithin};
 ghost use Rattle.dnsv_canonical.specs.declared.number.RecordNumber.{RecordNumber};
-ghost use Rattle.dnsv_verdict.specs.Case.{basis_by};
+ghost use Rattle.dnsv_chain.specs.Basis.{basis_by};
 ghost use Rattle.dnsv_gaps.specs.Parts.{AreFactsOf, IsInEvidence};
 ghost use Rattle.dnsv_gaps.specs.SourceSearch.{AreSaying, IsSourceIn, Says};
 

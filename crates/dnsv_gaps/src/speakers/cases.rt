@@ -5,7 +5,7 @@ mod closed;
 mod encloser;
 
 ghost use Rattle.std.specs.Prelude.{◌≡◌, ◌↔◌, IfOk, IsTrue, length};
-ghost use Rattle.dnsv_verdict.specs.Case.{basis_by};
+ghost use Rattle.dnsv_chain.specs.Basis.{basis_by};
 ghost use Rattle.dnsv_gaps.specs.Cases.{HasNoneClosed, IsSourceCase};
 ghost use Rattle.dnsv_gaps.specs.SourceSearch.{IsSourceIn, said_in, zone_in};
 

@@ -6,7 +6,7 @@ use Rattle.dnsv_answers.specs.declared.heading.Moments.TheVariants.{At}
 use Rattle.dnsv_names.specs.Octets.{AreOctets}
 use Rattle.dnsv_canonical.specs.Question.{Asked}
 use Rattle.dnsv_canonical.specs.Rrsets.{IsQuestion}
-use Rattle.dnsv_verdict.specs.Verdict.{Basis}
+use Rattle.dnsv_chain.specs.Basis.{Basis}
 use Rattle.dnsv_verdict.specs.VerdictError.{verdict_error_code}
 use Rattle.dnsv_verdict.specs.Way.{IsRefusal}
 use Rattle.dnsv_verdict.specs.declared.error.VerdictError.{VerdictError}

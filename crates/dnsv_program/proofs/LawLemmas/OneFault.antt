@@ -10,7 +10,7 @@ use Rattle.dnsv_message.specs.Message.{Contents}
 use Rattle.dnsv_canonical.specs.Evidence.{evidence_of}
 use Rattle.dnsv_canonical.specs.Rrsets.{IsQuestion, ReceivedRrset}
 use Rattle.dnsv_tsig.specs.Key.{SharedKey}
-use Rattle.dnsv_verdict.specs.Verdict.{Basis}
+use Rattle.dnsv_chain.specs.Basis.{Basis}
 use Rattle.dnsv_verdict.specs.Way.{IsRefusedFor, IsVerdictOf}
 use Rattle.dnsv_chain.specs.declared.anchor.Anchor.{Anchor}
 use Rattle.dnsv_files.specs.declared.opening.Opening.{Opening}
@@ -39,8 +39,7 @@ use Rattle.dnsv_files.specs.Files.{Files, octets_or_none}
 use Rattle.dnsv_files.specs.Opening.Keys.{IsFaultOfKeys, MayHaveKeys}
 use Rattle.dnsv_program.specs.Layers.{LayerLaws}
 use Rattle.dnsv_program.specs.Question.{IsNameRefused, IsQuestionRefused, Spells}
-use Rattle.dnsv_program.specs.Run.{IsAnswered, IsFaultOfQuestion, IsFirstFault, IsFirstFaultBehind, IsFirstFaultOfCheck, IsFirstFaultOfEvidence, IsFirstFaultOfFiles, IsFirstFaultOfName, IsFirstFaultOfTodo, IsTextAskedFor}
-use Rattle.dnsv_program.specs.Run.{IsFirstFaultOfAsked, IsFirstFaultOfRange, IsFirstFaultOfTimeline, IsFirstFaultThroughout, IsTimelineAsked}
+use Rattle.dnsv_program.specs.Run.{IsAnswered, IsFaultOfQuestion, IsFirstFault, IsFirstFaultBehind, IsFirstFaultOfCheck, IsFirstFaultOfEvidence, IsFirstFaultOfFiles, IsFirstFaultOfName, IsFirstFaultOfTodo, IsTextAskedFor, IsFirstFaultOfAsked, IsFirstFaultOfRange, IsFirstFaultOfTimeline, IsFirstFaultThroughout, IsTimelineAsked}
 use Rattle.dnsv_program.specs.Work.Listing.{IsTodo}
 use Rattle.dnsv_files.proofs.FileLemmas.Anchors.{no_anchors_fault, one_anchors_fault}
 use Rattle.dnsv_files.proofs.OpeningLemmas.Keys.{no_keys_fault, one_keys_fault}

@@ -14,7 +14,7 @@ use Rattle.dnsv_verdict.specs.declared.error.VerdictError.{VerdictError}
 use Rattle.dnsv_verdict.specs.declared.error.VerdictError.TheVariants as error
 use Rattle.dnsv_verdict.specs.declared.verdict.Verdict.{Verdict}
 use Rattle.dnsv_verdict.specs.declared.verdict.Verdict.TheVariants as verdict
-use Rattle.dnsv_verdict.specs.Verdict.{Basis, basis_of}
+use Rattle.dnsv_chain.specs.Basis.{Basis, basis_of}
 use Rattle.dnsv_verdict.specs.declared.report.Report.{Report}
 use Rattle.dnsv_explain.specs.Explanation.{IsExplanationOf}
 use Rattle.dnsv_lines.specs.declared.line.Line.{Line}

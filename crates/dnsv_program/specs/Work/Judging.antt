@@ -1,6 +1,6 @@
 -- A case that questions are judged by. No public clause cites this module.
 use Rattle.std.specs.Prelude.{Bool, true, false}
-use Rattle.dnsv_verdict.specs.Case.{CaseContents}
+use Rattle.dnsv_chain.specs.Basis.{CaseContents}
 use Rattle.dnsv_program.specs.declared.work.judging.Judging.{Judging}
 use Rattle.dnsv_program.specs.declared.work.judging.Judging.TheVariants as judge
 

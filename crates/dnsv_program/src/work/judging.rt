@@ -9,7 +9,7 @@ ghost use Rattle.dnsv_verdict.specs.Way.{IsRefusal, IsRefusedFor, IsVerdictOf};
 ghost use Rattle.dnsv_verdict.specs.declared.error.VerdictError.{VerdictError};
 ghost use Rattle.dnsv_verdict.specs.declared.error.VerdictError.TheVariants.{OutOfMemory};
 ghost use Rattle.dnsv_verdict.specs.declared.report.Report.{Report};
-ghost use Rattle.dnsv_verdict.specs.Verdict.{Basis, basis_of};
+ghost use Rattle.dnsv_chain.specs.Basis.{Basis, basis_of, IsCaseOf};
 ghost use Rattle.dnsv_verdict.specs.VerdictError.{verdict_error_code};
 ghost use Rattle.dnsv_lines.specs.declared.line.Line.{Line};
 ghost use Rattle.dnsv_files.specs.Status.{fault_number, status_code};
@@ -17,7 +17,6 @@ ghost use Rattle.dnsv_texts.specs.Checking as texts;
 ghost use Rattle.dnsv_program.specs.Work.Checking as specs;
 ghost use Rattle.dnsv_program.specs.Work.Checking.{IsJudged, IsWhy};
 ghost use Rattle.dnsv_program.specs.Work.Judging.{case_of, tells_why};
-ghost use Rattle.dnsv_verdict.specs.Case.{IsCaseOf};
 
 use crate::work::Outcome;
 use crate::work::known::OpenNumbers;

@@ -11,7 +11,7 @@ use Rattle.dnsv_canonical.specs.Index.{numbers_at}
 use Rattle.dnsv_canonical.specs.Rrsets.{ReceivedRrset}
 use Rattle.dnsv_chain.specs.Trusted.{IsTrusted}
 use Rattle.dnsv_verifier.specs.Admissible.{DnskeyRecord}
-use Rattle.dnsv_verdict.specs.Verdict.{Basis}
+use Rattle.dnsv_chain.specs.Basis.{Basis}
 use Rattle.dnsv_lines.specs.declared.line.derivation.KeyName.{KeyName}
 use Rattle.dnsv_mending.specs.declared.facts.keys.DnskeyFacts.{DnskeyFacts}
 use Rattle.dnsv_mending.specs.declared.facts.keys.HeldKey.{HeldKey}

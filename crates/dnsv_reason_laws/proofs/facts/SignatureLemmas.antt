@@ -5,7 +5,7 @@ use Rattle.dnsv_records.specs.Rrsig.{IsRrsig}
 use Rattle.dnsv_records.specs.declared.rrsig.Rrsig.{Rrsig}
 use Rattle.dnsv_records.proofs.OneRecord.{one_rrsig}
 use Rattle.dnsv_canonical.specs.Rrsets.{ReceivedRrset}
-use Rattle.dnsv_verdict.specs.Verdict.{Basis}
+use Rattle.dnsv_chain.specs.Basis.{Basis}
 use Rattle.dnsv_mending.specs.declared.facts.signature.NamedKey.{NamedKey}
 use Rattle.dnsv_mending.specs.declared.facts.signature.SignatureFacts.{SignatureFacts}
 use Rattle.dnsv_mending.specs.declared.facts.signature.SignatureFaults.{SignatureFaults}

@@ -16,7 +16,7 @@ use Rattle.dnsv_gaps.specs.Sources.{source_said}
 use Rattle.dnsv_gaps.specs.Speakers.{AreSourceFacts, AreSpeakerFacts}
 use Rattle.dnsv_gaps.specs.questions.Questions.{AreQuestionFacts}
 use Rattle.dnsv_zones.specs.forms.RecordWords.{RecordWords}
-use Rattle.dnsv_verdict.specs.Verdict.{Basis, HasAnchor}
+use Rattle.dnsv_chain.specs.Basis.{Basis, HasAnchor}
 use Rattle.dnsv_lines.specs.declared.line.fault.denial.WhySource.{WhySource}
 use Rattle.dnsv_names.specs.declared.number.RecordType.{RecordType}
 use Rattle.dnsv_mending.specs.Ways.{IsAmong}

@@ -11,7 +11,7 @@ use Rattle.dnsv_remedies.specs.declared.facts.denial.ClosedFacts.{ClosedFacts}
 use Rattle.dnsv_remedies.specs.declared.facts.denial.EncloserFacts.{EncloserFacts}
 use Rattle.dnsv_remedies.specs.declared.facts.denial.SourceCase.{SourceCase}
 use Rattle.dnsv_remedies.specs.declared.facts.denial.SourceCase.TheVariants as case
-use Rattle.dnsv_verdict.specs.Verdict.{Basis}
+use Rattle.dnsv_chain.specs.Basis.{Basis}
 use Rattle.dnsv_gaps.specs.Cases.{AreClosedFacts, AreEncloserFacts, AreShowing, AreWildcardFacts, IsBestCover, IsFirstClosed, IsSourceCase}
 use Rattle.dnsv_gaps.specs.Cases.AreShowing.{needless, by_records}
 use Rattle.dnsv_gaps.specs.Parts.{AreFactsOf}

@@ -10,7 +10,7 @@ use Rattle.dnsv_faults.specs.Rrsets.{AreRrsetFacts}
 use Rattle.dnsv_remedies.specs.declared.facts.cut.CutCase.{CutCase}
 use Rattle.dnsv_remedies.specs.declared.facts.cut.CutCase.TheVariants as case
 use Rattle.dnsv_remedies.specs.declared.facts.cut.SignedCutFacts.{SignedCutFacts}
-use Rattle.dnsv_verdict.specs.Verdict.{Basis}
+use Rattle.dnsv_chain.specs.Basis.{Basis}
 use Rattle.dnsv_gaps.specs.Cases.{IsAt}
 use Rattle.dnsv_gaps.specs.questions.Cuts.{IsCutCase, IsHeldInstead, IsLowestAt, IsUnsignedAt}
 use Rattle.dnsv_remedy_laws.specs.AlikeQuestions.{AreAlikeCutCases, AreAlikeSignedCuts}

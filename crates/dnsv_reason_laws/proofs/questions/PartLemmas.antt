@@ -2,7 +2,7 @@
 use Rattle.std.proofs.Common.{ℕ, List, subst}
 use Rattle.std.specs.List.{AllZip}
 use Rattle.dnsv_canonical.specs.declared.number.RecordNumber.{RecordNumber}
-use Rattle.dnsv_verdict.specs.Verdict.{Basis}
+use Rattle.dnsv_chain.specs.Basis.{Basis}
 use Rattle.dnsv_mending.specs.declared.facts.signature.RrsetFacts.{RrsetFacts}
 use Rattle.dnsv_faults.specs.Rrsets.{AreRrsetFacts}
 use Rattle.dnsv_gaps.specs.Parts.{AreFactsOf, HasSuch}

@@ -1,6 +1,6 @@
 -- What is so of a question is one.
 use Rattle.std.proofs.Common.{◌∙◌, sym}
-use Rattle.dnsv_verdict.specs.Verdict.{HasAnchor}
+use Rattle.dnsv_chain.specs.Basis.{HasAnchor}
 use Rattle.dnsv_remedies.specs.declared.facts.question.QuestionFacts.{QuestionFacts}
 use Rattle.dnsv_gaps.specs.Asking.{Asking}
 use Rattle.dnsv_gaps.specs.questions.Questions.{AreQuestionFacts}

@@ -35,7 +35,7 @@ use Rattle.dnsv_mending.specs.declared.told.Told.{Told}
 use Rattle.dnsv_mending.specs.declared.told.Told.TheVariants as told
 use Rattle.dnsv_reasons.specs.Lines.{IsTrustLine}
 use Rattle.dnsv_reasons.specs.Places.{IsEntry, IsKeyAt, IsPlaced, IsShown, anchor_digest, shown_of}
-use Rattle.dnsv_verdict.specs.Verdict.{Basis}
+use Rattle.dnsv_chain.specs.Basis.{Basis}
 use Rattle.dnsv_true_reasons.specs.truth.Entries.{IsEntryTrue, wanted_digest}
 use Rattle.dnsv_true_reasons.specs.truth.Keys.{IsWithoutSignature, IsWithoutVoucher}
 use Rattle.dnsv_true_reasons.specs.truth.Reasons.{IsReasonTrue}

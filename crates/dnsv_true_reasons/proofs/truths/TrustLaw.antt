@@ -52,7 +52,7 @@ use Rattle.dnsv_true_reasons.proofs.truths.ways.SaidOf.IsSaidOf.{not_anchored, o
 use Rattle.dnsv_true_reasons.proofs.truths.zones.SignatureTruth.{signature_true}
 use Rattle.dnsv_true_reasons.proofs.truths.ways.Told.{IsOfSignature}
 use Rattle.dnsv_true_reasons.proofs.truths.zones.TrueTold.{IsTold, IsUnsignedTold}
-use Rattle.dnsv_verdict.specs.Verdict.{HasAnchor}
+use Rattle.dnsv_chain.specs.Basis.{HasAnchor}
 use Rattle.dnsv_true_reasons.proofs.truths.zones.ZoneTruth.{zones_true}
 
 -- ---- what is told

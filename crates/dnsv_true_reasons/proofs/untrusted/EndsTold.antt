@@ -12,7 +12,7 @@ use Rattle.dnsv_canonical.specs.Rrsets.{ReceivedRrset}
 use Rattle.dnsv_canonical.specs.declared.number.SignatureNumber.{SignatureNumber}
 use Rattle.dnsv_chain.specs.Trusted as chain
 use Rattle.dnsv_chain.proofs.TrustedLemmas.{trusted_among, trusted_rtype}
-use Rattle.dnsv_verdict.specs.Verdict.{HasAnchor}
+use Rattle.dnsv_chain.specs.Basis.{HasAnchor}
 use Rattle.dnsv_lines.specs.declared.line.Line.{Line}
 use Rattle.dnsv_lines.specs.declared.line.Line.TheVariants as line
 use Rattle.dnsv_lines.specs.declared.line.fault.signature.ShownSignature.{ShownSignature}

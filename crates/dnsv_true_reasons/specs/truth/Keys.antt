@@ -10,7 +10,7 @@ use Rattle.dnsv_zone_keys.specs.Vouchers.{Wanted}
 use Rattle.dnsv_lines.specs.declared.line.fault.zone.EntryNumber.{EntryNumber}
 use Rattle.dnsv_lines.specs.declared.line.fault.zone.KeyWithoutSignature.{KeyWithoutSignature}
 use Rattle.dnsv_lines.specs.declared.line.fault.zone.KeysNotVouched.{KeysNotVouched}
-use Rattle.dnsv_verdict.specs.Verdict.{Basis}
+use Rattle.dnsv_chain.specs.Basis.{Basis}
 use Rattle.dnsv_verifier.specs.Admissible.{DnskeyRecord, IsSignatureOf}
 use Rattle.dnsv_true_reasons.specs.truth.Entries.{Fits, IsVoucherOf}
 

@@ -3,7 +3,7 @@ use Rattle.dnsv_names.specs.Name.{Labels}
 use Rattle.dnsv_faults.specs.KnownZones.{HasOwnAnchor, HasRrset}
 use Rattle.dnsv_lines.specs.declared.line.fault.zone.WhyZone.{WhyZone}
 use Rattle.dnsv_lines.specs.declared.line.fault.zone.WhyZone.TheVariants as why
-use Rattle.dnsv_verdict.specs.Verdict.{Basis, HasAnchor}
+use Rattle.dnsv_chain.specs.Basis.{Basis, HasAnchor}
 
 -- true exactly where
 abbrev pub IsZoneTrue : Basis → Labels → WhyZone → Type 0

@@ -14,7 +14,8 @@ use Rattle.dnsv_denial.specs.unsigned_cuts.Cuts.{HasUnsignedCut}
 use Rattle.dnsv_denial.proofs.meaning.JustChainProofs.{can_be, just_no_name, just_no_data, just3_no_name, just3_no_data}
 use Rattle.dnsv_denial.proofs.meaning.WholeChainProofs.{without_opt_out_no_name, without_opt_out_no_data, no_name_or_cut, no_data_or_cut, whole_cut}
 use Rattle.dnsv_verdict.specs.Complete.{SaysNoName, SaysNoData, SaysInsecure, IsDenied, IsDeniedOrUnsigned, IsDeniedSomehow, SecuredBy, HasNoAnswer, TellsWholeChains}
-use Rattle.dnsv_verdict.specs.Verdict.{Basis, IsVerdictAt, IsSettledBy}
+use Rattle.dnsv_chain.specs.Basis.{Basis}
+use Rattle.dnsv_verdict.specs.Verdict.{IsVerdictAt, IsSettledBy}
 use Rattle.dnsv_verdict.specs.declared.verdict.Verdict.{Verdict}
 use Rattle.dnsv_verdict.specs.declared.verdict.Verdict.TheVariants.{SecureAnswer, SecureAlias, SecureNoName, SecureNoData, Insecure}
 

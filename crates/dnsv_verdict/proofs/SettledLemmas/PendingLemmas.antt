@@ -11,7 +11,8 @@ use Rattle.dnsv_verifier.specs.declared.entry.Entry.{Entry}
 use Rattle.dnsv_chain.specs.Trusted.{IsSecured}
 use Rattle.dnsv_chain.specs.declared.anchor.Anchor.{Anchor}
 use Rattle.dnsv_verdict.proofs.SettledLemmas.{settled_to}
-use Rattle.dnsv_verdict.specs.Verdict.{AreUnknown, Basis, IsSettledVerdict, IsVerdictAt, MayBeSettledBy, IsSettledBy, with_meaning}
+use Rattle.dnsv_verdict.specs.Verdict.{AreUnknown, IsSettledVerdict, IsVerdictAt, MayBeSettledBy, IsSettledBy}
+use Rattle.dnsv_chain.specs.Basis.{Basis, with_meaning}
 use Rattle.dnsv_verdict.specs.declared.verdict.Verdict.{Verdict}
 use Rattle.dnsv_verdict.specs.declared.verdict.Verdict.TheVariants.{Pending, Bogus, Indeterminate}
 

@@ -27,7 +27,8 @@ use Rattle.dnsv_verdict.proofs.TrustLemmas.{settled_is_verdict}
 use Rattle.dnsv_verdict.specs.Insecure.{IsOptOutWildcardSet, IsUnsigned, IsUnsignedFrom}
 use Rattle.dnsv_verdict.specs.Secure.{IsSecureSet}
 use Rattle.dnsv_verdict.specs.Settled.{HasAlias, HasAnswer, IsSettled, IsSettledAs}
-use Rattle.dnsv_verdict.specs.Verdict.{AreUnknown, Basis, HasAnchor, IsVerdictAt, MayBeSettledBy, IsSettledBy}
+use Rattle.dnsv_verdict.specs.Verdict.{AreUnknown, IsVerdictAt, MayBeSettledBy, IsSettledBy}
+use Rattle.dnsv_chain.specs.Basis.{Basis, HasAnchor}
 use Rattle.dnsv_verdict.specs.declared.verdict.Verdict.{Verdict}
 use Rattle.dnsv_verdict.specs.declared.verdict.Verdict.TheVariants.{SecureAnswer, SecureAlias, SecureNoName, SecureNoData, Insecure, Pending, Bogus, Indeterminate}
 

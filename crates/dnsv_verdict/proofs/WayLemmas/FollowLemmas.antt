@@ -15,7 +15,8 @@ use Rattle.dnsv_zones.specs.chains.HashedNames.{hashes_for}
 use Rattle.dnsv_verdict.proofs.HashedLemmas.{hashes_more}
 use Rattle.dnsv_verdict.proofs.WayLemmas.{names_behind, way_more}
 use Rattle.dnsv_verdict.specs.Hashed.{hashes_on}
-use Rattle.dnsv_verdict.specs.Verdict.{Basis, IsVerdictAt, basis_of}
+use Rattle.dnsv_chain.specs.Basis.{Basis, basis_of}
+use Rattle.dnsv_verdict.specs.Verdict.{IsVerdictAt}
 use Rattle.dnsv_verdict.specs.Way.{IsAlias, IsAmong, IsStoppedAt, IsTarget, IsVerdictOf, IsWay, Stops, most_links, names_on}
 use Rattle.dnsv_verdict.specs.declared.error.VerdictError.{VerdictError}
 use Rattle.dnsv_verdict.specs.declared.link.Link.{Link}

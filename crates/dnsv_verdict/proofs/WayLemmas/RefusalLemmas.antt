@@ -6,7 +6,8 @@ use Rattle.dnsv_verdict.proofs.CaseLemmas.{one_verdict}
 use Rattle.dnsv_verdict.proofs.SureLemmas.SomeVerdict.{some_verdict}
 use Rattle.dnsv_verdict.proofs.SureLemmas.{Surely, surely, and_then, by_cases}
 use Rattle.dnsv_verdict.proofs.WayLemmas.{GoesOn, alias_or, empty_way, ends, next, next_is_new, one_alias, one_target, way_more, ways_compared}
-use Rattle.dnsv_verdict.specs.Verdict.{Basis, IsVerdictAt}
+use Rattle.dnsv_chain.specs.Basis.{Basis}
+use Rattle.dnsv_verdict.specs.Verdict.{IsVerdictAt}
 use Rattle.dnsv_verdict.specs.Way.{IsAlias, IsAmong, IsRefusal, IsRefusedFor, IsStoppedAt, IsTarget, IsVerdictOf, IsWay, Stops, most_links, names_on}
 use Rattle.dnsv_verdict.specs.declared.error.VerdictError.{VerdictError}
 use Rattle.dnsv_verdict.specs.declared.error.VerdictError.TheVariants.{OutOfMemory, BadQuestion, AliasLoop, TooManyLinks, AliasTargets}

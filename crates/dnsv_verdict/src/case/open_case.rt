@@ -1,10 +1,9 @@
 //! A case that many questions are asked of.
 ghost use Rattle.std.specs.Prelude.{◌≡◌, ◌⊎◌, [], IfErr, IfOk, IsErrOf, IsFalse, IsTrue, None};
 ghost use Rattle.dnsv_canonical.specs.Rrsets.{IsQuestion};
-ghost use Rattle.dnsv_verdict.specs.Case.{IsCaseOf, basis_by};
+ghost use Rattle.dnsv_chain.specs.Basis.{IsCaseOf, basis_by, Basis};
 ghost use Rattle.dnsv_verdict.specs.Report.{IsKept, IsReport, Refuses, hashes_in};
 ghost use Rattle.dnsv_verdict.specs.Traced.{IsKeptWith, IsTrace, IsWayTo};
-ghost use Rattle.dnsv_verdict.specs.Verdict.{Basis};
 ghost use Rattle.dnsv_verdict.specs.Way.{IsVerdictOf};
 ghost use Rattle.dnsv_verdict.specs.declared.error.VerdictError.{VerdictError};
 
@@ -27,8 +26,8 @@ pub struct OpenCase<'a> {
 }
 
 impl<'a> Model for OpenCase<'a> {
-    ghost use Rattle.dnsv_verdict.specs.Case.{CaseContents};
-    ghost use Rattle.dnsv_verdict.specs.Case.Shared.{IsSharedOf};
+    ghost use Rattle.dnsv_chain.specs.Basis.{CaseContents};
+    ghost use Rattle.dnsv_verdict.specs.Shared.{IsSharedOf};
 
     ghost Value = { CaseContents };
 

@@ -5,8 +5,8 @@ ghost use Rattle.dnsv_records.specs.declared.nsec3.Nsec3Parameters.{Nsec3Paramet
 ghost use Rattle.dnsv_zones.specs.chains.HashedNames.{hashes_for};
 ghost use Rattle.dnsv_canonical.specs.Evidence.{AreParameters, nsec3_rdata};
 ghost use Rattle.dnsv_canonical.specs.Rrsets.{ReceivedRrset};
-ghost use Rattle.dnsv_verdict.specs.Case.{CaseContents};
-ghost use Rattle.dnsv_verdict.specs.Case.Shared.{AreHashedIn, IsSharedOf};
+ghost use Rattle.dnsv_chain.specs.Basis.{CaseContents};
+ghost use Rattle.dnsv_verdict.specs.Shared.{AreHashedIn, IsSharedOf};
 ghost use Rattle.dnsv_verdict.specs.Hope.{IsHopeful};
 ghost use Rattle.dnsv_verdict.specs.Report.{hashed_in};
 

@@ -6,11 +6,10 @@ ghost use Rattle.dnsv_names.specs.Name.{IsName};
 ghost use Rattle.dnsv_records.specs.declared.nsec3.Nsec3Parameters.{Nsec3Parameters};
 ghost use Rattle.dnsv_canonical.specs.Evidence.{AreParameters, nsec3_rdata};
 ghost use Rattle.dnsv_canonical.specs.Rrsets.{IsQuestion};
-ghost use Rattle.dnsv_verdict.specs.Case.{IsCaseOf, basis_by};
-ghost use Rattle.dnsv_verdict.specs.Case.Shared.{IsSharedOf};
+ghost use Rattle.dnsv_chain.specs.Basis.{IsCaseOf, basis_by, Basis};
+ghost use Rattle.dnsv_verdict.specs.Shared.{IsSharedOf};
 ghost use Rattle.dnsv_verdict.specs.Hashed.{IsFewHashedOn, IsNumberHashedOn, hashes_on};
 ghost use Rattle.dnsv_verdict.specs.Traced.{IsBare, IsKeptWith, IsTrace, IsWayTo};
-ghost use Rattle.dnsv_verdict.specs.Verdict.{Basis};
 ghost use Rattle.dnsv_verdict.specs.Way.{names_on};
 ghost use Rattle.dnsv_verdict.specs.declared.error.VerdictError.{VerdictError};
 

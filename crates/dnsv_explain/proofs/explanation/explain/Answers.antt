@@ -1,6 +1,6 @@
 use Rattle.std.proofs.lemmas.Result.{err_from_is_err_and}
 use Rattle.dnsv_verdict.proofs.ReportLemmas.{no_memory, no_question}
-use Rattle.dnsv_verdict.specs.Verdict.{Basis, basis_of}
+use Rattle.dnsv_chain.specs.Basis.{Basis, basis_of}
 use Rattle.dnsv_explain.proofs.explanation.explain.Goals as goal
 
 pub returns-then-not-is_question-clause-refused : goal.returns-then-not-is_question-clause-refused

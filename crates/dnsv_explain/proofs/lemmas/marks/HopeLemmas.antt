@@ -13,7 +13,7 @@ use Rattle.dnsv_verifier.specs.declared.answer.Answer.TheVariants.{Valid, Invali
 use Rattle.dnsv_verifier.specs.declared.entry.Entry.{Entry}
 use Rattle.dnsv_verdict.specs.Hope.{HasHope, IsHope}
 use Rattle.dnsv_verdict.specs.Verdict.{IsSettledAsBy}
-use Rattle.dnsv_verdict.specs.Case.{CaseContents}
+use Rattle.dnsv_chain.specs.Basis.{CaseContents}
 use Rattle.dnsv_verdict.specs.declared.at_name.Hope.{Hope}
 use Rattle.dnsv_verdict.specs.declared.verdict.Verdict.{Verdict}
 use Rattle.dnsv_verdict.specs.declared.verdict.Verdict.TheVariants.{Pending}

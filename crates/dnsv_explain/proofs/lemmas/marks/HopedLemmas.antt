@@ -10,7 +10,8 @@ use Rattle.dnsv_verifier.specs.declared.answer.Answer.TheVariants.{Valid, Invali
 use Rattle.dnsv_verifier.specs.declared.entry.Entry.{Entry}
 use Rattle.dnsv_chain.specs.Trusted.{IsKeyOf}
 use Rattle.dnsv_chain.specs.declared.anchor.Anchor.{Anchor}
-use Rattle.dnsv_verdict.specs.Verdict.{AreUnknown, basis_of}
+use Rattle.dnsv_verdict.specs.Verdict.{AreUnknown}
+use Rattle.dnsv_chain.specs.Basis.{basis_of}
 use Rattle.dnsv_derivations.specs.Explained.{Explained, IsTodo, Setting, setting_in}
 use Rattle.dnsv_explain.specs.Explained.{hoped}
 use Rattle.dnsv_derivations.specs.Following.{EachFollows, Follows, FollowsSigned, FollowsTrusted, IsGoodUnder, IsMatchedBy, IsVouchedBy}

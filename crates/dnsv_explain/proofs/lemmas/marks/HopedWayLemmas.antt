@@ -4,7 +4,7 @@ use Rattle.std.proofs.lemmas.Option.{slice_get_within}
 use Rattle.dnsv_names.specs.Name.{Labels}
 use Rattle.dnsv_verifier.specs.declared.entry.Entry.{Entry}
 use Rattle.dnsv_verdict.proofs.UnknownLemmas.{one_unknown}
-use Rattle.dnsv_verdict.specs.Case.{CaseContents, basis_by}
+use Rattle.dnsv_chain.specs.Basis.{CaseContents, basis_by}
 use Rattle.dnsv_verdict.specs.Hope.{IsHope}
 use Rattle.dnsv_verdict.specs.Verdict.{AreUnknown, IsVerdictAt}
 use Rattle.dnsv_verdict.specs.declared.at_name.Hope.{Hope}

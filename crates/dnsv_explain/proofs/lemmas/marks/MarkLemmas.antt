@@ -18,7 +18,8 @@ use Rattle.dnsv_verdict.proofs.SettledLemmas.{settled_as_to}
 use Rattle.dnsv_verdict.proofs.SettledLemmas.NoLessLemmas.{HoldsCase, no_later, no_worse}
 use Rattle.dnsv_verdict.specs.NoLess.{IsNoLess, case_of}
 use Rattle.dnsv_verdict.specs.Report.{IsReport}
-use Rattle.dnsv_verdict.specs.Verdict.{AreUnknown, Basis, IsSettledAsBy, IsVerdictAt, basis_of, with_meaning}
+use Rattle.dnsv_verdict.specs.Verdict.{AreUnknown, IsSettledAsBy, IsVerdictAt}
+use Rattle.dnsv_chain.specs.Basis.{Basis, basis_of, with_meaning}
 use Rattle.dnsv_verdict.specs.declared.link.Link.{Link}
 use Rattle.dnsv_verdict.specs.declared.report.Report.{Report}
 use Rattle.dnsv_verdict.specs.declared.verdict.Verdict.{Verdict}

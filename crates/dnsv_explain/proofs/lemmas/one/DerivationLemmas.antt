@@ -3,7 +3,7 @@ use Rattle.std.proofs.Common.{◌≡◌, ℕ, List, [], subst}
 use Rattle.dnsv_names.specs.Name.{Labels}
 use Rattle.dnsv_verifier.proofs.TableLemmas.{only_table}
 use Rattle.dnsv_verifier.specs.Table.{TableContents}
-use Rattle.dnsv_verdict.specs.Verdict.{Basis}
+use Rattle.dnsv_chain.specs.Basis.{Basis}
 use Rattle.dnsv_verdict.specs.Way.{IsVerdictOf}
 use Rattle.dnsv_verdict.specs.declared.link.Link.{Link}
 use Rattle.dnsv_verdict.specs.declared.verdict.Verdict.{Verdict}

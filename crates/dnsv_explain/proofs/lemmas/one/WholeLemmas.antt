@@ -27,7 +27,8 @@ use Rattle.dnsv_verdict.proofs.SearchLemmas.FirstSuchLemmas.{one_first_such}
 use Rattle.dnsv_verdict.specs.Insecure.{IsOptOutWildcardSet}
 use Rattle.dnsv_verdict.specs.Way.{IsVerdictOf}
 use Rattle.dnsv_verdict.specs.Secure.{IsFirstSuch}
-use Rattle.dnsv_verdict.specs.Verdict.{Basis, IsVerdictAt}
+use Rattle.dnsv_chain.specs.Basis.{Basis}
+use Rattle.dnsv_verdict.specs.Verdict.{IsVerdictAt}
 use Rattle.dnsv_verdict.specs.declared.link.Link.{Link}
 use Rattle.dnsv_verdict.specs.declared.report.Report.{Report}
 use Rattle.dnsv_verdict.specs.declared.verdict.Verdict.{Verdict}

@@ -14,7 +14,8 @@ use Rattle.dnsv_chain.specs.declared.anchor.Anchor.{Anchor}
 use Rattle.dnsv_verdict.proofs.SettledLemmas.NoLessLemmas.{HoldsCase, no_later}
 use Rattle.dnsv_verdict.specs.NoLess.{case_of}
 use Rattle.dnsv_verdict.specs.Settled.{IsSettledAs}
-use Rattle.dnsv_verdict.specs.Verdict.{IsSettledAsBy, IsSettledVerdict, IsVerdictAt, basis_of}
+use Rattle.dnsv_verdict.specs.Verdict.{IsSettledAsBy, IsSettledVerdict, IsVerdictAt}
+use Rattle.dnsv_chain.specs.Basis.{basis_of}
 use Rattle.dnsv_verdict.specs.Way.{LeadTo}
 use Rattle.dnsv_verdict.specs.declared.link.Link.{Link}
 use Rattle.dnsv_verdict.specs.declared.verdict.Verdict.{Verdict}

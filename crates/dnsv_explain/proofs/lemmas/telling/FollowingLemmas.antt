@@ -8,8 +8,8 @@ use Rattle.dnsv_canonical.specs.Rrsets.{IsNumbered, ReceivedRrset}
 use Rattle.dnsv_chain.specs.Trusted.{IsSecured, IsTrusted}
 use Rattle.dnsv_verifier.specs.Admissible.{DnskeyRecord}
 use Rattle.dnsv_denial.specs.words.EvidenceWords.{Chain, evidence_said}
-use Rattle.dnsv_verdict.proofs.FormLemmas.{SaysNoLess, cut_to, opts_out_to}
-use Rattle.dnsv_verdict.proofs.SettledLemmas.EvidenceLemmas.{chain_to}
+use Rattle.dnsv_denial.proofs.lemmas.more.FormLemmas.{SaysNoLess, cut_to, opts_out_to}
+use Rattle.dnsv_denial.proofs.lemmas.more.EvidenceLemmas.{chain_to}
 use Rattle.dnsv_derivations.specs.Explained.{Setting}
 use Rattle.dnsv_derivations.specs.Following.{EachFollows, Follows, FollowsTrusted, IsMatchedBy, IsSaidSigned, IsSignatureSaid}
 use Rattle.dnsv_derivations.specs.Following.Cases.{IsCaseBy, IsCaseOf}

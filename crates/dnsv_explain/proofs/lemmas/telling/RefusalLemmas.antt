@@ -4,11 +4,9 @@ use Rattle.dnsv_names.specs.Name.{Labels}
 use Rattle.dnsv_canonical.specs.Rrsets.{ReceivedRrset}
 use Rattle.dnsv_chain.specs.declared.anchor.Anchor.{Anchor}
 use Rattle.dnsv_verdict.proofs.ReportLemmas.{no_error}
-use Rattle.dnsv_verdict.specs.Case.{IsCaseOf}
+use Rattle.dnsv_chain.specs.Basis.{IsCaseOf, Basis, CaseContents}
 use Rattle.dnsv_verdict.specs.Report.{Refuses}
-use Rattle.dnsv_verdict.specs.Verdict.{Basis}
 use Rattle.dnsv_verdict.specs.declared.error.VerdictError.TheVariants.{BadQuestion, OutOfMemory}
-use Rattle.dnsv_verdict.specs.Case.{CaseContents}
 use Rattle.dnsv_verdict.specs.declared.report.Report.{Report}
 use Rattle.dnsv_explain.specs.Explained.{explained_by}
 use Rattle.dnsv_explain.specs.Explanation.{IsExplanation, IsExplanationOf}

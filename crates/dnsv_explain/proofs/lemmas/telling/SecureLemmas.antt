@@ -13,12 +13,11 @@ use Rattle.dnsv_denial.specs.proving.FirstProof.{CanProveNoCloser, CanProveNoDat
 use Rattle.dnsv_denial.specs.unsigned_cuts.Cuts.{HasUnsignedCut, IsUnsignedCut}
 use Rattle.dnsv_verdict.proofs.OneProof.{can_be, cut_stands}
 use Rattle.dnsv_verifier.specs.declared.entry.Entry.{Entry}
-use Rattle.dnsv_verdict.specs.Case.{basis_by}
+use Rattle.dnsv_chain.specs.Basis.{basis_by, Basis, CaseContents}
 use Rattle.dnsv_verdict.specs.Insecure.{IsOptOutWildcardCut, IsUnsigned, IsUnsignedFrom}
 use Rattle.dnsv_verdict.specs.Secure.{HoldsForName, IsSecureSet}
-use Rattle.dnsv_verdict.specs.Verdict.{Basis, IsSettledAsBy, IsSettledVerdict, IsVerdictAt}
+use Rattle.dnsv_verdict.specs.Verdict.{IsSettledAsBy, IsSettledVerdict, IsVerdictAt}
 use Rattle.dnsv_verdict.specs.Way.{LeadTo}
-use Rattle.dnsv_verdict.specs.Case.{CaseContents}
 use Rattle.dnsv_verdict.specs.declared.link.Link.{Link}
 use Rattle.dnsv_verdict.specs.declared.verdict.Verdict.{Verdict}
 use Rattle.dnsv_verdict.specs.declared.verdict.Verdict.TheVariants.{SecureAnswer, SecureAlias, SecureNoName, SecureNoData, Pending, Bogus, Indeterminate}

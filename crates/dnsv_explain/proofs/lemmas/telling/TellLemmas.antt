@@ -17,13 +17,12 @@ use Rattle.dnsv_denial.specs.declared.proving.shown_denial.ShownDenial.{ShownDen
 use Rattle.dnsv_denial.specs.declared.unsigned_cuts.shown_cut.ShownCut.{ShownCut}
 use Rattle.dnsv_verifier.specs.declared.entry.Entry.{Entry}
 use Rattle.dnsv_verdict.proofs.SettledLemmas.{unsigned_to}
-use Rattle.dnsv_verdict.proofs.SettledLemmas.EvidenceLemmas.{no_closer_can_to, no_data_can_to, no_name_can_to}
-use Rattle.dnsv_verdict.specs.Case.{HasTrust}
+use Rattle.dnsv_denial.proofs.lemmas.more.EvidenceLemmas.{no_closer_can_to, no_data_can_to, no_name_can_to}
+use Rattle.dnsv_chain.specs.Basis.{HasTrust, CaseContents}
 use Rattle.dnsv_verdict.specs.Insecure.{IsOptOutWildcardSet, IsUnsigned}
 use Rattle.dnsv_verdict.specs.Report.{hashed_in}
 use Rattle.dnsv_verdict.specs.Secure.{IsFirstSuch}
 use Rattle.dnsv_verdict.specs.Way.{names_on}
-use Rattle.dnsv_verdict.specs.Case.{CaseContents}
 use Rattle.dnsv_verdict.specs.declared.link.Link.{Link}
 use Rattle.dnsv_derivations.specs.Denials.{IsDenialTold, IsShownDenial}
 use Rattle.dnsv_derivations.specs.Denials.IsShownBy.{no_name, no_data, no_closer, closer_opted_out}

@@ -12,7 +12,7 @@ use Rattle.dnsv_canonical.proofs.OrderLemmas.{each_of, zip_at}
 use Rattle.dnsv_canonical.specs.declared.number.SignatureNumber.{SignatureNumber}
 use Rattle.dnsv_chain.specs.Trusted.{IsKeyOf, IsSecured}
 use Rattle.dnsv_chain.proofs.TrustedLemmas.{trusted_rtype}
-use Rattle.dnsv_verdict.specs.Verdict.{Basis}
+use Rattle.dnsv_chain.specs.Basis.{Basis}
 use Rattle.dnsv_verifier.specs.Admissible.{DnskeyRecord, IsGood}
 use Rattle.dnsv_mending.specs.Faults.{answer_lines, fault_lines, signature_lines, when}
 use Rattle.dnsv_mending.specs.Mend.{is_none}

@@ -15,7 +15,7 @@ use Rattle.dnsv_canonical.specs.Rrsets.{IsNumbered, ReceivedRrset}
 use Rattle.dnsv_canonical.proofs.OrderLemmas.{each_member, each_of, zip_from}
 use Rattle.dnsv_chain.specs.Anchor.{HasAnchorMatch}
 use Rattle.dnsv_chain.specs.Trusted.{IsKeyOf, IsTrusted, SignsItsSet, anchored, delegated}
-use Rattle.dnsv_verdict.specs.Verdict.{Basis}
+use Rattle.dnsv_chain.specs.Basis.{Basis}
 use Rattle.dnsv_verifier.proofs.NumberLemmas.{contains_from_map}
 use Rattle.dnsv_verifier.specs.Admissible.{DnskeyRecord, IsGood}
 use Rattle.dnsv_verifier.specs.Asking.{GivesEach}

@@ -14,7 +14,7 @@ use Rattle.dnsv_canonical.specs.Rrsets.{IsNumbered, ReceivedRrset}
 use Rattle.dnsv_canonical.proofs.LawLemmas.{first_appearances_members, first_appearances_once}
 use Rattle.dnsv_canonical.proofs.OrderLemmas.{each_of}
 use Rattle.dnsv_chain.specs.Trusted.{IsKeyOf}
-use Rattle.dnsv_verdict.proofs.SearchLemmas.{numbers_are}
+use Rattle.dnsv_chain.proofs.NumberedLemmas.{numbers_are}
 use Rattle.dnsv_verifier.specs.Admissible.{DnskeyRecord}
 use Rattle.dnsv_zone_keys.specs.Keys.{AreStanding, AreZoneKeys, IsKeyPlaced}
 use Rattle.dnsv_zone_keys.specs.Keys.Index.{Placed}

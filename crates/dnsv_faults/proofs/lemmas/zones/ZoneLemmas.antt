@@ -8,7 +8,7 @@ use Rattle.dnsv_canonical.specs.Rrsets.{IsNumbered, ReceivedRrset}
 use Rattle.dnsv_canonical.proofs.OrderLemmas.{each_of, zip_at, zip_from}
 use Rattle.dnsv_chain.specs.Trusted.{IsTrusted}
 use Rattle.dnsv_chain.proofs.TrustedLemmas.{trusted_among, trusted_rtype}
-use Rattle.dnsv_verdict.specs.Verdict.{Basis}
+use Rattle.dnsv_chain.specs.Basis.{Basis}
 use Rattle.dnsv_canonical.proofs.NumberLemmas.{each_number, IsOneAt, one_numbered}
 use Rattle.dnsv_verifier.specs.Admissible.{DnskeyRecord}
 use Rattle.dnsv_mending.specs.declared.facts.keys.DnskeyFacts.{DnskeyFacts}

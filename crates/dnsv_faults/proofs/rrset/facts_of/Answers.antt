@@ -2,7 +2,7 @@ use Rattle.std.proofs.Common.{List, subst, refl}
 use Rattle.std.specs.List.{AllZip}
 use Rattle.dnsv_mending.specs.declared.facts.signature.RrsetFacts.{RrsetFacts}
 use Rattle.dnsv_mending.specs.declared.facts.signature.SignatureFacts.{SignatureFacts}
-use Rattle.dnsv_verdict.specs.Case.{basis_by}
+use Rattle.dnsv_chain.specs.Basis.{basis_by}
 use Rattle.dnsv_faults.specs.Signatures.{AreSignatureFacts}
 use Rattle.dnsv_faults.specs.declared.rrset.NumberedSignature.{NumberedSignature}
 use Rattle.dnsv_faults.proofs.lemmas.OrderLemmas.{rrset_has}

@@ -2,7 +2,7 @@ use Rattle.std.proofs.Common.{List, take, subst, sym, ◌+◌}
 use Rattle.std.specs.List.{AllZip}
 use Rattle.dnsv_chain.proofs.ZipLemmas.{zip_more}
 use Rattle.dnsv_mending.specs.declared.facts.signature.SignatureFacts.{SignatureFacts}
-use Rattle.dnsv_verdict.specs.Case.{basis_by}
+use Rattle.dnsv_chain.specs.Basis.{basis_by}
 use Rattle.dnsv_faults.specs.Signatures.{AreSignatureFacts}
 use Rattle.dnsv_faults.specs.declared.rrset.NumberedSignature.{NumberedSignature}
 use Rattle.dnsv_faults.proofs.rrset.facts_of_each.Goals as goal

@@ -1,6 +1,6 @@
 use Rattle.std.proofs.Common.{ℕ, List, sym, ap, ◌∙◌, subst, arith}
 use Rattle.dnsv_names.specs.Name.{Labels}
-use Rattle.dnsv_verdict.specs.Case.{CaseContents, basis_by}
+use Rattle.dnsv_chain.specs.Basis.{CaseContents, basis_by}
 use Rattle.dnsv_faults.specs.Dnskeys.{AreAllDnskeyFacts}
 use Rattle.dnsv_mending.specs.declared.facts.keys.DnskeyFacts.{DnskeyFacts}
 use Rattle.dnsv_zone_keys.specs.Keys.{AreZoneKeys}

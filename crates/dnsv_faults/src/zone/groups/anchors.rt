@@ -2,7 +2,7 @@
 ghost use Rattle.std.specs.Prelude.{◌≡◌, ◌↔◌, IfOk, IsTrue, OnOk};
 ghost use Rattle.dnsv_names.specs.Name.{SameName};
 ghost use Rattle.dnsv_chain.specs.Anchor.{anchor_owner};
-ghost use Rattle.dnsv_verdict.specs.Case.{basis_by};
+ghost use Rattle.dnsv_chain.specs.Basis.{basis_by};
 ghost use Rattle.dnsv_faults.specs.Groups.{AreAnchorFacts, anchor_wanted};
 ghost use Rattle.dnsv_faults.specs.Groups.GroupSearch.{AddsAnchor};
 ghost use Rattle.dnsv_zone_keys.specs.Vouchers.{wanted_key};

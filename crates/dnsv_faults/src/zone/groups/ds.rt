@@ -2,7 +2,7 @@
 ghost use Rattle.std.specs.Prelude.{◌≡◌, ◌↔◌, IfOk, IsTrue, List, OnOk};
 ghost use Rattle.dnsv_chain.specs.Ds.{IsIgnored};
 ghost use Rattle.dnsv_records.specs.declared.ds.Ds.{Ds};
-ghost use Rattle.dnsv_verdict.specs.Case.{basis_by};
+ghost use Rattle.dnsv_chain.specs.Basis.{basis_by};
 ghost use Rattle.dnsv_faults.specs.Groups.{AreAllDsFacts};
 ghost use Rattle.dnsv_faults.specs.Groups.GroupSearch.{AddsDs, AreIgnoredTypes, AreRecordsKnown, HasStronger, IsDsNumber};
 ghost use Rattle.dnsv_zone_keys.specs.Vouchers.VoucherSearch.{AreKeysOfZone};

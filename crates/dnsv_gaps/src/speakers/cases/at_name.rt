@@ -5,7 +5,7 @@ ghost use Rattle.std.specs.List.{AllByRecursion, AllZip};
 ghost use Rattle.dnsv_denial.specs.proving.Numbers.{record_count};
 ghost use Rattle.dnsv_gaps.specs.CaseSearch.{IsHeldBy};
 ghost use Rattle.dnsv_denial.specs.words.Asked.{IsWithin, asked_name};
-ghost use Rattle.dnsv_verdict.specs.Case.{basis_by};
+ghost use Rattle.dnsv_chain.specs.Basis.{basis_by};
 ghost use Rattle.dnsv_zones.specs.chains.NsecChain.{IsInBitmap};
 ghost use Rattle.dnsv_gaps.specs.Cases.{AreHeld, AreRecordsAt, IsHeld, why_held};
 ghost use Rattle.dnsv_gaps.specs.SourceSearch.{IsSourceIn, said_in};

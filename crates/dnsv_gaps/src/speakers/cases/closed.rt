@@ -1,6 +1,6 @@
 //! The first closed record above the name: one of a delegation or of a DNAME.
 ghost use Rattle.std.specs.Prelude.{◌≡◌, ◌<◌, ◌∷◌, [], ℕ, IfOk, List, MatchOption, length};
-ghost use Rattle.dnsv_verdict.specs.Case.{basis_by};
+ghost use Rattle.dnsv_chain.specs.Basis.{basis_by};
 ghost use Rattle.dnsv_denial.specs.proving.Numbers.{record_count};
 ghost use Rattle.dnsv_gaps.specs.CaseSearch.{AreClosedFactsAt, AreFactsAtPlace, HasNoneClosedAt};
 ghost use Rattle.dnsv_gaps.specs.Cases.{AreClosedFacts, HasNoneClosed};

@@ -2,7 +2,7 @@
 ghost use Rattle.std.specs.Prelude.{◌↔◌, ◌+◌, ◌<◌, ◌≤◌, IfOk, IsTrue, MatchOption, length};
 ghost use Rattle.dnsv_names.specs.Name.{rightmost};
 ghost use Rattle.dnsv_names.specs.Tree.{wildcard_of};
-ghost use Rattle.dnsv_verdict.specs.Case.{basis_by};
+ghost use Rattle.dnsv_chain.specs.Basis.{basis_by};
 ghost use Rattle.dnsv_gaps.specs.Cases.{AreShowing, AreWildcardFacts, HasNoneShown, IsBestCover, IsOptedOut, IsLongestShown, IsNotThere, IsShown, IsSourceCase};
 ghost use Rattle.dnsv_gaps.specs.Parts.{AreFactsOf};
 ghost use Rattle.dnsv_gaps.specs.SourceSearch.{IsSourceIn, said_in, zone_in};

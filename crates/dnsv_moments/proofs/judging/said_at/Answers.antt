@@ -1,6 +1,5 @@
 use Rattle.std.proofs.Common.{ap, sym, ◌∙◌}
-use Rattle.dnsv_verdict.specs.Case.{CaseContents}
-use Rattle.dnsv_verdict.specs.Verdict.{basis_of}
+use Rattle.dnsv_chain.specs.Basis.{CaseContents, basis_of}
 use Rattle.dnsv_moments.proofs.judging.said_at.Goals as goal
 
 pub returns-clause-said : goal.returns-clause-said

@@ -1,5 +1,4 @@
 use Rattle.std.proofs.Common.{List, subst}
-use Rattle.dnsv_verdict.specs.Case.{CaseContents}
 use Rattle.dnsv_gaps.specs.Asking.{asking_of}
 use Rattle.dnsv_remedies.specs.declared.said.Said.{Said}
 use Rattle.dnsv_reasons.specs.Lines.{AreSaidLines}
@@ -11,6 +10,5 @@ returns c =
     let Of : List Said → Type 0 = λ told. AreSaidLines (asking_of c.args.facts.now c.args.name.now c.args.rtype.0) told lines in record {
       told = c.in_ok-told.told.items;
       are_told = c.in_ok-told.ensures;
-      said = subst (λ (case : CaseContents). AreSaidLines (asking_of case c.args.name.now c.args.rtype.0) c.in_ok-told.told.items lines)
-          c.requires.facts (subst Of c.deref-2.ensures.value c.in_ok-lines.ensures);
+      said = subst Of c.deref-2.ensures.value c.in_ok-lines.ensures;
     }

@@ -1,6 +1,4 @@
-use Rattle.std.proofs.Common.{List, map, ap, subst, ◌∙◌}
-use Rattle.dnsv_verdict.specs.Case.{CaseContents, basis_by}
-use Rattle.dnsv_faults.specs.Zones.{AreZoneFacts}
+use Rattle.std.proofs.Common.{List, map, ap, ◌∙◌}
 use Rattle.dnsv_mending.specs.Level.{Leveled, seen_level}
 use Rattle.dnsv_mending.specs.Zone.{levels_of}
 use Rattle.dnsv_mending.specs.declared.facts.zone.ZoneFacts.{ZoneFacts}
@@ -13,8 +11,7 @@ returns c =
     let zones = c.in_ok-zones.zones.items in
     let question = c.in_ok-question.question in record {
       zones = zones;
-      of_zones = subst (λ (case : CaseContents). AreZoneFacts (basis_by case) c.args.name.now c.args.rtype.0 zones) c.requires.facts
-          c.in_ok-zones.ensures;
+      of_zones = c.in_ok-zones.ensures;
       question = question;
       of_question = c.in_ok-question.ensures;
       are = c.in_ok-lines.ensures

@@ -29,7 +29,7 @@ use Rattle.dnsv_remedies.specs.declared.facts.name.AskedName.TheVariants as name
 use Rattle.dnsv_remedies.specs.declared.facts.name.SourceNumber.{SourceNumber}
 use Rattle.dnsv_remedies.specs.declared.said.Said.{Said}
 use Rattle.dnsv_remedies.specs.declared.said.Said.TheVariants as said
-use Rattle.dnsv_verdict.specs.Verdict.{Basis}
+use Rattle.dnsv_chain.specs.Basis.{Basis}
 use Rattle.dnsv_true_reasons.specs.truth.Question.{IsProvingCut}
 use Rattle.dnsv_true_reasons.specs.truth.Reasons.{IsReasonTrue}
 use Rattle.dnsv_true_reasons.specs.truth.Sources.{HasNoneOpenAt, IsCutName, IsSourceTrue}

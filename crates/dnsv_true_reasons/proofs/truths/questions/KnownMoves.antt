@@ -9,7 +9,7 @@ use Rattle.dnsv_names.specs.Name.{Labels, SameName}
 use Rattle.dnsv_names.specs.Tree.TreeLaws.{at_or_below_respects, below_respects}
 use Rattle.dnsv_canonical.proofs.OrderLemmas.{each_of}
 use Rattle.dnsv_faults.specs.KnownZones.{HasOwnAnchor, HasRrset, IsKnownZone, IsSpeaker}
-use Rattle.dnsv_verdict.specs.Verdict.{Basis}
+use Rattle.dnsv_chain.specs.Basis.{Basis}
 
 pub known_moves : (basis : Basis) (name : Labels) (t : ℕ) (x y : Labels) → SameName x y → IsKnownZone basis name t x
     → IsKnownZone basis name t y

@@ -19,7 +19,7 @@ use Rattle.dnsv_gaps.specs.Cases.IsHeld.{alias as by_alias, apex as by_apex, ask
 use Rattle.dnsv_gaps.specs.Parts.{AreFactsOf}
 use Rattle.dnsv_gaps.specs.Sources.{source_said}
 use Rattle.dnsv_mending.specs.declared.facts.signature.RrsetFacts.{RrsetFacts}
-use Rattle.dnsv_verdict.specs.Verdict.{Basis}
+use Rattle.dnsv_chain.specs.Basis.{Basis}
 use Rattle.dnsv_true_reasons.specs.truth.Sources.{HasNoneOpenAt}
 use Rattle.dnsv_true_reasons.proofs.truths.zones.RrsetTruth.{nothing_in}
 

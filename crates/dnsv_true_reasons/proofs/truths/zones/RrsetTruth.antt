@@ -23,7 +23,7 @@ use Rattle.dnsv_mending.specs.declared.facts.signature.RrsetFacts.{RrsetFacts}
 use Rattle.dnsv_mending.specs.declared.facts.signature.SignatureFacts.{SignatureFacts}
 use Rattle.dnsv_mending.specs.declared.facts.zone.ZoneFacts.{ZoneFacts}
 use Rattle.dnsv_mending.specs.declared.told.Told.{Told}
-use Rattle.dnsv_verdict.specs.Verdict.{Basis}
+use Rattle.dnsv_chain.specs.Basis.{Basis}
 use Rattle.dnsv_true_reasons.proofs.truths.zones.SignatureTruth.{signature_true}
 use Rattle.dnsv_true_reasons.proofs.truths.ways.Told.{IsOfRrset, IsOfSignature}
 use Rattle.dnsv_true_reasons.proofs.truths.ways.Told.IsOfRrset.{by_signature, unsigned}

@@ -36,7 +36,7 @@ use Rattle.dnsv_mending.specs.declared.told.Told.{Told}
 use Rattle.dnsv_mending.specs.declared.told.Told.TheVariants as told
 use Rattle.dnsv_mending.proofs.AllWays.{all_append}
 use Rattle.dnsv_mending.proofs.SomeWays.{passing}
-use Rattle.dnsv_verdict.specs.Verdict.{Basis}
+use Rattle.dnsv_chain.specs.Basis.{Basis}
 use Rattle.dnsv_verifier.specs.declared.answer.Answer.TheVariants.{Valid, Invalid, Unknown}
 use Rattle.dnsv_true_reasons.specs.Ends.{IsTrustedZone}
 use Rattle.dnsv_true_reasons.specs.truth.Signatures.{IsSignatureTrue}

@@ -16,7 +16,7 @@ use Rattle.dnsv_lines.specs.declared.line.fault.zone.WhyEntry.{WhyEntry}
 use Rattle.dnsv_mending.specs.declared.told.Told.{Told}
 use Rattle.dnsv_mending.specs.declared.told.Told.TheVariants as told
 use Rattle.dnsv_reasons.specs.Places.{IsPlaced}
-use Rattle.dnsv_verdict.specs.Verdict.{Basis}
+use Rattle.dnsv_chain.specs.Basis.{Basis}
 use Rattle.dnsv_verifier.specs.Admissible.{DnskeyRecord, IsSignatureOf}
 use Rattle.dnsv_true_reasons.specs.truth.Entries.{IsVoucherOf}
 use Rattle.dnsv_true_reasons.specs.truth.Keys.{IsWithoutVoucher}

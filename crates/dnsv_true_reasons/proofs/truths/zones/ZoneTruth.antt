@@ -44,8 +44,8 @@ use Rattle.dnsv_mending.specs.declared.facts.zone.DsFacts.{DsFacts}
 use Rattle.dnsv_mending.specs.declared.facts.zone.ZoneFacts.{ZoneFacts}
 use Rattle.dnsv_mending.specs.declared.told.Told.{Told}
 use Rattle.dnsv_mending.proofs.Reasons.{both_true}
-use Rattle.dnsv_verdict.specs.Verdict.{Basis}
-use Rattle.dnsv_verdict.proofs.SearchLemmas.{numbers_are}
+use Rattle.dnsv_chain.specs.Basis.{Basis}
+use Rattle.dnsv_chain.proofs.NumberedLemmas.{numbers_are}
 use Rattle.dnsv_verifier.specs.Admissible.{DnskeyRecord}
 use Rattle.dnsv_true_reasons.specs.truth.Entries.{Fits, IsVoucherOf}
 use Rattle.dnsv_true_reasons.proofs.truths.zones.KeyTruth.{key_true, numbered_next}

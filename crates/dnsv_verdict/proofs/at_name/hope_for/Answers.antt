@@ -11,9 +11,8 @@ use Rattle.dnsv_verdict.proofs.OfCase.{trust_alike}
 use Rattle.dnsv_verdict.proofs.SettledLemmas.PendingLemmas.{nothing_to_hope}
 use Rattle.dnsv_verdict.proofs.TrustLemmas.{settled_as_by_trust, settled_by_trust, settled_from_trust}
 use Rattle.dnsv_verdict.proofs.UnknownLemmas.{hoped_table, none_unknown}
-use Rattle.dnsv_verdict.specs.Case.{CaseContents}
+use Rattle.dnsv_chain.specs.Basis.{CaseContents, Basis, basis_of}
 use Rattle.dnsv_verdict.specs.Settled.{IsSettled, IsSettledAs}
-use Rattle.dnsv_verdict.specs.Verdict.{Basis, basis_of}
 use Rattle.dnsv_verdict.proofs.at_name.hope_for.Goals as goal
 
 pub settled_on-requires-clause-rrsets : goal.settled_on-requires-clause-rrsets

@@ -6,7 +6,7 @@ use Rattle.dnsv_chain.specs.Trust.{SecuredIn}
 use Rattle.dnsv_verdict.proofs.TrailLemmas.{settled_without_hope}
 use Rattle.dnsv_verdict.proofs.TrustLemmas.{settled_as_by_trust, settled_is_verdict, unsettled_on}
 use Rattle.dnsv_verdict.proofs.UnknownLemmas.{table_unknown}
-use Rattle.dnsv_verdict.specs.Verdict.{Basis, HasAnchor, basis_of}
+use Rattle.dnsv_chain.specs.Basis.{Basis, HasAnchor, basis_of}
 use Rattle.dnsv_verdict.proofs.at_name.verdict_by.Goals as goal
 
 pub returns-in-Some-clause-value : goal.returns-in-Some-clause-value

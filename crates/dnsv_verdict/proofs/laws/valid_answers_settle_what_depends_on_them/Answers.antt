@@ -1,5 +1,5 @@
 use Rattle.dnsv_verdict.proofs.SettledLemmas.PendingLemmas.{hopes_settle, nothing_to_hope, settled_is_conclusive}
-use Rattle.dnsv_verdict.specs.Verdict.{with_meaning}
+use Rattle.dnsv_chain.specs.Basis.{with_meaning}
 use Rattle.dnsv_verdict.proofs.laws.valid_answers_settle_what_depends_on_them.Goals as goal
 
 pub returns-clause-settles : goal.returns-clause-settles

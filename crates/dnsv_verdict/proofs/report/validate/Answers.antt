@@ -2,7 +2,7 @@
 use Rattle.std.proofs.Common.{inl, inr, refl}
 use Rattle.std.proofs.lemmas.Result.{err_from_is_err_and}
 use Rattle.dnsv_verdict.proofs.ReportLemmas.{either_alike, no_error, no_question}
-use Rattle.dnsv_verdict.specs.Verdict.{Basis, basis_of}
+use Rattle.dnsv_chain.specs.Basis.{Basis, basis_of}
 use Rattle.dnsv_verdict.proofs.report.validate.Goals as goal
 
 pub returns-clause-verdict : goal.returns-clause-verdict

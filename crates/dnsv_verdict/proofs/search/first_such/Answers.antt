@@ -3,7 +3,8 @@ use Rattle.std.proofs.Common.{◌-◌, ap, arith, get_or, length, subst, sym}
 use Rattle.std.proofs.lemmas.Option.{slice_get-get_or, slice_get_within}
 use Rattle.dnsv_canonical.specs.Rrsets.{IsNumbered}
 use Rattle.dnsv_verdict.specs.Search.{IsFirstFound, IsFound}
-use Rattle.dnsv_verdict.proofs.SearchLemmas.{first_such_found, none_found_at, none_with, numbers_are, one_at}
+use Rattle.dnsv_verdict.proofs.SearchLemmas.{first_such_found, none_found_at, none_with}
+use Rattle.dnsv_chain.proofs.NumberedLemmas.{numbers_are, one_at}
 use Rattle.dnsv_verdict.proofs.search.first_such.Goals as goal
 
 pub rrset_at-rrset-requires-clause-some : goal.rrset_at-rrset-requires-clause-some

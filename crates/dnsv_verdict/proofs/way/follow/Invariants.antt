@@ -2,7 +2,7 @@
 use Rattle.std.proofs.Common.{◌-◌, length, map}
 use Rattle.dnsv_verdict.proofs.WayLemmas.FollowLemmas.{IsFollowed}
 use Rattle.dnsv_verdict.proofs.TrailLemmas.{IsTrailOf}
-use Rattle.dnsv_verdict.specs.Case.Shared.{IsSharedOf}
+use Rattle.dnsv_verdict.specs.Shared.{IsSharedOf}
 use Rattle.dnsv_verdict.proofs.way.follow.Given as goal
 
 abbrev pub invariant-links : goal.invariant-links

@@ -1,6 +1,6 @@
 use Rattle.std.proofs.Common.{◌≡◌, ◌∙◌, [], List, inl, refl, subst, sym}
 use Rattle.std.proofs.lemmas.Result.{err_from_is_err_and}
-use Rattle.dnsv_verdict.specs.Case.{CaseContents, IsCaseOf, basis_by}
+use Rattle.dnsv_chain.specs.Basis.{CaseContents, IsCaseOf, basis_by}
 use Rattle.dnsv_verdict.specs.Traced.{IsKeptWith, IsTrace, IsWayTo}
 use Rattle.dnsv_verdict.specs.declared.error.VerdictError.TheVariants.{BadQuestion}
 use Rattle.dnsv_verdict.specs.declared.traced.Traced.{Traced}

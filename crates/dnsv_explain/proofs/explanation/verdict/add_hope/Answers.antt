@@ -1,6 +1,6 @@
 use Rattle.std.proofs.Common.{◌∙◌, List, ap, subst, sym}
 use Rattle.dnsv_canonical.specs.Rrsets.{ReceivedRrset}
-use Rattle.dnsv_verdict.specs.Case.{CaseContents, HasTrust, basis_by}
+use Rattle.dnsv_chain.specs.Basis.{CaseContents, HasTrust, basis_by}
 use Rattle.dnsv_verdict.specs.Report.{hashed_in}
 use Rattle.dnsv_explain.proofs.lemmas.marks.HopeLemmas.{hope_settled, hope_told}
 use Rattle.dnsv_explain.proofs.lemmas.marks.HopedWayLemmas.{hope_by_ways}

@@ -1,5 +1,5 @@
 use Rattle.std.proofs.Common.{Bool, List, subst, sym, ◌+◌}
-use Rattle.dnsv_verdict.specs.Case.{basis_by}
+use Rattle.dnsv_chain.specs.Basis.{basis_by}
 use Rattle.dnsv_faults.specs.KnownZones.KnownSearch.{AreKnownTo}
 use Rattle.dnsv_faults.proofs.lemmas.KnownLemmas.{more_known}
 use Rattle.dnsv_faults.proofs.case_facts.CaseFacts.known_zones.Goals as goal

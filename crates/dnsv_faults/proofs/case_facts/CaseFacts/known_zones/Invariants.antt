@@ -1,4 +1,4 @@
-use Rattle.dnsv_verdict.specs.Case.{basis_by}
+use Rattle.dnsv_chain.specs.Basis.{basis_by}
 use Rattle.dnsv_faults.specs.KnownZones.KnownSearch.{AreKnownTo}
 use Rattle.dnsv_faults.proofs.case_facts.CaseFacts.known_zones.Given as goal
 

@@ -1,7 +1,7 @@
 use Rattle.std.proofs.Common.{◌↔◌, ◌≤◌, ℕ, Bool, false, List, IsTrue, get_or, length, sym, ap, ◌+◌, ◌∙◌, subst, arith}
 use Rattle.dnsv_names.specs.Name.{Labels, rightmost}
 use Rattle.dnsv_mending.specs.declared.facts.zone.ZoneFacts.{ZoneFacts}
-use Rattle.dnsv_verdict.specs.Case.{basis_by}
+use Rattle.dnsv_chain.specs.Basis.{basis_by}
 use Rattle.dnsv_faults.specs.KnownZones.{IsKnownZone}
 use Rattle.dnsv_faults.specs.Zones.{AreFactsOfZone}
 use Rattle.dnsv_faults.proofs.lemmas.zones.ZoneLemmas.{AreZonesTo, all_zones, more_zones, no_zones}

@@ -1,6 +1,6 @@
 use Rattle.std.proofs.Common.{List, refl, subst}
 use Rattle.dnsv_canonical.specs.Rrsets.{ReceivedRrset}
-use Rattle.dnsv_verdict.specs.Case.{basis_by}
+use Rattle.dnsv_chain.specs.Basis.{basis_by}
 use Rattle.dnsv_zone_keys.specs.Keys.ZoneSearch.{AreKeysOf}
 use Rattle.dnsv_faults.proofs.lemmas.zones.KeyedLemmas.{keyed_is}
 use Rattle.dnsv_faults.proofs.lemmas.zones.TrustLemmas.{are_vouched}

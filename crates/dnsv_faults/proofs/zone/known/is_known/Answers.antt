@@ -1,7 +1,7 @@
 use Rattle.std.proofs.Common.{refl, inl, inr, subst, sym, ◌∙◌}
 use Rattle.std.proofs.lemmas.Bool.{false≢true}
 use Rattle.dnsv_names.specs.Name.{Labels}
-use Rattle.dnsv_verdict.specs.Case.{basis_by}
+use Rattle.dnsv_chain.specs.Basis.{basis_by}
 use Rattle.dnsv_faults.specs.KnownZones.{HasOwnAnchor, HasRrset}
 use Rattle.dnsv_faults.proofs.lemmas.KnownLemmas.{is_known, known_speaker, properly_known}
 use Rattle.dnsv_faults.proofs.zone.known.is_known.Goals as goal

@@ -2,7 +2,7 @@ use Rattle.std.proofs.Common.{List, arith, subst, sym, ◌+◌}
 use Rattle.dnsv_canonical.specs.declared.number.RecordNumber.{RecordNumber}
 use Rattle.dnsv_canonical.proofs.OrderLemmas.{each_member}
 use Rattle.std.specs.List.{AllByRecursion, Contains}
-use Rattle.dnsv_verdict.specs.Case.{basis_by}
+use Rattle.dnsv_chain.specs.Basis.{basis_by}
 use Rattle.dnsv_gaps.specs.Asking.{asking}
 use Rattle.dnsv_gaps.specs.Parts.{IsInEvidence}
 use Rattle.dnsv_gaps.specs.SourceSearch.{AreHeldSources, zone_in}

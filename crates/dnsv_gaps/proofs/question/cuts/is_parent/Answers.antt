@@ -2,7 +2,7 @@ use Rattle.std.proofs.Common.{List, subst, sym, ◌∙◌}
 use Rattle.std.proofs.lemmas.Bool.{false≢true}
 use Rattle.dnsv_names.specs.Name.{Labels, rightmost}
 use Rattle.dnsv_chain.specs.declared.anchor.Anchor.{Anchor}
-use Rattle.dnsv_verdict.specs.Verdict.{HasAnchor}
+use Rattle.dnsv_chain.specs.Basis.{HasAnchor}
 use Rattle.dnsv_gaps.proofs.question.cuts.is_parent.Goals as goal
 
 pub returns-then-not-is_known : goal.returns-then-not-is_known

@@ -2,7 +2,7 @@ use Rattle.std.proofs.Common.{List, subst, sym}
 use Rattle.std.specs.List.{AllByRecursion}
 use Rattle.std.specs.Prelude.{Contains}
 use Rattle.dnsv_canonical.specs.declared.number.RecordNumber.{RecordNumber}
-use Rattle.dnsv_verdict.specs.Case.{basis_by}
+use Rattle.dnsv_chain.specs.Basis.{basis_by}
 use Rattle.dnsv_gaps.specs.Parts.{AreFactsOf, IsInEvidence}
 use Rattle.dnsv_gaps.specs.SourceSearch.{Says}
 use Rattle.dnsv_gaps.proofs.PartLemmas.{facts_as}

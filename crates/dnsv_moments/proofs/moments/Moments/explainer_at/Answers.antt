@@ -1,6 +1,5 @@
 use Rattle.std.proofs.Common.{◌∙◌, ap, sym}
-use Rattle.dnsv_verdict.specs.Case.{CaseContents}
-use Rattle.dnsv_verdict.specs.Verdict.{basis_of}
+use Rattle.dnsv_chain.specs.Basis.{CaseContents, basis_of}
 use Rattle.dnsv_moments.specs.Moments.{MomentsContents}
 use Rattle.dnsv_moments.proofs.SayingLemmas.{case_at}
 use Rattle.dnsv_moments.proofs.moments.Moments.explainer_at.Goals as goal

@@ -1,7 +1,6 @@
 use Rattle.std.proofs.Common.{◌≡◌, ◌∙◌, ap, subst, sym}
 use Rattle.std.proofs.lemmas.Result.{err_from_is_err_and}
-use Rattle.dnsv_verdict.specs.Case.{IsCaseOf}
-use Rattle.dnsv_verdict.specs.Verdict.{Basis}
+use Rattle.dnsv_chain.specs.Basis.{IsCaseOf, Basis}
 use Rattle.dnsv_program.specs.Work.Judging.{case_of, tells_why}
 use Rattle.dnsv_program.specs.declared.work.judging.Judging.{Judging}
 use Rattle.dnsv_program.proofs.AskingLemmas.Steps.{ToldSoFar-all, ToldSoFar-begun, ToldSoFar-next, ToldSoFar-whole}

@@ -1,7 +1,6 @@
 use Rattle.std.proofs.Common.{◌≡◌}
 use Rattle.dnsv_message.specs.Streams.Counted.{failures_of, inner_of}
-use Rattle.dnsv_verdict.specs.Case.{IsCaseOf}
-use Rattle.dnsv_verdict.specs.Verdict.{Basis}
+use Rattle.dnsv_chain.specs.Basis.{IsCaseOf, Basis}
 use Rattle.dnsv_program.specs.Work.Judging.{case_of}
 use Rattle.dnsv_program.proofs.AskingLemmas.Steps.{ToldSoFar}
 use Rattle.dnsv_program.proofs.work.asking.tell_each.Given as goal

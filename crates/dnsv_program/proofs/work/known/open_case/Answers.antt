@@ -2,8 +2,7 @@ use Rattle.std.proofs.lemmas.Result.{err_from_is_err_and}
 use Rattle.dnsv_answers.proofs.AnsweredLaws.{answered_is_table}
 use Rattle.dnsv_answers.specs.declared.heading.Moments.TheVariants.{At}
 use Rattle.dnsv_verifier.specs.Table.{table_answer}
-use Rattle.dnsv_verdict.specs.Case.{IsCaseOf}
-use Rattle.dnsv_verdict.specs.Verdict.{basis_of}
+use Rattle.dnsv_chain.specs.Basis.{IsCaseOf, basis_of}
 use Rattle.dnsv_program.specs.Work.Judging.{case_of}
 use Rattle.dnsv_program.proofs.WorkLemmas.Known.{known_answered, known_stated, miscounted}
 use Rattle.dnsv_program.proofs.work.known.open_case.Goals as goal

@@ -2,7 +2,7 @@ use Rattle.std.proofs.Common.{inl, inr, string_bytes}
 use Rattle.std.proofs.lemmas.Result.{err_from_is_err_and}
 use Rattle.dnsv_answers.specs.declared.heading.Moments.TheVariants.{Between}
 use Rattle.dnsv_moments.specs.Question.{IsRefusedThroughout}
-use Rattle.dnsv_verdict.specs.Verdict.{basis_of}
+use Rattle.dnsv_chain.specs.Basis.{basis_of}
 use Rattle.dnsv_verdict.specs.declared.error.VerdictError.{VerdictError}
 use Rattle.dnsv_program.specs.Run.{IsFirstFaultOfFiles, IsFirstFaultThroughout, IsReachedOfFiles}
 use Rattle.dnsv_program.specs.Work.Known.{AreMiscountedIn, Ground}

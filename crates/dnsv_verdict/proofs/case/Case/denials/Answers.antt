@@ -1,7 +1,7 @@
 use Rattle.std.proofs.Common.{subst}
 use Rattle.dnsv_chain.specs.Trust.{SecuredIn}
 use Rattle.dnsv_denial.specs.gathering.ByZone.{AreDenialRecords}
-use Rattle.dnsv_verdict.specs.Case.{CaseContents}
+use Rattle.dnsv_chain.specs.Basis.{CaseContents}
 use Rattle.dnsv_verdict.proofs.case.Case.denials.Goals as goal
 
 pub returns : goal.returns

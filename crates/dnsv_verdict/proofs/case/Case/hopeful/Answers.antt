@@ -1,6 +1,6 @@
 use Rattle.std.proofs.Common.{subst}
 use Rattle.dnsv_verifier.specs.Table.{TableContents, hopeful}
-use Rattle.dnsv_verdict.specs.Case.{CaseContents, IsCaseWith}
+use Rattle.dnsv_chain.specs.Basis.{CaseContents, IsCaseWith}
 use Rattle.dnsv_verdict.proofs.case.Case.hopeful.Goals as goal
 
 pub returns : goal.returns

@@ -2,7 +2,7 @@
 use Rattle.std.proofs.Common.{subst}
 use Rattle.std.proofs.lemmas.Result.{err_from_is_err_and}
 use Rattle.dnsv_verdict.proofs.ReportLemmas.{none_refused, not_traced, refused_where_it_stops}
-use Rattle.dnsv_verdict.specs.Case.{basis_by}
+use Rattle.dnsv_chain.specs.Basis.{basis_by}
 use Rattle.dnsv_verdict.specs.Report.{IsReport}
 use Rattle.dnsv_verdict.specs.Traced.{IsTrace, IsWayTo}
 use Rattle.dnsv_verdict.specs.declared.traced.Traced.{Traced}

@@ -2,7 +2,7 @@
 use Rattle.std.proofs.Common.{length, ap}
 use Rattle.dnsv_verifier.specs.Table.{TableContents}
 use Rattle.dnsv_verdict.proofs.ReportLemmas.{number_asked}
-use Rattle.dnsv_verdict.specs.Verdict.{Basis, basis_of}
+use Rattle.dnsv_chain.specs.Basis.{Basis, basis_of}
 use Rattle.dnsv_verdict.proofs.case.Case.new.Goals as goal
 
 pub returns-clause-of : goal.returns-clause-of

@@ -3,7 +3,7 @@ use Rattle.dnsv_canonical.specs.Rrsets.{ReceivedRrset}
 use Rattle.dnsv_chain.specs.Trust.{SecuredIn}
 use Rattle.dnsv_denial.specs.gathering.ByZone.{AreDenialRecords}
 use Rattle.dnsv_verdict.proofs.OfCase.{case_by}
-use Rattle.dnsv_verdict.specs.Verdict.{basis_of}
+use Rattle.dnsv_chain.specs.Basis.{basis_of}
 use Rattle.dnsv_verdict.proofs.case.Case.of.Goals as goal
 
 pub invariant_of-result : goal.invariant_of-result

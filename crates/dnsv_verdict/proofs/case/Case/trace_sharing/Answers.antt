@@ -7,7 +7,7 @@ use Rattle.dnsv_verdict.proofs.ReportLemmas.{number_asked}
 use Rattle.dnsv_verdict.proofs.WayLemmas.{last_is_question}
 use Rattle.dnsv_verdict.specs.End.{IsEndOf}
 use Rattle.dnsv_verdict.specs.Report.{IsReport}
-use Rattle.dnsv_verdict.specs.Verdict.{Basis, basis_of}
+use Rattle.dnsv_chain.specs.Basis.{Basis, basis_of}
 use Rattle.dnsv_verdict.specs.Way.{IsStoppedAt, IsVerdictOf}
 use Rattle.dnsv_verdict.specs.declared.link.Link.{Link}
 use Rattle.dnsv_verdict.specs.declared.report.Report.{Report}

@@ -1,5 +1,5 @@
 use Rattle.std.proofs.Common.{subst}
-use Rattle.dnsv_verdict.specs.Case.{CaseContents, HasTrust}
+use Rattle.dnsv_chain.specs.Basis.{CaseContents, HasTrust}
 use Rattle.dnsv_verdict.proofs.case.Case.trust.Goals as goal
 
 pub returns-clause-of : goal.returns-clause-of

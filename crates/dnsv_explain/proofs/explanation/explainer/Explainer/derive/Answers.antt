@@ -1,5 +1,5 @@
 use Rattle.std.proofs.Common.{subst, sym}
-use Rattle.dnsv_verdict.specs.Case.{CaseContents, IsCaseOf}
+use Rattle.dnsv_chain.specs.Basis.{CaseContents, IsCaseOf}
 use Rattle.dnsv_explain.specs.SharedWays.{AreHopedWays, AreOfCase}
 use Rattle.dnsv_explain.proofs.explanation.explainer.Explainer.derive.Goals as goal
 

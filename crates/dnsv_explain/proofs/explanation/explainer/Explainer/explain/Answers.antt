@@ -1,7 +1,7 @@
 use Rattle.std.proofs.Common.{◌≡◌, ◌∙◌, [], List, ap, refl, subst, sym}
 use Rattle.std.proofs.lemmas.Result.{err_from_is_err_and}
 use Rattle.dnsv_verdict.proofs.ReportLemmas.{same_refusal}
-use Rattle.dnsv_verdict.specs.Case.{CaseContents, IsCaseOf, basis_by}
+use Rattle.dnsv_chain.specs.Basis.{CaseContents, IsCaseOf, basis_by}
 use Rattle.dnsv_verdict.specs.Hope.{HasHope}
 use Rattle.dnsv_verdict.specs.Report.{IsKept, hashes_in}
 use Rattle.dnsv_verdict.specs.Verdict.{IsVerdictAt}

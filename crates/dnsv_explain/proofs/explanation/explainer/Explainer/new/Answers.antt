@@ -1,4 +1,4 @@
-use Rattle.dnsv_verdict.specs.Verdict.{basis_of}
+use Rattle.dnsv_chain.specs.Basis.{basis_of}
 use Rattle.dnsv_explain.proofs.explanation.explainer.Explainer.new.Goals as goal
 
 pub of-requires : goal.of-requires

@@ -1,6 +1,6 @@
 use Rattle.std.proofs.Common.{◌∙◌, ap, sym}
 use Rattle.dnsv_explain.proofs.lemmas.marks.HopedWayLemmas.{no_hoped_ways}
-use Rattle.dnsv_verdict.specs.Case.{CaseContents}
+use Rattle.dnsv_chain.specs.Basis.{CaseContents}
 use Rattle.dnsv_explain.proofs.explanation.explainer.Explainer.with_case.Goals as goal
 
 pub with_case-open_case-requires : goal.with_case-open_case-requires

@@ -3,7 +3,7 @@ use Rattle.std.proofs.lemmas.List.{take_all}
 use Rattle.std.specs.List.{AllZip}
 use Rattle.dnsv_canonical.specs.Index.{numbers_at}
 use Rattle.dnsv_canonical.specs.Rrsets.{ReceivedRrset}
-use Rattle.dnsv_verdict.specs.Case.{basis_by}
+use Rattle.dnsv_chain.specs.Basis.{basis_by}
 use Rattle.dnsv_faults.specs.Groups.{AreDsFacts}
 use Rattle.dnsv_faults.proofs.lemmas.GroupLemmas.{ds_next, ds_number}
 use Rattle.dnsv_faults.proofs.zone.groups.ds.ds_facts.Goals as goal

@@ -1,6 +1,6 @@
 use Rattle.std.proofs.Common.{take}
 use Rattle.std.specs.List.{AllZip}
-use Rattle.dnsv_verdict.specs.Case.{basis_by}
+use Rattle.dnsv_chain.specs.Basis.{basis_by}
 use Rattle.dnsv_faults.specs.Groups.{AreDsFacts}
 use Rattle.dnsv_faults.proofs.zone.groups.ds.ds_facts.Given as goal
 

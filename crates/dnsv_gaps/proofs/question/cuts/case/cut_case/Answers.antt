@@ -1,6 +1,6 @@
 use Rattle.std.proofs.Common.{ℕ, ap, ◌==◌, ◌∙◌}
 use Rattle.dnsv_names.specs.Name.{rightmost}
-use Rattle.dnsv_verdict.specs.Case.{basis_by}
+use Rattle.dnsv_chain.specs.Basis.{basis_by}
 use Rattle.dnsv_gaps.specs.SourceSearch.{said_in, zone_in}
 use Rattle.dnsv_gaps.specs.questions.Cuts.{IsUnsignedAt}
 use Rattle.dnsv_gaps.proofs.QuestionLemmas.CutCaseLemmas.{lowest_there, none_of_facts, none_there, one_of_facts}

@@ -1,6 +1,6 @@
 use Rattle.std.proofs.Common.{◌+◌, arith}
 use Rattle.std.proofs.lemmas.Option.{MatchOption-at_none, MatchOption-at_some}
-use Rattle.dnsv_verdict.specs.Case.{basis_by}
+use Rattle.dnsv_chain.specs.Basis.{basis_by}
 use Rattle.dnsv_gaps.specs.SourceSearch.{said_in}
 use Rattle.dnsv_gaps.proofs.CaseLemmas.{closed_first, none_closed_all, none_closed_next, none_closed_yet}
 use Rattle.dnsv_gaps.proofs.speakers.cases.closed.first_closed.Goals as goal

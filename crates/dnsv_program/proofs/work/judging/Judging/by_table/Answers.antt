@@ -1,4 +1,4 @@
-use Rattle.dnsv_verdict.specs.Verdict.{basis_of}
+use Rattle.dnsv_chain.specs.Basis.{basis_of}
 use Rattle.dnsv_program.proofs.work.judging.Judging.by_table.Goals as goal
 
 pub of-requires-then-why : goal.of-requires-then-why

@@ -1,6 +1,6 @@
 use Rattle.std.proofs.Common.{subst}
 use Rattle.std.proofs.lemmas.Result.{err_from_is_err_and}
-use Rattle.dnsv_verdict.specs.Case.{IsCaseOf}
+use Rattle.dnsv_chain.specs.Basis.{IsCaseOf}
 use Rattle.dnsv_program.specs.Work.Judging.{case_of}
 use Rattle.dnsv_program.specs.declared.work.judging.Judging.{Judging}
 use Rattle.dnsv_program.proofs.JudgedLemmas.{asked_well}

@@ -2,7 +2,7 @@
 use Rattle.std.proofs.Common.{subst, sym}
 use Rattle.std.proofs.lemmas.Result.{err_from_is_err_and}
 use Rattle.dnsv_verdict.proofs.ReportLemmas.{same_refusal}
-use Rattle.dnsv_verdict.specs.Case.{CaseContents, IsCaseOf, basis_by}
+use Rattle.dnsv_chain.specs.Basis.{CaseContents, IsCaseOf, basis_by}
 use Rattle.dnsv_verdict.specs.Way.{IsVerdictOf}
 use Rattle.dnsv_verdict.proofs.case.open_case.OpenCase.judge.Goals as goal
 

@@ -1,6 +1,6 @@
 -- the case is the one as it was
 use Rattle.std.proofs.Common.{subst, sym}
-use Rattle.dnsv_verdict.specs.Case.{CaseContents, IsCaseOf, basis_by}
+use Rattle.dnsv_chain.specs.Basis.{CaseContents, IsCaseOf, basis_by}
 use Rattle.dnsv_verdict.specs.Traced.{IsWayTo}
 use Rattle.dnsv_verdict.proofs.case.open_case.OpenCase.trace.Goals as goal
 

@@ -1,7 +1,7 @@
 use Rattle.std.proofs.Common.{List, subst, sym}
 use Rattle.dnsv_denial.specs.QuestionHashes.{HashedQuestion}
 use Rattle.dnsv_verdict.proofs.SharedLemmas.{one_hashed_more}
-use Rattle.dnsv_verdict.specs.Case.Shared.{AreHashedIn}
+use Rattle.dnsv_verdict.specs.Shared.{AreHashedIn}
 use Rattle.dnsv_verdict.proofs.case.shared.Shared.keep.Goals as goal
 
 pub returns-in_err-push : goal.returns-in_err-push

@@ -12,7 +12,7 @@ use Rattle.dnsv_denial.specs.unsigned_cuts.Cuts.{no_ds, no_usable_ds, opt_out, I
 use Rattle.dnsv_denial.specs.words.EvidenceWords.{Chain, SaidByNsec, SaidByNsec3, evidence_said, number_cmp}
 use Rattle.dnsv_denial.specs.words.EvidenceWords.Chain.{ByNsec, ByNsec3}
 use Rattle.dnsv_canonical.specs.declared.number.RecordNumber.{RecordNumber}
-use Rattle.dnsv_verdict.proofs.FormLemmas.{SaysNoLess, no_name_to, no_data_to, no_closer_to, cut_to, opts_out_to, no_name_parts_to, no_data_parts_to}
+use Rattle.dnsv_denial.proofs.lemmas.more.FormLemmas.{SaysNoLess, no_name_to, no_data_to, no_closer_to, cut_to, opts_out_to, no_name_parts_to, no_data_parts_to}
 
 -- ---- more secured signatures prove no less
 

@@ -1,0 +1,3 @@
+-- More evidence proves no less.
+pub mod EvidenceLemmas
+pub mod FormLemmas
