@@ -6,3 +6,4 @@ pub mod ShownLemmas
 pub mod TellingLemmas
 pub mod TimelineLemmas
 pub mod VerifierLemmas
+pub mod lemmas

@@ -12,13 +12,13 @@ use Rattle.dnsv_verdict.specs.declared.verdict.Verdict.TheVariants as verdict
 use Rattle.dnsv_texts.specs.declared.format.Format.{Format}
 use Rattle.dnsv_timeline.specs.Timeline.{IsTimelineBy}
 use Rattle.dnsv_timeline.specs.declared.stretch.Stretch.{Stretch}
-use Rattle.dnsv_timeline_laws.proofs.SaidLemmas.{HasNotBoth, HasOneRefusal}
-use Rattle.dnsv_timeline_laws.specs.Kinds.{verdict_kind}
-use Rattle.dnsv_timeline_laws.specs.Said.{IsSaid, IsSaidAt, Said}
-use Rattle.dnsv_timeline_laws.specs.Said.IsSaid.{a_refusal, a_verdict}
-use Rattle.dnsv_timeline_laws.specs.SameValid.{at_moment}
-use Rattle.dnsv_timeline_laws.specs.declared.kind.Kind.{Kind}
-use Rattle.dnsv_timeline_laws.specs.declared.kind.Kind.TheVariants.{Refused}
+use Rattle.dnsv_moments.proofs.lemmas.validity.SaidLemmas.{HasNotBoth, HasOneRefusal}
+use Rattle.dnsv_moments.specs.validity.Kinds.{verdict_kind}
+use Rattle.dnsv_moments.specs.validity.Said.{IsSaid, IsSaidAt, Said}
+use Rattle.dnsv_moments.specs.validity.Said.IsSaid.{a_refusal, a_verdict}
+use Rattle.dnsv_moments.specs.validity.SameValid.{at_moment}
+use Rattle.dnsv_moments.specs.declared.validity.kind.Kind.{Kind}
+use Rattle.dnsv_moments.specs.declared.validity.kind.Kind.TheVariants.{Refused}
 use Rattle.dnsv_moments.specs.Question.{IsRefusedThroughout, TellKind}
 use Rattle.dnsv_moments.proofs.TimelineLemmas.{lies_within, says_of, some_stretch, stretch_at}
 

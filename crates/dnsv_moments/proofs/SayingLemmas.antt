@@ -17,9 +17,9 @@ use Rattle.dnsv_timeline.specs.Dates.{AreTimesOf}
 use Rattle.dnsv_timeline.specs.Timeline.{DependsOnWithin, IsTimelineBy}
 use Rattle.dnsv_timeline.specs.declared.stretch.Stretch.{Stretch}
 use Rattle.dnsv_timeline.specs.declared.times.Times.{Times}
-use Rattle.dnsv_timeline_laws.proofs.SaidLemmas.{all_have, said_depends}
-use Rattle.dnsv_timeline_laws.specs.Said.{AreShownIn, IsSaid, IsSaidAt, Said, Told, told_verdict}
-use Rattle.dnsv_timeline_laws.specs.Said.IsSaid.{a_refusal, a_verdict}
+use Rattle.dnsv_moments.proofs.lemmas.validity.SaidLemmas.{all_have, said_depends}
+use Rattle.dnsv_moments.specs.validity.Said.{AreShownIn, IsSaid, IsSaidAt, Said, Told, told_verdict}
+use Rattle.dnsv_moments.specs.validity.Said.IsSaid.{a_refusal, a_verdict}
 use Rattle.dnsv_moments.specs.Moments.{IsSaidBy, MomentsContents, basis_with}
 use Rattle.dnsv_moments.specs.Question.{IsTimelineFor}
 use Rattle.dnsv_moments.specs.Saying.{IsSaidWithin, told_of}

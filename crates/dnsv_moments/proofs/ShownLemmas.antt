@@ -15,7 +15,7 @@ use Rattle.dnsv_verifier.specs.Asking.{AddsJust, ComesOfSome}
 use Rattle.dnsv_verifier.specs.EntryLaws.{octet_Equal, then_Equal}
 use Rattle.dnsv_verifier.proofs.NumberLemmas.{contains_from_map, contains_map}
 use Rattle.dnsv_verifier.proofs.TableLemmas.{is_eq-Equal}
-use Rattle.dnsv_timeline_laws.specs.Said.{AreShownIn, signature_cmp}
+use Rattle.dnsv_moments.specs.validity.Said.{AreShownIn, signature_cmp}
 use Rattle.dnsv_moments.specs.Shown.{Shows, number_of, shown_cmp}
 use Rattle.dnsv_moments.specs.declared.shown.Shown.{Shown}
 

@@ -4,8 +4,8 @@ use Rattle.std.proofs.lemmas.List.{take_all, take_more}
 use Rattle.std.proofs.lemmas.List.Elements.{Contains-push_cases}
 use Rattle.std.specs.List.{Contains}
 use Rattle.dnsv_timeline.specs.declared.stretch.Stretch.{Stretch}
-use Rattle.dnsv_timeline_laws.specs.Said.{Said}
-use Rattle.dnsv_timeline_laws.specs.declared.kind.Kind.{Kind}
+use Rattle.dnsv_moments.specs.validity.Said.{Said}
+use Rattle.dnsv_moments.specs.declared.validity.kind.Kind.{Kind}
 use Rattle.dnsv_moments.specs.Question.{TellKind}
 
 module _ (kind : Kind) (xs : List (Stretch Said)) where

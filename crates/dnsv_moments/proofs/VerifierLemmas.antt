@@ -11,9 +11,9 @@ use Rattle.dnsv_verifier.specs.declared.answer.Answer.{Answer}
 use Rattle.dnsv_verifier.specs.declared.entry.Entry.{Entry}
 use Rattle.dnsv_texts.specs.declared.format.Format.{Format}
 use Rattle.dnsv_timeline.specs.declared.stretch.Stretch.{Stretch}
-use Rattle.dnsv_timeline_laws.specs.Alike.{AreAnsweredAlike}
-use Rattle.dnsv_timeline_laws.specs.Said.{IsSaid, IsSaidAt, Said}
-use Rattle.dnsv_timeline_laws.specs.SameValid.{at_moment}
+use Rattle.dnsv_moments.specs.validity.Alike.{AreAnsweredAlike}
+use Rattle.dnsv_moments.specs.validity.Said.{IsSaid, IsSaidAt, Said}
+use Rattle.dnsv_moments.specs.validity.SameValid.{at_moment}
 use Rattle.dnsv_moments.specs.Moments.{IsSaidBy, MomentsContents, basis_with}
 use Rattle.dnsv_moments.specs.Question.{IsRefusedFor, IsTimelineFor}
 use Rattle.dnsv_moments.proofs.TimelineLemmas.{timeline_follows}

@@ -1,7 +1,7 @@
 -- The words of kinds.
 use Rattle.std.specs.Prelude.{ℕ, List, codes}
-use Rattle.dnsv_timeline_laws.specs.declared.kind.Kind.{Kind}
-use Rattle.dnsv_timeline_laws.specs.declared.kind.Kind.TheVariants as kind
+use Rattle.dnsv_moments.specs.declared.validity.kind.Kind.{Kind}
+use Rattle.dnsv_moments.specs.declared.validity.kind.Kind.TheVariants as kind
 
 -- that of the verdict, as `check` tells it; of a refusal only that it is one
 abbrev pub kind_word : Kind → List ℕ

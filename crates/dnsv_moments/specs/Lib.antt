@@ -4,3 +4,5 @@ pub mod Moments
 pub mod Question
 pub mod Saying
 pub mod Shown
+pub mod texts
+pub mod validity

@@ -4,9 +4,9 @@ use Rattle.dnsv_names.specs.Name.{Labels}
 use Rattle.dnsv_timeline.specs.Timeline.{IsTimelineBy}
 use Rattle.dnsv_timeline.specs.declared.stretch.Stretch.{Stretch}
 use Rattle.dnsv_texts.specs.declared.format.Format.{Format}
-use Rattle.dnsv_timeline_laws.specs.Said.{IsSaidAt, Said}
-use Rattle.dnsv_timeline_laws.specs.SameValid.{at_moment}
-use Rattle.dnsv_timeline_laws.specs.declared.kind.Kind.{Kind}
+use Rattle.dnsv_moments.specs.validity.Said.{IsSaidAt, Said}
+use Rattle.dnsv_moments.specs.validity.SameValid.{at_moment}
+use Rattle.dnsv_moments.specs.declared.validity.kind.Kind.{Kind}
 use Rattle.dnsv_chain.specs.Basis.{Basis}
 use Rattle.dnsv_verdict.specs.Way.{IsRefusal}
 use Rattle.dnsv_verdict.specs.declared.error.VerdictError.{VerdictError}

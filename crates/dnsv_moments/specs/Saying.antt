@@ -7,7 +7,7 @@ use Rattle.dnsv_verifier.specs.declared.entry.Entry.{Entry}
 use Rattle.dnsv_explain.specs.declared.explanation.derivation.Outcome.{Outcome}
 use Rattle.dnsv_explain.specs.declared.explanation.derivation.Outcome.TheVariants as outcome
 use Rattle.dnsv_texts.specs.declared.format.Format.{Format}
-use Rattle.dnsv_timeline_laws.specs.Said.{IsSaidAt, Said, Told, told_refusal, told_verdict}
+use Rattle.dnsv_moments.specs.validity.Said.{IsSaidAt, Said, Told, told_refusal, told_verdict}
 use Rattle.dnsv_moments.specs.Moments.{IsSaidBy, MomentsContents, basis_with}
 
 -- what is told of what a question comes to

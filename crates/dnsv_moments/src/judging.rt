@@ -4,17 +4,17 @@ ghost use Rattle.dnsv_explain.specs.Derived.{IsDerived};
 ghost use Rattle.dnsv_moments.specs.Moments.{IsOfEvidence};
 ghost use Rattle.dnsv_moments.specs.Saying.{IsSaidWithin, told_of};
 ghost use Rattle.dnsv_names.specs.Name.{Labels};
-ghost use Rattle.dnsv_timeline_laws.specs.Said.{IsSaid};
+ghost use Rattle.dnsv_moments.specs.validity.Said.{IsSaid};
 ghost use Rattle.dnsv_chain.specs.Basis.{Basis};
 
 use crate::moments::Moments;
 use crate::said::Said;
 use crate::shown::signatures_shown;
+use crate::validity::kind::{Kind, kind_of};
 use dnsv_canonical::Rrset;
 use dnsv_explain::{Derivation, Explainer, Outcome};
 use dnsv_names::{Name, RecordType};
 use dnsv_texts::{Format, told_text};
-use dnsv_timeline_laws::{Kind, kind_of};
 use std::alloc::{AllocError, Global};
 
 /// What is said of the question at the moment, or at the nearest one of the range. Whoever explained at the moment before

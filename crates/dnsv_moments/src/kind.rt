@@ -2,7 +2,7 @@
 ghost use Rattle.std.specs.Prelude.{◌≡◌};
 ghost use Rattle.dnsv_moments.specs.Kinds as specs;
 
-use dnsv_timeline_laws::Kind;
+use crate::validity::kind::Kind;
 
 /// The word of the verdict, as `check` tells it, or that the question is refused.
 pub fn kind_word(kind: Kind) -> &'static str

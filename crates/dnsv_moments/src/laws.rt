@@ -9,14 +9,14 @@ ghost use Rattle.dnsv_names.specs.Name.{Labels};
 ghost use Rattle.dnsv_texts.specs.declared.format.Format.{Format};
 ghost use Rattle.dnsv_timeline.specs.Timeline.{IsTimelineBy};
 ghost use Rattle.dnsv_timeline.specs.declared.stretch.Stretch.{Stretch};
-ghost use Rattle.dnsv_timeline_laws.specs.Said.{IsSaidAt, Said};
-ghost use Rattle.dnsv_timeline_laws.specs.declared.kind.Kind.TheVariants.{Refused};
+ghost use Rattle.dnsv_moments.specs.validity.Said.{IsSaidAt, Said};
+ghost use Rattle.dnsv_moments.specs.declared.validity.kind.Kind.TheVariants.{Refused};
 ghost use Rattle.dnsv_chain.specs.Basis.{Basis};
 ghost use Rattle.dnsv_verdict.specs.declared.error.VerdictError.{VerdictError};
 ghost use Rattle.dnsv_verifier.specs.declared.answer.Answer.{Answer};
 ghost use Rattle.dnsv_verifier.specs.declared.entry.Entry.{Entry};
 
-use dnsv_timeline_laws::{
+use crate::validity::laws::{
     a_table_for_a_range_serves_each_moment, one_thing_is_said_of_a_question,
     what_is_said_depends_on_what_is_asked,
 };

@@ -1,9 +1,9 @@
 //! What is said of a question at a moment.
 ghost use Rattle.std.specs.Prelude.{◌≡◌, ◌↔◌, IsTrue, string_bytes};
-ghost use Rattle.dnsv_timeline_laws.specs.Said.{Said};
+ghost use Rattle.dnsv_moments.specs.validity.Said.{Said};
 
+use crate::validity::kind::Kind;
 use dnsv_canonical::SignatureNumber;
-use dnsv_timeline_laws::Kind;
 use std::marker::Model;
 
 /// What is said of a question at a moment: what it comes to, the text of what carries that, and which signatures derive
@@ -17,7 +17,7 @@ pub struct Said {
 
 impl Model for Said {
     ghost use Rattle.std.specs.Prelude.{string_bytes};
-    ghost use Rattle.dnsv_timeline_laws.specs.Said as said;
+    ghost use Rattle.dnsv_moments.specs.validity.Said as said;
 
     ghost Value = { said.Said };
 

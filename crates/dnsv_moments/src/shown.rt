@@ -2,7 +2,7 @@
 ghost use Rattle.std.specs.Prelude.{◌≡◌, [], IfOk, OnOk, map};
 ghost use Rattle.dnsv_derivations.specs.intervals.Holding.{signature_shown};
 ghost use Rattle.dnsv_moments.specs.Shown.{Shows, number_of};
-ghost use Rattle.dnsv_timeline_laws.specs.Said.{AreShownIn};
+ghost use Rattle.dnsv_moments.specs.validity.Said.{AreShownIn};
 ghost use Rattle.dnsv_verifier.specs.Asking.{AddsJust, ComesOfSome};
 
 use dnsv_canonical::SignatureNumber;

@@ -1,12 +1,12 @@
 //! What a question is refused for throughout.
 ghost use Rattle.std.specs.Prelude.{◌≡◌, ◌≢◌, ◌↔◌, [], IsTrue, MatchOption};
 ghost use Rattle.dnsv_moments.specs.Question.{TellKind};
-ghost use Rattle.dnsv_timeline_laws.specs.declared.kind.Kind.TheVariants.{Refused};
+ghost use Rattle.dnsv_moments.specs.declared.validity.kind.Kind.TheVariants.{Refused};
 ghost use Rattle.dnsv_verdict.specs.declared.error.VerdictError.{VerdictError};
 
 use crate::said::{Said, is_same_kind};
+use crate::validity::kind::Kind;
 use dnsv_timeline::Stretch;
-use dnsv_timeline_laws::Kind;
 use dnsv_verdict::VerdictError;
 
 /// Why each stretch is refused. `None` where not all are, by one number.

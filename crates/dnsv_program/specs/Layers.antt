@@ -40,9 +40,9 @@ use Rattle.dnsv_lines.specs.declared.line.Line.{Line}
 use Rattle.dnsv_texts.specs.declared.format.Format.{Format}
 use Rattle.dnsv_timeline.specs.Timeline.{IsTimelineBy}
 use Rattle.dnsv_timeline.specs.declared.stretch.Stretch.{Stretch}
-use Rattle.dnsv_timeline_laws.specs.Said.{IsSaidAt, Said}
+use Rattle.dnsv_moments.specs.validity.Said.{IsSaidAt, Said}
 use Rattle.dnsv_moments.specs.Question.{IsRefusedThroughout}
-use Rattle.dnsv_timeline_texts.specs.Text.{IsTimelineText}
+use Rattle.dnsv_moments.specs.texts.Text.{IsTimelineText}
 
 -- names as text
 pub record NameLaws : Type 0 where

@@ -22,11 +22,11 @@ use dnsv_explain::a_report_has_one_explanation;
 use dnsv_message::{
     message_or_fault, no_fault_of_a_message, no_fault_of_memory, one_answer, one_fault, one_message,
 };
-use dnsv_moments::what_is_refused_throughout;
+use dnsv_moments::{
+    a_timeline_has_one_text, one_thing_is_said_of_a_question, what_is_refused_throughout,
+};
 use dnsv_names::a_text_has_one_reading;
 use dnsv_records::record_laws;
-use dnsv_timeline_laws::one_thing_is_said_of_a_question;
-use dnsv_timeline_texts::a_timeline_has_one_text;
 use dnsv_tsig::{one_answer as one_opened, one_ring_or_fault};
 use dnsv_verdict::a_question_leads_one_way;
 use dnsv_verifier::a_table_is_its_verifier;

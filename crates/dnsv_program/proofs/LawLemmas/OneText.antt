@@ -45,8 +45,8 @@ use Rattle.dnsv_files.specs.Status.{status_code}
 use Rattle.dnsv_program.specs.Run.{IsAnswered, IsTimelineAsked}
 use Rattle.dnsv_program.specs.Work.Timeline.{IsTimelineBehind}
 use Rattle.dnsv_timeline.specs.declared.stretch.Stretch.{Stretch}
-use Rattle.dnsv_timeline_laws.specs.Said.{Said}
-use Rattle.dnsv_timeline_texts.specs.Text.{IsTimelineText}
+use Rattle.dnsv_moments.specs.validity.Said.{Said}
+use Rattle.dnsv_moments.specs.texts.Text.{IsTimelineText}
 use Rattle.dnsv_program.specs.Work.Listing.{IsTodo, ListsEntries}
 use Rattle.dnsv_files.proofs.OpeningLemmas.Keys.{same_keys}
 use Rattle.dnsv_files.proofs.OpeningLemmas.Macs.{same_macs}

@@ -15,8 +15,8 @@ use Rattle.dnsv_texts.specs.declared.format.Format.{Format}
 use Rattle.dnsv_moments.specs.Moments.{AreMomentsBy, MomentsContents, basis_with}
 use Rattle.dnsv_moments.specs.Question.{IsRefusedFor, IsRefusedThroughout, IsTimelineFor}
 use Rattle.dnsv_timeline.specs.Timeline.{IsTimelineBy}
-use Rattle.dnsv_timeline_laws.specs.Said.{IsSaidAt, Said}
-use Rattle.dnsv_timeline_texts.specs.Text.{IsTimelineText}
+use Rattle.dnsv_moments.specs.validity.Said.{IsSaidAt, Said}
+use Rattle.dnsv_moments.specs.texts.Text.{IsTimelineText}
 use Rattle.dnsv_files.specs.declared.inputs.Inputs.{Inputs}
 use Rattle.dnsv_files.specs.declared.status.Fault.{Fault}
 use Rattle.dnsv_files.specs.declared.status.Fault.TheVariants as fault

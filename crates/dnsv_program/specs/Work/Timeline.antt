@@ -8,9 +8,9 @@ use Rattle.dnsv_answers.specs.declared.heading.Moments.TheVariants.{Between}
 use Rattle.dnsv_chain.specs.Basis.{Basis}
 use Rattle.dnsv_verdict.specs.declared.error.VerdictError.{VerdictError}
 use Rattle.dnsv_texts.specs.declared.format.Format.{Format}
-use Rattle.dnsv_timeline_laws.specs.Said.{IsSaidAt, Said}
+use Rattle.dnsv_moments.specs.validity.Said.{IsSaidAt, Said}
 use Rattle.dnsv_moments.specs.Question.{IsRefusedThroughout}
-use Rattle.dnsv_timeline_texts.specs.Text.{IsTimelineText}
+use Rattle.dnsv_moments.specs.texts.Text.{IsTimelineText}
 use Rattle.dnsv_files.specs.Files.{Files}
 use Rattle.dnsv_files.specs.Told.{nowhere}
 use Rattle.dnsv_files.specs.declared.status.Fault.{Fault}

@@ -23,11 +23,10 @@ use crate::work::known::table_of;
 use crate::work::span::{Span, range_between};
 use bumpalo::Bump;
 use dnsv_files::{Fault, Inputs, Moment};
-use dnsv_moments::{Moments, timeline_of_question};
+use dnsv_moments::{Moments, Question, timeline_of_question, timeline_text};
 use dnsv_names::{Count, RecordType};
 use dnsv_texts::Format;
 use dnsv_timeline::Range;
-use dnsv_timeline_texts::{Question, timeline_text};
 use std::alloc::Global;
 use std::io::Read;
 

@@ -1,6 +1,6 @@
 use Rattle.std.proofs.Common.{List, string_bytes, subst}
 use Rattle.dnsv_lines.specs.declared.line.Line.{Line}
-use Rattle.dnsv_timeline_laws.specs.Said.{AreShownIn}
+use Rattle.dnsv_moments.specs.validity.Said.{AreShownIn}
 use Rattle.dnsv_moments.proofs.SayingLemmas.{said_is}
 use Rattle.dnsv_moments.proofs.judging.said_of.Goals as goal
 

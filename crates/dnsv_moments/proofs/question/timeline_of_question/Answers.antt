@@ -2,8 +2,8 @@ use Rattle.std.proofs.Common.{List, [], Err, ap, inl, inr, refl, sym, subst}
 use Rattle.std.proofs.lemmas.Bool.{false≢true}
 use Rattle.std.specs.Prelude.{◌≢◌}
 use Rattle.dnsv_timeline.specs.declared.stretch.Stretch.{Stretch}
-use Rattle.dnsv_timeline_laws.specs.Said.{Said}
-use Rattle.dnsv_timeline_laws.specs.declared.kind.Kind.TheVariants.{Refused}
+use Rattle.dnsv_moments.specs.validity.Said.{Said}
+use Rattle.dnsv_moments.specs.declared.validity.kind.Kind.TheVariants.{Refused}
 use Rattle.dnsv_verdict.specs.declared.error.VerdictError.{VerdictError}
 use Rattle.dnsv_moments.specs.Moments.{basis_with}
 use Rattle.dnsv_moments.specs.Question.{TellKind}

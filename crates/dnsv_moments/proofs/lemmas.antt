@@ -1,0 +1,3 @@
+-- What proofs of the rooms rest on.
+pub mod texts
+pub mod validity

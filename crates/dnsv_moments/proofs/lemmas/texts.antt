@@ -1,0 +1,5 @@
+-- The text of a timeline, piece by piece.
+pub mod OneTextLemmas
+pub mod PieceLemmas
+pub mod ShownLemmas
+pub mod TextLemmas

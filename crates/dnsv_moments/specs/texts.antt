@@ -1,0 +1,5 @@
+-- The text of a timeline, and the intervals that it tells.
+pub mod Following
+pub mod Pieces
+pub mod Shown
+pub mod Text

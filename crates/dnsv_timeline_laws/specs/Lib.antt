@@ -1,4 +1,0 @@
-pub mod Alike
-pub mod Kinds
-pub mod Said
-pub mod SameValid

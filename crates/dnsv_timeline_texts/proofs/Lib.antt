@@ -1,4 +1,0 @@
-mod OneTextLemmas
-mod PieceLemmas
-mod ShownLemmas
-mod TextLemmas

@@ -1,6 +1,0 @@
-use Rattle.std.proofs.lemmas.Option.{MatchOption-at_none}
-use Rattle.dnsv_timeline_texts.proofs.shown.shown_border.Goals as goal
-
-pub returns-in_default : goal.returns-in_default
-returns-in_default c =
-    let none = MatchOption-at_none _ _ c.in_default.is c.in_ok-signature.ensures in λ shown is. none shown.signature is.signature

@@ -1,4 +1,0 @@
-pub mod Following
-pub mod Pieces
-pub mod Shown
-pub mod Text
