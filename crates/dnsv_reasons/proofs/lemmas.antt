@@ -1,5 +1,6 @@
 -- What the laws of what fails rest on.
 pub mod AnchorLemmas
+pub mod FaultLemmas
 pub mod OnceLemmas
 pub mod OneFailures
 pub mod OneLine

@@ -2,6 +2,7 @@
 //! of.
 #![tactic(auto)]
 
+pub use dnsv_faults::CaseFacts;
 pub use failing::failures;
 pub use laws::anchors::a_missing_anchor_is_said_first;
 pub use laws::once::{no_line_that_fails_stands_twice, no_text_of_what_fails_stands_twice};

@@ -17,7 +17,7 @@ use Rattle.dnsv_lines.specs.declared.line.Line.TheVariants as line
 use Rattle.dnsv_reasons.proofs.lemmas.OnceLemmas.{failures_differ}
 use Rattle.dnsv_reasons.specs.Failures.{AreFailures}
 use Rattle.dnsv_explain.proofs.lemmas.keys.EachLemmas.{Each, none_each, numbered_each, one_each}
-use Rattle.dnsv_explain.proofs.lemmas.telling.FaultLemmas.{IsFault, failures_fault}
+use Rattle.dnsv_reasons.proofs.lemmas.FaultLemmas.{IsFault, failures_fault}
 use Rattle.dnsv_explain.proofs.lemmas.whole.FreshLemmas.{HaveKinds, kind}
 use Rattle.dnsv_explain.proofs.lemmas.whole.ListLemmas.{once_append, once_numbered, once_one}
 
