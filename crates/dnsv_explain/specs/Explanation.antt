@@ -22,8 +22,7 @@ use Rattle.dnsv_verdict.specs.declared.link.Link.{Link}
 use Rattle.dnsv_verdict.specs.declared.report.Report.{Report}
 use Rattle.dnsv_verdict.specs.declared.verdict.Verdict.{Verdict}
 use Rattle.dnsv_verdict.specs.declared.verdict.Verdict.TheVariants.{SecureAnswer, SecureAlias, SecureNoName, SecureNoData, Insecure, Pending, Bogus, Indeterminate}
-use Rattle.dnsv_gaps.specs.Asking.{Asking}
-use Rattle.dnsv_reasons.specs.Failures.{AreFailures}
+use Rattle.dnsv_reasons.specs.Failures.{AreFailures, Asking}
 use Rattle.dnsv_derivations.specs.Denials.{IsDenialTold, IsExpandedTold}
 use Rattle.dnsv_derivations.specs.Explained.{Explained, Setting, setting_in}
 use Rattle.dnsv_explain.specs.Explained.{basis_in, hoped}

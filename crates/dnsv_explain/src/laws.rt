@@ -19,7 +19,7 @@ ghost use Rattle.dnsv_verifier.specs.Table.{table_answer};
 ghost use Rattle.dnsv_verifier.specs.declared.entry.Entry.{Entry};
 ghost use Rattle.dnsv_explain.specs.Explanation.{IsExplanation, IsExplanationOf, IsUnproved, its_setting, told_kind};
 ghost use Rattle.dnsv_explain.specs.Marked.{AnswersMarked};
-ghost use Rattle.dnsv_reason_laws.specs.Once.{AreOnce};
+ghost use Rattle.dnsv_reasons.specs.laws.Once.{AreOnce};
 ghost use Rattle.dnsv_derivations.specs.Following.{EachFollows};
 ghost use Rattle.dnsv_derivations.specs.Following.Cases.{IsCaseBy};
 ghost use Rattle.dnsv_derivations.specs.Following.Parts.{IsPartOf, IsUnusableRecord};

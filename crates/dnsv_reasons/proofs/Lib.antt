@@ -2,3 +2,4 @@ mod EachLemmas
 mod LineLemmas
 mod PlaceLemmas
 pub mod SourceLemmas
+pub mod lemmas

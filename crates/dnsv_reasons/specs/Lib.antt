@@ -3,3 +3,4 @@ pub mod Lines
 pub mod Places
 pub mod SourceSearch
 pub mod Sources
+pub mod laws

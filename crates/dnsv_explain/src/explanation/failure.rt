@@ -1,7 +1,6 @@
 //! What fails, where nothing is proved.
 ghost use Rattle.std.specs.Prelude.{◌≡◌, ◌↔◌, IfOk, IsTrue, OnOk};
-ghost use Rattle.dnsv_gaps.specs.Asking.{asking_of};
-ghost use Rattle.dnsv_reasons.specs.Failures.{AreFailures};
+ghost use Rattle.dnsv_reasons.specs.Failures.{AreFailures, asking_of};
 ghost use Rattle.dnsv_verdict.specs.Report.{hashed_in};
 ghost use Rattle.dnsv_explain.specs.At.{IsAt};
 ghost use Rattle.dnsv_derivations.specs.Explained.{setting_in};
@@ -11,10 +10,9 @@ ghost use Rattle.dnsv_derivations.specs.Saying.{Adds};
 use crate::explanation::at::At;
 use crate::keys_in_question::add_keys_in_question;
 use dnsv_derivations::Evidence;
-use dnsv_faults::CaseFacts;
 use dnsv_lines::Line;
 use dnsv_names::RecordType;
-use dnsv_reasons::failures;
+use dnsv_reasons::{CaseFacts, failures};
 use dnsv_verdict::Verdict;
 use std::alloc::{AllocError, Global};
 

@@ -25,7 +25,7 @@ use Rattle.dnsv_explain.specs.KeyLines.{AreLinesOfKeysAsked, AreLinesOfSet, IsIn
 use Rattle.dnsv_explain.specs.Listing.{AreOfNumbered}
 use Rattle.dnsv_explain.proofs.lemmas.keys.EachLemmas.{Each, both_each, mapped_each, numbered_each, one_each, where_each}
 use Rattle.dnsv_explain.proofs.lemmas.telling.ExplanationLemmas.{explanation_follows}
-use Rattle.dnsv_explain.proofs.lemmas.telling.FaultLemmas.{IsFault, failures_fault}
+use Rattle.dnsv_explain.proofs.lemmas.telling.QuietLemmas.{IsFault, failures_fault}
 use Rattle.dnsv_rules.specs.Checked.{Asked, Checks, IsOnWay, IsSoFor}
 use Rattle.dnsv_rules.specs.Explained.{asked_by}
 use Rattle.dnsv_rules.proofs.checks.DerivedLemmas.{held_so, signature_so}

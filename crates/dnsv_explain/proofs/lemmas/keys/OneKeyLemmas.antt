@@ -7,7 +7,7 @@ use Rattle.dnsv_derivations.proofs.lemmas.derivations.WayLemmas.SearchLemmas.{on
 use Rattle.dnsv_derivations.proofs.lemmas.intervals.MomentLemmas.{is_behind, is_first}
 use Rattle.dnsv_derivations.specs.Following.{IsNamed}
 use Rattle.dnsv_lines.specs.declared.line.derivation.KeyName.{KeyName}
-use Rattle.dnsv_reason_laws.proofs.questions.HeldLemmas.{same_number}
+use Rattle.dnsv_reasons.proofs.lemmas.questions.HeldLemmas.{same_number}
 use Rattle.dnsv_canonical.specs.Rrsets.{ReceivedRrset}
 use Rattle.dnsv_canonical.specs.declared.number.RecordNumber.{RecordNumber}
 use Rattle.dnsv_verifier.specs.Admissible.{DnskeyRecord}

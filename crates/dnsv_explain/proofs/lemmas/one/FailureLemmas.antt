@@ -1,7 +1,7 @@
 -- What fails, and the keys that it is a matter of, are told in one way.
 use Rattle.std.proofs.Common.{◌≡◌, ◌∙◌, ℕ, List, ◌++◌, sym, subst}
 use Rattle.dnsv_names.specs.Name.{Labels}
-use Rattle.dnsv_reason_laws.proofs.OneFailures.{one_failures}
+use Rattle.dnsv_reasons.proofs.lemmas.OneFailures.{one_failures}
 use Rattle.dnsv_derivations.specs.Explained.{Setting}
 use Rattle.dnsv_explain.specs.Explanation.{IsFailureTold, asking_in}
 use Rattle.dnsv_explain.specs.KeyLines.{AreLinesOfKeysAsked}

@@ -11,7 +11,7 @@ use Rattle.dnsv_explain.specs.KeyLines.{AreLinesOfSet, IsKeyLine}
 use Rattle.dnsv_explain.specs.Listing.{AreOfNumbered}
 use Rattle.dnsv_lines.specs.declared.line.Line.{Line}
 use Rattle.dnsv_lines.specs.declared.line.Line.TheVariants as line
-use Rattle.dnsv_explain.proofs.lemmas.telling.FaultLemmas.{IsFault, failures_fault}
+pub use Rattle.dnsv_reasons.proofs.lemmas.FaultLemmas.{IsFault, failures_fault}
 
 -- the line says what fails, or shows a key
 abbrev pub IsQuiet : Line → Type 0

@@ -5,7 +5,7 @@ use Rattle.std.proofs.lemmas.List.Kept.{AllPairs-from_increasing}
 use Rattle.std.specs.List.{AllPairs, Contains}
 use Rattle.std.specs.List.Sorted.{IsStrictlyIncreasing}
 use Rattle.dnsv_verifier.proofs.NumberLemmas.{contains_from_map, contains_map}
-use Rattle.dnsv_reason_laws.specs.Once.{AreOnce}
+use Rattle.dnsv_reasons.specs.laws.Once.{AreOnce}
 use Rattle.dnsv_explain.specs.Listing.{AreOfNumbered}
 use Rattle.dnsv_explain.proofs.lemmas.MemberLemmas.{none_in}
 

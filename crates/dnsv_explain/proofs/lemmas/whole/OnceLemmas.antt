@@ -10,7 +10,7 @@ use Rattle.dnsv_verifier.specs.declared.entry.Entry.{Entry}
 use Rattle.dnsv_derivations.specs.Explained.{Explained, Setting, setting_in}
 use Rattle.dnsv_explain.specs.Explained.{hoped}
 use Rattle.dnsv_explain.specs.Explanation.{IsEnd, IsExplanation, IsFailureTold, IsHopeTold, IsLinkTold, IsSettledTold}
-use Rattle.dnsv_reason_laws.specs.Once.{AreOnce}
+use Rattle.dnsv_reasons.specs.laws.Once.{AreOnce}
 use Rattle.dnsv_derivations.specs.Places.{ArePlacesOf, ArePlacesTold}
 use Rattle.dnsv_derivations.specs.Saying.{AreBoth, AreEach}
 use Rattle.dnsv_derivations.specs.derivations.HeldTo.{IsHeldTo}

@@ -21,7 +21,7 @@ use Rattle.dnsv_derivations.specs.Explained.{Setting}
 use Rattle.dnsv_explain.specs.Explanation.{IsLinkTold, IsSetTold, IsSettledTold, IsUnsignedFromTold, signature_of}
 use Rattle.dnsv_explain.specs.Explanation.IsSetTold.{as_owned, by_wildcard}
 use Rattle.dnsv_explain.specs.Explanation.IsUnsignedFromTold.{by_cut, by_wildcard as loosely}
-use Rattle.dnsv_reason_laws.specs.Once.{AreOnce}
+use Rattle.dnsv_reasons.specs.laws.Once.{AreOnce}
 use Rattle.dnsv_derivations.specs.Saying.{AreBoth, AreEach}
 use Rattle.dnsv_derivations.specs.derivations.Derivations.Subject.{keys, signature}
 use Rattle.dnsv_derivations.specs.derivations.HeldTo.{IsFirstDerived, IsHeldAt, IsHeldBelow, IsHeldTo, IsLowestDerived}

@@ -1,5 +1,0 @@
-use Rattle.dnsv_reason_laws.proofs.OneFailures.{one_failures}
-use Rattle.dnsv_reason_laws.proofs.one.what_fails_is_one_list.Goals as goal
-
-pub returns : goal.returns
-returns c = λ a lines others x y. one_failures a lines others x y

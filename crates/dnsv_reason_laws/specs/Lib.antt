@@ -1,2 +1,0 @@
-pub mod Anchors
-pub mod Once
