@@ -8,8 +8,7 @@ use Rattle.dnsv_chain.specs.Trust.{IsTrustOf, KeptTrust, SecuredIn}
 use Rattle.dnsv_chain.specs.declared.anchor.Anchor.{Anchor}
 use Rattle.dnsv_denial.specs.QuestionHashes.{HashedQuestion}
 use Rattle.dnsv_denial.specs.gathering.ByZone.{AreDenialRecords}
-use Rattle.dnsv_gaps.specs.Asking.{asking_of}
-use Rattle.dnsv_reasons.specs.Failures.{AreFailures}
+use Rattle.dnsv_reasons.specs.Failures.{AreFailures, asking_of}
 use Rattle.dnsv_explain.proofs.explanation.failure.failing.Goals as goal
 
 its : (case facts : CaseContents) (rrsets : List ReceivedRrset) (anchors : List Anchor) (table : TableContents) (trust : KeptTrust)
