@@ -122,6 +122,12 @@ module _ (moment : ℕ) (entry : Entry) where
       (pass_both (nat_lt 15 (length entry.signed_data)) (nat_lt Begun (2 ^ 31)) (is_below 15 (length entry.signed_data) timely.long) (is_below Begun (2 ^ 31) timely.valid.begun))
       (is_below Left (2 ^ 31) timely.valid.not_over)
 
+  -- what is too short has no times
+  pub short_fails : length entry.signed_data < 16 → false ≡ is_timely moment entry
+  short_fails short =
+      same_tests false (is_timely moment entry) (λ never. absurd (true≢false (sym never)))
+      (λ passes. let long = (timely_by passes).long in absurd (omega (arith, short, long)))
+
   -- what the times say
   pub tested : (inception expiration : ℕ) (valid : Bool) → 16 ≤ length entry.signed_data
       → inception ≡ number_at entry.signed_data 12 4 → expiration ≡ number_at entry.signed_data 8 4
