@@ -1,4 +1,5 @@
 -- Lemmas, some of which crates above cite.
+pub mod RisingLemmas
 pub mod WildcardAnswerLemmas
 pub mod forms
 pub mod gathering

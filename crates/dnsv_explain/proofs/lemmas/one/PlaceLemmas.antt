@@ -13,7 +13,7 @@ use Rattle.dnsv_canonical.proofs.NumberLemmas.{one_numbered}
 use Rattle.dnsv_derivations.proofs.lemmas.intervals.HoldingLemmas.{one_around}
 use Rattle.dnsv_derivations.proofs.lemmas.intervals.MomentLemmas.{first_or_behind, is_behind, is_first}
 use Rattle.dnsv_derivations.proofs.lemmas.one.StepLemmas.{IsOne}
-use Rattle.dnsv_reasons.proofs.lemmas.facts.ListLemmas.{one_rising}
+use Rattle.dnsv_denial.proofs.lemmas.RisingLemmas.{one_rising}
 
 -- ---- places
 

@@ -23,7 +23,7 @@ use Rattle.dnsv_denial.specs.declared.unsigned_cuts.shown_cut.ShownCut.TheVarian
 use Rattle.dnsv_verdict.proofs.OneProof.{chains, one_fewest, one_greatest, one_list, one_most}
 use Rattle.dnsv_derivations.specs.Explained.{Setting}
 use Rattle.dnsv_derivations.specs.derivations.OwnDerivations.{IsTrustIn}
-use Rattle.dnsv_reasons.proofs.lemmas.facts.ListLemmas.{one_rising}
+use Rattle.dnsv_denial.proofs.lemmas.RisingLemmas.{one_rising}
 use Rattle.dnsv_explain.proofs.lemmas.one.FormLemmas.{delegation_stands, no_closer_stands, no_data_stands, no_name_stands, one_delegation, one_no_closer, one_no_data, one_no_name, one_opt_out, one_opt_out_closer, opt_out_closer_stands, opt_out_stands}
 
 -- ---- trust

@@ -1,13 +1,10 @@
 -- Values and lists that their members determine.
 use Rattle.std.proofs.Common.{◌≡◌, ◌∙◌, ◌⊎◌, inl, inr, ⊎_elim, ℕ, suc, Bool, true, false, List, [], ◌∷◌, Option, Some, IsTrue, length, map, arith, refl, sym, subst}
-use Rattle.std.proofs.lemmas.Cmp.{nat_cmp_total}
-use Rattle.std.proofs.lemmas.Map.Keys.{sorted_from_strictly_increasing}
-use Rattle.std.proofs.lemmas.Map.Lookups.{exact_unsigned}
 use Rattle.std.specs.Prelude.{◌↔◌, Contains, slice_get}
 use Rattle.std.specs.List.{AllByRecursion, AllZip}
 use Rattle.std.specs.List.Sorted.{IsStrictlyIncreasing}
-use Rattle.std.specs.Ordering.{nat_cmp}
-use Rattle.dnsv_canonical.proofs.CanonicalLemmas.{IsMember, rising_unique, Contains-from_member, IsMember-from_contains}
+use Rattle.dnsv_canonical.proofs.CanonicalLemmas.{IsMember, Contains-from_member, IsMember-from_contains}
+use Rattle.dnsv_denial.proofs.lemmas.RisingLemmas.{one_rising}
 use Rattle.dnsv_zone_keys.specs.Vouchers.{IsFirstOf}
 
 -- ---- values
@@ -28,15 +25,6 @@ one_first {X = X} Such (each ∷ xs) a b (inr x) (inl y) = absurd (x.0 y.0)
 one_first {X = X} Such (each ∷ xs) a b (inr x) (inr y) = one_first Such xs a b x.1 y.1
 
 -- ---- rising lists
-
--- two rising lists with the same members
-pub one_rising : (xs ys : List ℕ) → IsStrictlyIncreasing xs → IsStrictlyIncreasing ys → ((n : ℕ) → Contains xs n → Contains ys n)
-    → ((n : ℕ) → Contains ys n → Contains xs n) → xs ≡ ys
-one_rising xs ys first second to from =
-    rising_unique nat_cmp nat_cmp_total exact_unsigned xs ys (sorted_from_strictly_increasing xs first)
-    (sorted_from_strictly_increasing ys second)
-    (λ n m. IsMember-from_contains ys n (to n (Contains-from_member xs n m)))
-    (λ n m. IsMember-from_contains xs n (from n (Contains-from_member ys n m)))
 
 -- two rising lists of those numbers that are such
 pub one_rising_of : (Such : ℕ → Type 0) (xs ys : List ℕ) → IsStrictlyIncreasing xs → IsStrictlyIncreasing ys
