@@ -1,34 +1,27 @@
 //! Why a verdict stands.
 
-pub mod at;
-pub mod derivation;
 mod end;
 pub mod explainer;
 mod failure;
-mod links;
-mod told;
-mod verdict;
-mod wildcard_cut;
 
 ghost use Rattle.std.specs.Prelude.{◌≡◌, [], IfOk};
 ghost use Rattle.dnsv_names.specs.Name.{Labels};
 ghost use Rattle.dnsv_chain.specs.Basis.{HasTrust, basis_by, basis_of};
 ghost use Rattle.dnsv_verdict.specs.Report.{IsKept, IsReport, Refuses, hashes_in};
 ghost use Rattle.dnsv_verdict.specs.Way.{IsVerdictOf};
-ghost use Rattle.dnsv_explain.specs.Explained.{explained_by};
-ghost use Rattle.dnsv_explain.specs.Explanation.{IsExplanation, IsExplanationOf, IsUnproved};
-ghost use Rattle.dnsv_explain.specs.SharedWays.{AreHopedWays};
+ghost use Rattle.dnsv_holding.specs.Explained.{explained_by};
+ghost use Rattle.dnsv_explain.specs.Explanation.{IsExplanation, IsExplanationOf};
+ghost use Rattle.dnsv_holding.specs.Holding.{IsUnproved};
+ghost use Rattle.dnsv_holding.specs.SharedWays.{AreHopedWays};
 
-use crate::explanation::at::At;
 use crate::explanation::end::{add_end, add_places_named};
 use crate::explanation::explainer::Explainer;
-use crate::explanation::failure::{add_failure, is_unproved};
-use crate::explanation::links::add_links;
-use crate::explanation::verdict::{add_verdict, is_settled};
+use crate::explanation::failure::add_failure;
 use bumpalo::Bump;
 use dnsv_canonical::{Capture, is_question};
 use dnsv_chain::Anchors;
 use dnsv_derivations::{Evidence, KeptWay};
+use dnsv_holding::{At, add_links, add_verdict, is_settled, is_unproved};
 use dnsv_lines::Line;
 use dnsv_names::{Name, RecordType};
 use dnsv_verdict::{Case, Judged, Report, VerdictError};

@@ -1,9 +1,8 @@
 //! Why a verdict stands: lines that each say a fact of the evidence.
 //!
-//! The lines are those of `dnsv_lines`; `dnsv_derivations` makes those of signatures, keys and denials.
+//! The lines are those of `dnsv_lines`; `dnsv_holding` makes those of what holds, and `dnsv_reasons` those of what fails.
 #![tactic(auto)]
 
-pub use explanation::derivation::{Derivation, Outcome};
 pub use explanation::explainer::Explainer;
 pub use explanation::{Explanation, explain};
 pub use laws::{
@@ -13,5 +12,4 @@ pub use laws::{
 };
 
 mod explanation;
-mod keys_in_question;
 mod laws;

@@ -4,9 +4,9 @@ use Rattle.dnsv_names.specs.Name.{Labels}
 use Rattle.dnsv_canonical.specs.Rrsets.{ReceivedRrset}
 use Rattle.dnsv_canonical.specs.declared.number.SignatureNumber.{SignatureNumber}
 use Rattle.dnsv_lines.specs.declared.line.Line.{Line}
-use Rattle.dnsv_explain.specs.Derived.{IsDerived}
-use Rattle.dnsv_explain.specs.declared.explanation.derivation.Outcome.{Outcome}
-use Rattle.dnsv_explain.specs.declared.explanation.derivation.Outcome.TheVariants as outcome
+use Rattle.dnsv_holding.specs.Derived.{IsDerived}
+use Rattle.dnsv_holding.specs.declared.derivation.Outcome.{Outcome}
+use Rattle.dnsv_holding.specs.declared.derivation.Outcome.TheVariants as outcome
 use Rattle.dnsv_chain.specs.Basis.{CaseContents, IsCaseOf, Basis, basis_of}
 use Rattle.dnsv_verifier.specs.Table.{TableContents}
 use Rattle.dnsv_verifier.specs.Within.{IsTableWithin}

@@ -6,7 +6,7 @@ use Rattle.dnsv_canonical.specs.Rrsets.{IsNumbered, ReceivedRrset}
 use Rattle.dnsv_canonical.specs.declared.number.SignatureNumber.{SignatureNumber}
 use Rattle.dnsv_timeline.specs.Dates.{times_of}
 use Rattle.dnsv_timeline.specs.declared.borders.DatedSignature.{DatedSignature}
-use Rattle.dnsv_explain.specs.Listing.{AreOfEach}
+use Rattle.dnsv_holding.specs.Listing.{AreOfEach}
 
 -- the signature with the number has these times
 pub record IsDated (rrsets : List ReceivedRrset) (number : SignatureNumber) (dated : DatedSignature) : Type 0 where

@@ -4,8 +4,8 @@ use Rattle.dnsv_names.specs.Name.{Labels}
 use Rattle.dnsv_canonical.specs.Rrsets.{ReceivedRrset}
 use Rattle.dnsv_verifier.specs.declared.answer.Answer.{Answer}
 use Rattle.dnsv_verifier.specs.declared.entry.Entry.{Entry}
-use Rattle.dnsv_explain.specs.declared.explanation.derivation.Outcome.{Outcome}
-use Rattle.dnsv_explain.specs.declared.explanation.derivation.Outcome.TheVariants as outcome
+use Rattle.dnsv_holding.specs.declared.derivation.Outcome.{Outcome}
+use Rattle.dnsv_holding.specs.declared.derivation.Outcome.TheVariants as outcome
 use Rattle.dnsv_texts.specs.declared.format.Format.{Format}
 use Rattle.dnsv_moments.specs.validity.Said.{IsSaidAt, Said, Told, told_refusal, told_verdict}
 use Rattle.dnsv_moments.specs.Moments.{IsSaidBy, MomentsContents, basis_with}

@@ -1,6 +1,6 @@
 //! What is said of a question at one moment.
 ghost use Rattle.std.specs.Prelude.{◌≡◌, ℕ, IfOk, IfSome, string_bytes};
-ghost use Rattle.dnsv_explain.specs.Derived.{IsDerived};
+ghost use Rattle.dnsv_holding.specs.Derived.{IsDerived};
 ghost use Rattle.dnsv_moments.specs.Moments.{IsOfEvidence};
 ghost use Rattle.dnsv_moments.specs.Saying.{IsSaidWithin, told_of};
 ghost use Rattle.dnsv_names.specs.Name.{Labels};
@@ -12,7 +12,7 @@ use crate::said::Said;
 use crate::shown::signatures_shown;
 use crate::validity::kind::{Kind, kind_of};
 use dnsv_canonical::Rrset;
-use dnsv_explain::{Derivation, Explainer, Outcome};
+use dnsv_holding::{Derivation, Deriver, Outcome};
 use dnsv_names::{Name, RecordType};
 use dnsv_texts::{Format, told_text};
 use std::alloc::{AllocError, Global};
@@ -23,7 +23,7 @@ use std::alloc::{AllocError, Global};
 pub(crate) fn said_at<'a>(
     alloc: Global,
     moments: &Moments<'a>,
-    before: &mut Option<Explainer<'a>>,
+    before: &mut Option<Deriver<'a>>,
     name: &Name,
     rtype: RecordType,
     format: Format,
@@ -33,12 +33,12 @@ pub(crate) fn said_at<'a>(
     ensures said { IfOk result (λ said. IsSaidWithin moments.now format name.now rtype.0 moment said) }
     ensures before { IfSome before.new (IsOfEvidence moments.now) }
 {
-    let mut explainer = moments.explainer_at(alloc, moment, before.take())?;
-    let Ok(derivation) = explainer.derive(alloc, name, rtype) else {
+    let mut deriver = moments.deriver_at(alloc, moment, before.take())?;
+    let Ok(derivation) = deriver.derive(alloc, name, rtype) else {
         return Err(AllocError);
     };
     let said = said_of(alloc, moments.capture().rrsets(), format, &derivation)?;
-    *before = Some(explainer);
+    *before = Some(deriver);
     Ok(said)
 }
 

@@ -12,7 +12,7 @@ ghost use Rattle.dnsv_verifier.specs.declared.entry.Entry.{Entry};
 use bumpalo::Bump;
 use dnsv_canonical::Capture;
 use dnsv_chain::Anchors;
-use dnsv_explain::Explainer;
+use dnsv_holding::Deriver;
 use dnsv_names::Count;
 use dnsv_timeline::Range;
 use dnsv_verdict::Case;
@@ -122,12 +122,12 @@ impl<'a> Moments<'a> {
 
     /// Who explains questions at the moment, or at the nearest one of the range. It goes on with the hashes for names of
     /// whoever explained at another moment.
-    pub(crate) fn explainer_at(
+    pub(crate) fn deriver_at(
         &self,
         alloc: Global,
         moment: u64,
-        before: Option<Explainer<'a>>,
-    ) -> Result<Explainer<'a>, AllocError>
+        before: Option<Deriver<'a>>,
+    ) -> Result<Deriver<'a>, AllocError>
         requires { IfSome before (IsOfEvidence self.now) }
         ensures case { (meaning : Entry → Answer) → IsSaidBy meaning self.now → self.now.from ≤ moment
             → moment ≤ self.now.to
@@ -137,25 +137,25 @@ impl<'a> Moments<'a> {
         let nearest = nearest(self.range, moment);
         let table = self.table.at(alloc, nearest)?;
         let case = Case::of(alloc, self.anchors, table)?;
-        let explainer = going_on(alloc, before, case)?;
-        Ok(explainer)
+        let deriver = going_on(alloc, before, case)?;
+        Ok(deriver)
     }
 }
 
-/// Who explains questions of the case, going on with what another explainer of the same evidence kept.
+/// What derives questions of the case, going on with what another deriver of the same evidence kept.
 fn going_on<'a>(
     alloc: Global,
-    before: Option<Explainer<'a>>,
+    before: Option<Deriver<'a>>,
     case: Case<'a>,
-) -> Result<Explainer<'a>, AllocError>
+) -> Result<Deriver<'a>, AllocError>
     requires case { (basis : Basis) × IsCaseOf basis case }
-    requires evidence { IfSome before (λ explainer. case.rrsets ≡ explainer.rrsets) }
-    ensures contents { IfOk result (λ explainer. explainer ≡ case.entry) }
+    requires evidence { IfSome before (λ deriver. case.rrsets ≡ deriver.rrsets) }
+    ensures contents { IfOk result (λ deriver. deriver ≡ case.entry) }
     ensures basis { (basis : Basis) → IsCaseOf basis case.entry → IfOk result (IsCaseOf basis) }
 {
     match before {
-        Some(explainer) => Ok(explainer.with_case(alloc, case)?),
-        None => Ok(Explainer::of(alloc, case)?),
+        Some(deriver) => Ok(deriver.with_case(alloc, case)?),
+        None => Ok(Deriver::of(alloc, case)?),
     }
 }
 

@@ -4,7 +4,7 @@ ghost use Rattle.std.specs.Prelude.{◌≡◌};
 use crate::judging::said_at;
 use crate::moments::Moments;
 use crate::said::Said;
-use dnsv_explain::Explainer;
+use dnsv_holding::Deriver;
 use dnsv_names::{Name, RecordType};
 use dnsv_texts::Format;
 use dnsv_timeline::Judge;
@@ -20,7 +20,7 @@ pub(crate) struct Sayer<'q, 'a> {
     format: Format,
     /// Who explained at the moment before. Its hashes for names serve at the next, since they depend on the evidence
     /// alone.
-    before: Option<Explainer<'a>>,
+    before: Option<Deriver<'a>>,
 }
 
 impl<'q, 'a> Model for Sayer<'q, 'a> {

@@ -1,7 +1,4 @@
 -- That what is told is told in one way.
-pub mod DerivationLemmas
 pub mod FailureLemmas
-pub mod FormLemmas
-pub mod PlaceLemmas
-pub mod ShownLemmas
+pub mod OneKeyLemmas
 pub mod WholeLemmas

@@ -1,4 +1,2 @@
 -- What is shown stands wherever the signatures count that are told of it.
-pub mod CutLemmas
-pub mod ToldLemmas
 pub mod WholeLemmas

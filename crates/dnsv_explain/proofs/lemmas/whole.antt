@@ -1,3 +1,4 @@
+-- That no line stands twice.
 pub mod DerivationLemmas
 pub mod FailureLemmas
 pub mod FreshLemmas

@@ -1,7 +1,7 @@
 //! The last lines of an explanation.
 ghost use Rattle.std.specs.Prelude.{◌≡◌, ◌++◌, [], OnOk, map};
 ghost use Rattle.dnsv_derivations.specs.Explained.{setting_in};
-ghost use Rattle.dnsv_explain.specs.Explanation.{IsEnd};
+ghost use Rattle.dnsv_holding.specs.Holding.{IsEnd};
 ghost use Rattle.dnsv_derivations.specs.Following.{EachFollows};
 ghost use Rattle.dnsv_derivations.specs.Places.{ArePlacesTold};
 ghost use Rattle.dnsv_derivations.specs.Saying.{Adds};

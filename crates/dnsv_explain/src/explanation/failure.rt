@@ -1,19 +1,18 @@
 //! What fails, where nothing is proved.
-ghost use Rattle.std.specs.Prelude.{◌≡◌, ◌↔◌, IfOk, IsTrue, OnOk};
+ghost use Rattle.std.specs.Prelude.{◌≡◌, IfOk, OnOk};
 ghost use Rattle.dnsv_reasons.specs.Failures.{AreFailures, asking_of};
 ghost use Rattle.dnsv_verdict.specs.Report.{hashed_in};
-ghost use Rattle.dnsv_explain.specs.At.{IsAt};
+ghost use Rattle.dnsv_holding.specs.At.{IsAt};
 ghost use Rattle.dnsv_derivations.specs.Explained.{setting_in};
-ghost use Rattle.dnsv_explain.specs.Explanation.{IsFailureTold, IsUnproved};
+ghost use Rattle.dnsv_explain.specs.Explanation.{IsFailureTold};
+ghost use Rattle.dnsv_holding.specs.Holding.{IsUnproved};
 ghost use Rattle.dnsv_derivations.specs.Saying.{Adds};
 
-use crate::explanation::at::At;
-use crate::keys_in_question::add_keys_in_question;
 use dnsv_derivations::Evidence;
+use dnsv_holding::{At, add_keys_in_question};
 use dnsv_lines::Line;
 use dnsv_names::RecordType;
 use dnsv_reasons::{CaseFacts, failures};
-use dnsv_verdict::Verdict;
 use std::alloc::{AllocError, Global};
 
 /// Adds what fails of the question, and the keys that this is a matter of.
@@ -46,20 +45,4 @@ fn failing(alloc: Global, at: &At<'_, '_>, rtype: RecordType) -> Result<Vec<Line
     let facts = CaseFacts::of(alloc, capture, case.anchors(), case.table(), case.trust())?;
     let denials = case.denials();
     failures(alloc, capture, denials, &facts, at.hashes, at.name, rtype)
-}
-
-/// Whether nothing is proved.
-pub fn is_unproved(verdict: &Verdict<'_>) -> bool
-    ensures { IsTrue result ↔ IsUnproved verdict.now }
-{
-    match verdict {
-        Verdict::SecureAnswer { .. } => false,
-        Verdict::SecureAlias { .. } => false,
-        Verdict::SecureNoName(_) => false,
-        Verdict::SecureNoData(_) => false,
-        Verdict::Insecure(_) => false,
-        Verdict::Pending(_) => false,
-        Verdict::Bogus => true,
-        Verdict::Indeterminate => true,
-    }
 }

@@ -12,7 +12,7 @@ use Rattle.dnsv_timeline.specs.declared.borders.Border.{Border}
 use Rattle.dnsv_timeline.specs.declared.borders.DatedSignature.{DatedSignature}
 use Rattle.dnsv_timeline.specs.declared.borders.Edge.{Edge}
 use Rattle.dnsv_timeline.specs.declared.borders.Edge.TheVariants.{Begins, Ends}
-use Rattle.dnsv_explain.specs.Listing.{AreOfEach}
+use Rattle.dnsv_holding.specs.Listing.{AreOfEach}
 use Rattle.dnsv_moments.specs.Dated.{AreDated}
 use Rattle.dnsv_moments.specs.declared.texts.shown.ShownBorder.{ShownBorder}
 

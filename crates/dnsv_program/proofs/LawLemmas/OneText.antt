@@ -20,7 +20,7 @@ use Rattle.dnsv_verdict.specs.Way.{IsVerdictOf}
 use Rattle.dnsv_verdict.specs.declared.link.Link.{Link}
 use Rattle.dnsv_verdict.specs.declared.report.Report.{Report}
 use Rattle.dnsv_verdict.specs.declared.verdict.Verdict.{Verdict}
-use Rattle.dnsv_explain.specs.Explained.{Explained}
+use Rattle.dnsv_holding.specs.Explained.{Explained}
 use Rattle.dnsv_explain.specs.Explanation.{IsExplanation, IsExplanationOf}
 use Rattle.dnsv_lines.specs.declared.line.Line.{Line}
 use Rattle.dnsv_commands.specs.declared.request.Form.{Form}

@@ -30,9 +30,10 @@ use Rattle.dnsv_derivations.proofs.lemmas.denials.PartLemmas.{zone_as}
 use Rattle.dnsv_derivations.proofs.lemmas.denials.StandingLemmas.{each_by}
 use Rattle.dnsv_derivations.proofs.lemmas.intervals.MomentLemmas.{first_or_behind}
 use Rattle.dnsv_lines.specs.declared.line.Line.{Line}
-use Rattle.dnsv_explain.specs.Explained.{basis_in}
-use Rattle.dnsv_explain.specs.Explanation.{IsEndTold, IsExplanation, IsFailureTold, IsHoldingTold, IsLinkTold, IsSetTold, IsSettledTold, IsVerdictTold, signature_of}
-use Rattle.dnsv_explain.specs.Explanation.IsSetTold.{as_owned, by_wildcard}
+use Rattle.dnsv_holding.specs.Explained.{basis_in}
+use Rattle.dnsv_holding.specs.Holding.{IsEndTold, IsHoldingTold, IsLinkTold, IsSetTold, IsSettledTold, IsVerdictTold, signature_of}
+use Rattle.dnsv_explain.specs.Explanation.{IsExplanation, IsFailureTold}
+use Rattle.dnsv_holding.specs.Holding.IsSetTold.{as_owned, by_wildcard}
 use Rattle.dnsv_explain.proofs.lemmas.stands.WholeLemmas.{links_secure}
 use Rattle.dnsv_rules.specs.Borne.{BearsOut, DeniesType, IsSetBorne}
 use Rattle.dnsv_rules.specs.Explained.{asked_by}

@@ -30,8 +30,8 @@ use Rattle.dnsv_lines.specs.declared.line.Line.TheVariants as line
 use Rattle.dnsv_lines.specs.declared.line.cut.Cut.{Cut}
 use Rattle.dnsv_lines.specs.declared.line.cut.InsecureCase.{InsecureCase}
 use Rattle.dnsv_lines.specs.declared.line.cut.InsecureCase.TheVariants as case
-use Rattle.dnsv_explain.specs.Explanation.{IsUnsignedFromTold}
-use Rattle.dnsv_explain.specs.Explanation.IsUnsignedFromTold.{by_cut, by_wildcard}
+use Rattle.dnsv_holding.specs.Holding.{IsUnsignedFromTold}
+use Rattle.dnsv_holding.specs.Holding.IsUnsignedFromTold.{by_cut, by_wildcard}
 use Rattle.dnsv_rules.specs.Borne.{HasCase}
 use Rattle.dnsv_rules.proofs.checks.TellLemmas.{AreWithin, within_back, within_front}
 

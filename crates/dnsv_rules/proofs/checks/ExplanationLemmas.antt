@@ -18,12 +18,13 @@ use Rattle.dnsv_derivations.specs.derivations.OwnDerivations.{IsSignatureTold}
 use Rattle.dnsv_derivations.specs.derivations.WaySearch.{AreKeysInOrder}
 use Rattle.dnsv_lines.specs.declared.line.Line.{Line}
 use Rattle.dnsv_lines.specs.declared.line.Line.TheVariants as line
-use Rattle.dnsv_explain.specs.Explained.{hoped}
-use Rattle.dnsv_explain.specs.Explanation.{IsEnd, IsEndTold, IsExplanation, IsFailureTold, IsHoldingTold, IsHopeTold, IsLinkTold, IsSetTold, IsSettledTold, IsVerdictTold, IsWayTold, asking_in, its_setting, signature_of}
-use Rattle.dnsv_explain.specs.Explanation.IsSetTold.{as_owned, by_wildcard}
-use Rattle.dnsv_explain.specs.KeyLines.{AreLinesOfKeysAsked, AreLinesOfSet, IsInQuestion, IsKeyLine}
-use Rattle.dnsv_explain.specs.Listing.{AreOfNumbered}
-use Rattle.dnsv_explain.proofs.lemmas.keys.EachLemmas.{Each, both_each, mapped_each, numbered_each, one_each, where_each}
+use Rattle.dnsv_holding.specs.Explained.{hoped}
+use Rattle.dnsv_holding.specs.Holding.{IsEnd, IsEndTold, IsHoldingTold, IsHopeTold, IsLinkTold, IsSetTold, IsSettledTold, IsVerdictTold, IsWayTold, its_setting, signature_of}
+use Rattle.dnsv_explain.specs.Explanation.{IsExplanation, IsFailureTold, asking_in}
+use Rattle.dnsv_holding.specs.Holding.IsSetTold.{as_owned, by_wildcard}
+use Rattle.dnsv_holding.specs.KeyLines.{AreLinesOfKeysAsked, AreLinesOfSet, IsInQuestion, IsKeyLine}
+use Rattle.dnsv_holding.specs.Listing.{AreOfNumbered}
+use Rattle.dnsv_holding.proofs.lemmas.keys.EachLemmas.{Each, both_each, mapped_each, numbered_each, one_each, where_each}
 use Rattle.dnsv_explain.proofs.lemmas.telling.ExplanationLemmas.{explanation_follows}
 use Rattle.dnsv_explain.proofs.lemmas.telling.QuietLemmas.{IsFault, failures_fault}
 use Rattle.dnsv_rules.specs.Checked.{Asked, Checks, IsOnWay, IsSoFor}

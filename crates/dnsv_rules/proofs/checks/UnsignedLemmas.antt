@@ -16,9 +16,9 @@ use Rattle.dnsv_lines.specs.declared.line.Line.{Line}
 use Rattle.dnsv_lines.specs.declared.line.Line.TheVariants as line
 use Rattle.dnsv_lines.specs.declared.line.cut.InsecureCase.{InsecureCase}
 use Rattle.dnsv_lines.specs.declared.line.cut.InsecureCase.TheVariants as case
-use Rattle.dnsv_explain.specs.Explanation.{IsUnsignedFromTold, signature_of}
-use Rattle.dnsv_explain.specs.Explanation.IsUnsignedFromTold.{by_cut, by_wildcard}
-use Rattle.dnsv_explain.proofs.lemmas.keys.EachLemmas.{Each, mapped_each, one_each}
+use Rattle.dnsv_holding.specs.Holding.{IsUnsignedFromTold, signature_of}
+use Rattle.dnsv_holding.specs.Holding.IsUnsignedFromTold.{by_cut, by_wildcard}
+use Rattle.dnsv_holding.proofs.lemmas.keys.EachLemmas.{Each, mapped_each, one_each}
 use Rattle.dnsv_rules.specs.Checked.{Asked}
 use Rattle.dnsv_rules.proofs.checks.DerivedLemmas.{signature_so}
 use Rattle.dnsv_rules.proofs.checks.ShownLemmas.{delegation_told, opt_out_told, out_closer_told}

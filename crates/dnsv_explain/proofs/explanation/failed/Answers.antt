@@ -1,6 +1,6 @@
 use Rattle.std.proofs.Common.{[]}
 use Rattle.dnsv_verdict.specs.Report.{hashes_in}
-use Rattle.dnsv_explain.proofs.lemmas.telling.TellLemmas.{last_hashed, todo_same}
+use Rattle.dnsv_holding.proofs.lemmas.telling.TellLemmas.{last_hashed, todo_same}
 use Rattle.dnsv_explain.proofs.lemmas.telling.WholeLemmas.{failed_ended, way_added}
 use Rattle.dnsv_explain.proofs.explanation.failed.Goals as goal
 

@@ -1,6 +1,6 @@
 use Rattle.std.proofs.Common.{[]}
 use Rattle.dnsv_lines.specs.declared.line.Line.TheVariants as line
-use Rattle.dnsv_explain.proofs.lemmas.telling.FollowingLemmas.{all_true, no_lines}
+use Rattle.dnsv_holding.proofs.lemmas.telling.FollowingLemmas.{all_true, no_lines}
 use Rattle.dnsv_derivations.proofs.lemmas.intervals.MomentLemmas.{all_shown_valid}
 use Rattle.dnsv_explain.proofs.laws.lines_that_follow_are_true.Goals as goal
 

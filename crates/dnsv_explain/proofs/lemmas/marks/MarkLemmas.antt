@@ -25,10 +25,11 @@ use Rattle.dnsv_verdict.specs.declared.report.Report.{Report}
 use Rattle.dnsv_verdict.specs.declared.verdict.Verdict.{Verdict}
 use Rattle.dnsv_verdict.specs.declared.verdict.Verdict.TheVariants.{SecureAnswer, SecureAlias, SecureNoName, SecureNoData, Insecure, Pending, Bogus, Indeterminate}
 use Rattle.dnsv_derivations.specs.Explained.{Explained, Setting, setting_in}
-use Rattle.dnsv_explain.specs.Explained.{hoped}
-use Rattle.dnsv_explain.specs.Explanation.{IsEndTold, IsExplanation, IsExplanationOf, IsHopeTold, IsLinkTold, IsSettledTold, IsVerdictTold, IsWayTold, signature_of, told_kind}
+use Rattle.dnsv_holding.specs.Explained.{hoped}
+use Rattle.dnsv_holding.specs.Holding.{IsEndTold, IsHopeTold, IsLinkTold, IsSettledTold, IsVerdictTold, IsWayTold, signature_of, told_kind}
+use Rattle.dnsv_explain.specs.Explanation.{IsExplanation, IsExplanationOf}
 use Rattle.dnsv_derivations.specs.Following.{EachFollows, IsSignatureSaid}
-use Rattle.dnsv_explain.specs.Marked.{AnswersMarked, IsMarked}
+use Rattle.dnsv_holding.specs.Marked.{AnswersMarked, IsMarked}
 use Rattle.dnsv_derivations.specs.Saying.{AreEach}
 use Rattle.dnsv_lines.specs.declared.line.Kind.{Kind}
 use Rattle.dnsv_lines.specs.declared.line.Kind.TheVariants as kind
@@ -36,12 +37,12 @@ use Rattle.dnsv_lines.specs.declared.line.Line.{Line}
 use Rattle.dnsv_lines.specs.declared.line.Line.TheVariants as line
 use Rattle.dnsv_lines.specs.declared.line.place.RrsetPlace.{RrsetPlace}
 use Rattle.dnsv_explain.proofs.lemmas.telling.ExplanationLemmas.{explanation_follows}
-use Rattle.dnsv_explain.proofs.lemmas.telling.FollowingLemmas.{all_true, no_lines, said_secured}
+use Rattle.dnsv_holding.proofs.lemmas.telling.FollowingLemmas.{all_true, no_lines, said_secured}
 use Rattle.dnsv_derivations.proofs.lemmas.intervals.MomentLemmas.{is_first}
-use Rattle.dnsv_explain.proofs.lemmas.marks.HopedLemmas.{IsIts, each_then, unknown_of}
-use Rattle.dnsv_explain.proofs.lemmas.marks.HopedLemmas.IsIts.{known, under_hope}
-use Rattle.dnsv_explain.proofs.lemmas.marks.LineLemmas.{IsLineOf, both, links_told, settled_told}
-use Rattle.dnsv_explain.proofs.lemmas.stands.ToldLemmas.{Lies, back, front}
+use Rattle.dnsv_holding.proofs.lemmas.marks.HopedLemmas.{DependsOnAsked, IsIts, each_then, unknown_of}
+use Rattle.dnsv_holding.proofs.lemmas.marks.HopedLemmas.IsIts.{known, under_hope}
+use Rattle.dnsv_holding.proofs.lemmas.marks.LineLemmas.{IsLineOf, both, links_told, settled_told}
+use Rattle.dnsv_holding.proofs.lemmas.stands.ToldLemmas.{Lies, back, front}
 use Rattle.dnsv_explain.proofs.lemmas.stands.WholeLemmas.{KeepsTrust, case_stands}
 
 -- ---- kinds
@@ -65,13 +66,6 @@ as_verdict basis name t (Pending entries) is = absurd is
 as_verdict basis name t Bogus is = absurd is
 as_verdict basis name t Indeterminate is = absurd is
 as_verdict basis name t verdict is = is
-
--- trust depends on what is asked
-abbrev pub DependsOnAsked : Type 0
-DependsOnAsked =
-    (first second : Entry → Answer) (moment : ℕ) (rrsets : List ReceivedRrset) (anchors : List Anchor)
-    → ((entry : Entry) → IsAsked moment rrsets entry → first entry ≡ second entry)
-    → (k s : ℕ) → IsSecured first moment rrsets anchors k s → IsSecured second moment rrsets anchors k s
 
 -- ---- the verdict
 

@@ -21,20 +21,21 @@ use Rattle.dnsv_verdict.specs.declared.link.Link.{Link}
 use Rattle.dnsv_verdict.specs.declared.verdict.Verdict.{Verdict}
 use Rattle.dnsv_verdict.specs.declared.verdict.Verdict.TheVariants.{SecureAnswer, SecureAlias, SecureNoName, SecureNoData, Insecure, Pending, Bogus, Indeterminate}
 use Rattle.dnsv_derivations.specs.Explained.{Explained, Setting, setting_in}
-use Rattle.dnsv_explain.specs.Explained.{basis_in}
-use Rattle.dnsv_explain.specs.Explanation.{IsEndTold, IsExplanation, IsHoldingTold, IsLinkTold, IsSettledTold, IsVerdictTold, IsWayTold, signature_of}
+use Rattle.dnsv_holding.specs.Explained.{basis_in}
+use Rattle.dnsv_holding.specs.Holding.{IsEndTold, IsHoldingTold, IsLinkTold, IsSettledTold, IsVerdictTold, IsWayTold, signature_of}
+use Rattle.dnsv_explain.specs.Explanation.{IsExplanation}
 use Rattle.dnsv_derivations.specs.Following.{EachFollows, IsSignatureSaid, at_moment}
 use Rattle.dnsv_derivations.specs.Saying.{AreEach}
 use Rattle.dnsv_derivations.specs.derivations.OwnDerivations.{SecuredIn}
 use Rattle.dnsv_derivations.specs.intervals.Holding.{AreShownValidAt}
 use Rattle.dnsv_lines.specs.declared.line.Line.{Line}
 use Rattle.dnsv_explain.proofs.lemmas.telling.ExplanationLemmas.{holding_follows}
-use Rattle.dnsv_explain.proofs.lemmas.telling.FollowingLemmas.{all_true, no_lines, said_secured}
-use Rattle.dnsv_explain.proofs.lemmas.telling.SecureLemmas.{settled_as}
+use Rattle.dnsv_holding.proofs.lemmas.telling.FollowingLemmas.{all_true, no_lines, said_secured}
+use Rattle.dnsv_holding.proofs.lemmas.telling.SecureLemmas.{settled_as}
 use Rattle.dnsv_explain.proofs.lemmas.telling.WholeLemmas.{in_setting}
 use Rattle.dnsv_derivations.proofs.lemmas.intervals.MomentLemmas.{first_or_behind, follow_at}
-use Rattle.dnsv_explain.proofs.lemmas.stands.CutLemmas.{unsigned_stands}
-use Rattle.dnsv_explain.proofs.lemmas.stands.ToldLemmas.{Lies, back, front, no_data_stands, no_name_stands, set_stands}
+use Rattle.dnsv_holding.proofs.lemmas.stands.CutLemmas.{unsigned_stands}
+use Rattle.dnsv_holding.proofs.lemmas.stands.ToldLemmas.{Lies, back, front, no_data_stands, no_name_stands, set_stands}
 
 module _ (setting : Setting) (T : ℕ → ℕ → Type 0) (all : List Line) (counts : (k s : ℕ) → IsSignatureSaid all (signature_of k s) → T k s) where
   pub case_stands : (name : Labels) (t : ℕ) (verdict : Verdict) (before lines : List Line) → Lies setting T all counts before lines

@@ -9,10 +9,11 @@ use Rattle.dnsv_verdict.specs.declared.verdict.Verdict.{Verdict}
 use Rattle.dnsv_verdict.specs.declared.verdict.Verdict.TheVariants.{SecureAnswer, SecureAlias, SecureNoName, SecureNoData, Insecure, Pending, Bogus, Indeterminate}
 use Rattle.dnsv_derivations.specs.Denials.IsShownBy.{no_name, no_data, no_closer, closer_opted_out}
 use Rattle.dnsv_derivations.specs.Explained.{Explained, Setting, setting_in}
-use Rattle.dnsv_explain.specs.Explained.{hoped}
-use Rattle.dnsv_explain.specs.Explanation.{IsEnd, IsEndTold, IsExplanation, IsFailureTold, IsHoldingTold, IsHopeTold, IsLinkTold, IsSetTold, IsSettledTold, IsUnsignedFromTold, IsVerdictTold, IsWayTold, its_setting, signature_of}
-use Rattle.dnsv_explain.specs.Explanation.IsSetTold.{as_owned, by_wildcard}
-use Rattle.dnsv_explain.specs.Explanation.IsUnsignedFromTold.{by_cut, by_wildcard as by_open_wildcard}
+use Rattle.dnsv_holding.specs.Explained.{hoped}
+use Rattle.dnsv_holding.specs.Holding.{IsEnd, IsEndTold, IsHoldingTold, IsHopeTold, IsLinkTold, IsSetTold, IsSettledTold, IsUnsignedFromTold, IsVerdictTold, IsWayTold, its_setting, signature_of}
+use Rattle.dnsv_explain.specs.Explanation.{IsExplanation, IsFailureTold}
+use Rattle.dnsv_holding.specs.Holding.IsSetTold.{as_owned, by_wildcard}
+use Rattle.dnsv_holding.specs.Holding.IsUnsignedFromTold.{by_cut, by_wildcard as by_open_wildcard}
 use Rattle.dnsv_derivations.specs.Following.{EachFollows, IsPlaceOf}
 use Rattle.dnsv_derivations.specs.Places.{ArePlacesOf, ArePlacesTold}
 use Rattle.dnsv_derivations.specs.Saying.{Adds, AreBoth, AreEach}
@@ -25,7 +26,7 @@ use Rattle.dnsv_canonical.specs.declared.number.SignatureNumber.{SignatureNumber
 use Rattle.dnsv_lines.specs.declared.line.place.RrsetPlace.{RrsetPlace}
 use Rattle.dnsv_explain.proofs.lemmas.telling.QuietLemmas.{failure_follows}
 use Rattle.dnsv_derivations.proofs.lemmas.derivations.HeldLemmas.{held_follows}
-use Rattle.dnsv_explain.proofs.lemmas.marks.HopeLemmas.{still_follow}
+use Rattle.dnsv_holding.proofs.lemmas.marks.HopeLemmas.{still_follow}
 use Rattle.dnsv_derivations.proofs.lemmas.denials.FollowLemmas.{behind, both_follow, denial_follows, each_follow, expanded_follows, first_of}
 use Rattle.dnsv_derivations.proofs.lemmas.derivations.DerivationLemmas.{derivation_follows}
 use Rattle.dnsv_derivations.proofs.lemmas.unsigned_cuts.CutFollowLemmas.{cut_follows}

@@ -7,13 +7,14 @@ use Rattle.dnsv_verdict.specs.declared.link.Link.{Link}
 use Rattle.dnsv_verdict.specs.declared.verdict.Verdict.{Verdict}
 use Rattle.dnsv_verdict.specs.declared.verdict.Verdict.TheVariants.{Pending, Bogus, Indeterminate}
 use Rattle.dnsv_derivations.specs.Explained.{Explained, setting_in}
-use Rattle.dnsv_explain.specs.Explained.{explained_by}
-use Rattle.dnsv_explain.specs.Explanation.{IsEnd, IsEndTold, IsExplanation, IsFailureTold, IsHoldingTold, IsLinkTold, IsUnproved, IsVerdictTold, IsWayTold, its_setting}
+use Rattle.dnsv_holding.specs.Explained.{explained_by}
+use Rattle.dnsv_holding.specs.Holding.{IsEnd, IsEndTold, IsHoldingTold, IsLinkTold, IsUnproved, IsVerdictTold, IsWayTold, its_setting}
+use Rattle.dnsv_explain.specs.Explanation.{IsExplanation, IsFailureTold}
 use Rattle.dnsv_derivations.specs.Following.{EachFollows}
 use Rattle.dnsv_derivations.specs.Places.{ArePlacesTold}
 use Rattle.dnsv_derivations.specs.Saying.{Adds, AreBoth, AreEach}
 use Rattle.dnsv_lines.specs.declared.line.Line.{Line}
-use Rattle.dnsv_explain.proofs.lemmas.telling.DerivedLemmas.{said_first}
+use Rattle.dnsv_holding.proofs.lemmas.telling.DerivedLemmas.{said_first}
 use Rattle.dnsv_explain.proofs.lemmas.telling.ExplanationLemmas.{way_follows}
 use Rattle.dnsv_derivations.proofs.lemmas.SayingLemmas.{both_added}
 

@@ -14,7 +14,7 @@ use Rattle.dnsv_lines.specs.declared.line.Line.TheVariants as line
 use Rattle.dnsv_canonical.specs.declared.number.SignatureNumber.{SignatureNumber}
 use Rattle.dnsv_lines.specs.declared.line.derivation.SignedRrset.{SignedRrset}
 use Rattle.dnsv_lines.specs.declared.line.derivation.TrustedKeys.{TrustedKeys}
-use Rattle.dnsv_explain.proofs.lemmas.MemberLemmas.{first_or_rest, none_in}
+use Rattle.dnsv_holding.proofs.lemmas.MemberLemmas.{first_or_rest, none_in}
 use Rattle.dnsv_derivations.proofs.lemmas.one.DerivationLemmas.{never_both, number_of, same_above}
 use Rattle.dnsv_derivations.proofs.lemmas.one.SignedLemmas.{one_keys}
 use Rattle.dnsv_derivations.proofs.lemmas.one.TrustedLemmas.{one_way}

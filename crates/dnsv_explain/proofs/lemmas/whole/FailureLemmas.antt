@@ -10,13 +10,13 @@ use Rattle.dnsv_canonical.specs.declared.number.RecordNumber.{RecordNumber}
 use Rattle.dnsv_derivations.specs.Explained.{Setting}
 use Rattle.dnsv_explain.specs.Explanation.{IsFailureTold, asking_in}
 use Rattle.dnsv_reasons.specs.laws.Once.{AreOnce}
-use Rattle.dnsv_explain.specs.KeyLines.{AreLinesOfKeysAsked, AreLinesOfSet, IsKeyLine}
-use Rattle.dnsv_explain.specs.Listing.{AreOfNumbered}
+use Rattle.dnsv_holding.specs.KeyLines.{AreLinesOfKeysAsked, AreLinesOfSet, IsKeyLine}
+use Rattle.dnsv_holding.specs.Listing.{AreOfNumbered}
 use Rattle.dnsv_lines.specs.declared.line.Line.{Line}
 use Rattle.dnsv_lines.specs.declared.line.Line.TheVariants as line
 use Rattle.dnsv_reasons.proofs.lemmas.OnceLemmas.{failures_differ}
 use Rattle.dnsv_reasons.specs.Failures.{AreFailures}
-use Rattle.dnsv_explain.proofs.lemmas.keys.EachLemmas.{Each, none_each, numbered_each, one_each}
+use Rattle.dnsv_holding.proofs.lemmas.keys.EachLemmas.{Each, none_each, numbered_each, one_each}
 use Rattle.dnsv_reasons.proofs.lemmas.FaultLemmas.{IsFault, failures_fault}
 use Rattle.dnsv_explain.proofs.lemmas.whole.FreshLemmas.{HaveKinds, kind}
 use Rattle.dnsv_explain.proofs.lemmas.whole.ListLemmas.{once_append, once_numbered, once_one}

@@ -6,7 +6,7 @@ use Rattle.dnsv_reasons.specs.laws.Once.{AreOnce}
 use Rattle.dnsv_derivations.specs.Saying.{AreBoth, AreEach, IsOnce}
 use Rattle.dnsv_lines.specs.declared.line.Line.{Line}
 use Rattle.dnsv_lines.specs.declared.line.Line.TheVariants as line
-use Rattle.dnsv_explain.proofs.lemmas.MemberLemmas.{first_or_rest, none_in}
+use Rattle.dnsv_holding.proofs.lemmas.MemberLemmas.{first_or_rest, none_in}
 use Rattle.dnsv_explain.proofs.lemmas.whole.ListLemmas.{once_append, once_one}
 
 -- ---- what kind of line it is

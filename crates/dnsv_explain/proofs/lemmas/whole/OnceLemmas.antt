@@ -8,8 +8,9 @@ use Rattle.dnsv_verdict.specs.declared.verdict.Verdict.TheVariants.{Pending, Bog
 use Rattle.dnsv_verifier.proofs.NumberLemmas.{contains_from_map}
 use Rattle.dnsv_verifier.specs.declared.entry.Entry.{Entry}
 use Rattle.dnsv_derivations.specs.Explained.{Explained, Setting, setting_in}
-use Rattle.dnsv_explain.specs.Explained.{hoped}
-use Rattle.dnsv_explain.specs.Explanation.{IsEnd, IsExplanation, IsFailureTold, IsHopeTold, IsLinkTold, IsSettledTold}
+use Rattle.dnsv_holding.specs.Explained.{hoped}
+use Rattle.dnsv_holding.specs.Holding.{IsEnd, IsHopeTold, IsLinkTold, IsSettledTold}
+use Rattle.dnsv_explain.specs.Explanation.{IsExplanation, IsFailureTold}
 use Rattle.dnsv_reasons.specs.laws.Once.{AreOnce}
 use Rattle.dnsv_derivations.specs.Places.{ArePlacesOf, ArePlacesTold}
 use Rattle.dnsv_derivations.specs.Saying.{AreBoth, AreEach}
@@ -17,7 +18,7 @@ use Rattle.dnsv_derivations.specs.derivations.HeldTo.{IsHeldTo}
 use Rattle.dnsv_lines.specs.declared.line.Line.{Line}
 use Rattle.dnsv_lines.specs.declared.line.Line.TheVariants as line
 use Rattle.dnsv_lines.specs.declared.line.place.RrsetPlace.{RrsetPlace}
-use Rattle.dnsv_explain.proofs.lemmas.MemberLemmas.{none_in}
+use Rattle.dnsv_holding.proofs.lemmas.MemberLemmas.{none_in}
 use Rattle.dnsv_explain.proofs.lemmas.whole.DerivationLemmas.{IsBasic}
 use Rattle.dnsv_explain.proofs.lemmas.whole.FailureLemmas.{failure_kinds, failure_once}
 use Rattle.dnsv_explain.proofs.lemmas.whole.FreshLemmas.{HaveKinds, IsFresh, Lack, append_fresh, both_fresh, kind, kinds_append, kinds_one, lacks, one_fresh, weaker}

@@ -8,14 +8,15 @@ use Rattle.dnsv_verdict.specs.declared.verdict.Verdict.{Verdict}
 use Rattle.dnsv_verdict.specs.declared.verdict.Verdict.TheVariants.{Pending, Bogus, Indeterminate}
 use Rattle.dnsv_verifier.specs.declared.entry.Entry.{Entry}
 use Rattle.dnsv_derivations.specs.Explained.{Explained, Setting, setting_in}
-use Rattle.dnsv_explain.specs.Explained.{hoped}
-use Rattle.dnsv_explain.specs.Explanation.{IsEnd, IsExplanation, IsHopeTold, IsLinkTold, IsSettledTold, IsUnproved}
+use Rattle.dnsv_holding.specs.Explained.{hoped}
+use Rattle.dnsv_holding.specs.Holding.{IsEnd, IsHopeTold, IsLinkTold, IsSettledTold, IsUnproved}
+use Rattle.dnsv_explain.specs.Explanation.{IsExplanation}
 use Rattle.dnsv_derivations.specs.Places.{ArePlacesTold}
 use Rattle.dnsv_derivations.specs.Saying.{AreBoth, AreEach}
 use Rattle.dnsv_lines.specs.declared.line.Line.{Line}
 use Rattle.dnsv_lines.specs.declared.line.Line.TheVariants as line
 use Rattle.dnsv_lines.specs.declared.line.place.RrsetPlace.{RrsetPlace}
-use Rattle.dnsv_explain.proofs.lemmas.marks.LineLemmas.{IsLineOf, both, links_told, settled_told}
+use Rattle.dnsv_holding.proofs.lemmas.marks.LineLemmas.{IsLineOf, both, links_told, settled_told}
 
 abbrev Every : Setting → Type 0
 Every setting = Unit {0}

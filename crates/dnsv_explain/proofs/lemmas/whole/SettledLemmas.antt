@@ -18,9 +18,9 @@ use Rattle.dnsv_verdict.specs.declared.verdict.Verdict.{Verdict}
 use Rattle.dnsv_verdict.specs.declared.verdict.Verdict.TheVariants.{SecureAnswer, SecureAlias, SecureNoName, SecureNoData, Insecure}
 use Rattle.dnsv_derivations.specs.Denials.{IsCaseFor, IsDenialTold, IsPartSaid, IsPartTold, IsProofOf, IsProofSaid, IsProofTold, IsProofWithParts, SameEncloser, told_case, told_form}
 use Rattle.dnsv_derivations.specs.Explained.{Setting}
-use Rattle.dnsv_explain.specs.Explanation.{IsLinkTold, IsSetTold, IsSettledTold, IsUnsignedFromTold, signature_of}
-use Rattle.dnsv_explain.specs.Explanation.IsSetTold.{as_owned, by_wildcard}
-use Rattle.dnsv_explain.specs.Explanation.IsUnsignedFromTold.{by_cut, by_wildcard as loosely}
+use Rattle.dnsv_holding.specs.Holding.{IsLinkTold, IsSetTold, IsSettledTold, IsUnsignedFromTold, signature_of}
+use Rattle.dnsv_holding.specs.Holding.IsSetTold.{as_owned, by_wildcard}
+use Rattle.dnsv_holding.specs.Holding.IsUnsignedFromTold.{by_cut, by_wildcard as loosely}
 use Rattle.dnsv_reasons.specs.laws.Once.{AreOnce}
 use Rattle.dnsv_derivations.specs.Saying.{AreBoth, AreEach}
 use Rattle.dnsv_derivations.specs.derivations.Derivations.Subject.{keys, signature}
@@ -37,7 +37,7 @@ use Rattle.dnsv_lines.specs.declared.line.cut.UnusableDs.{UnusableDs}
 use Rattle.dnsv_lines.specs.declared.line.denial.Form.{Form}
 use Rattle.dnsv_canonical.specs.declared.number.SignatureNumber.{SignatureNumber}
 use Rattle.dnsv_derivations.proofs.lemmas.unsigned_cuts.CutLemmas.{no_closer_case, no_data_case, no_name_case}
-use Rattle.dnsv_explain.proofs.lemmas.MemberLemmas.{first_or_rest, none_in}
+use Rattle.dnsv_holding.proofs.lemmas.MemberLemmas.{first_or_rest, none_in}
 use Rattle.dnsv_explain.proofs.lemmas.whole.DerivationLemmas.{IsBasic, derivation_fresh}
 use Rattle.dnsv_explain.proofs.lemmas.whole.FreshLemmas.{HaveKinds, IsFresh, Lack, both_fresh, each_fresh, kind, kinds_append, kinds_one, lacks, none_fresh, once_fresh, one_fresh, weaker}
 

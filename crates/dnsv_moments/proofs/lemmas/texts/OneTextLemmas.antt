@@ -11,8 +11,8 @@ use Rattle.dnsv_timeline.specs.declared.borders.DatedSignature.{DatedSignature}
 use Rattle.dnsv_timeline.specs.declared.stretch.Stretch.{Stretch}
 use Rattle.dnsv_texts.specs.declared.format.Format.{Format}
 use Rattle.dnsv_derivations.proofs.lemmas.one.TrustedLemmas.{one_signature_at}
-use Rattle.dnsv_explain.proofs.lemmas.keys.OneListLemmas.{IsOneList, one_of_each}
-use Rattle.dnsv_explain.specs.Listing.{AreOfEach}
+use Rattle.dnsv_holding.proofs.lemmas.keys.OneListLemmas.{IsOneList, one_of_each}
+use Rattle.dnsv_holding.specs.Listing.{AreOfEach}
 use Rattle.dnsv_moments.specs.validity.Said.{Said}
 use Rattle.dnsv_moments.proofs.DatedLemmas.{one_dated}
 use Rattle.dnsv_moments.specs.texts.Pieces.{ArePieces, GoOn, Piece, begun, longer}

@@ -24,8 +24,8 @@ use Rattle.dnsv_timeline.specs.declared.times.Times.{Times}
 use Rattle.dnsv_moments.proofs.lemmas.validity.MomentLemmas.{refused_to, same_by_times, verdict_of_to}
 use Rattle.dnsv_moments.proofs.lemmas.validity.ToldLemmas.{derivation_of, links_derived}
 use Rattle.dnsv_moments.specs.validity.Said.{AreShownIn, IsRefusalSaid, IsSaid, IsSaidAt, IsVerdictSaid, Said, signature_cmp, told_refusal, told_verdict}
-use Rattle.dnsv_explain.proofs.lemmas.one.DerivationLemmas.{one_derivation, one_links_derived}
-use Rattle.dnsv_explain.specs.Derived.{AreLinksDerived, IsDerivationOf, alias_of}
+use Rattle.dnsv_holding.proofs.lemmas.one.DerivationLemmas.{one_derivation, one_links_derived}
+use Rattle.dnsv_holding.specs.Derived.{AreLinksDerived, IsDerivationOf, alias_of}
 use Rattle.dnsv_moments.specs.validity.Said.IsSaid.{a_refusal, a_verdict}
 use Rattle.dnsv_moments.specs.validity.SameValid.{AreSignaturesSameValid, HaveTimes, at_moment}
 use Rattle.dnsv_texts.specs.declared.format.Format.{Format}

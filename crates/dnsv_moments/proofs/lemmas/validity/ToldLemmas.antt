@@ -23,13 +23,13 @@ use Rattle.dnsv_derivations.specs.unsigned_cuts.UnsignedCuts.{AreAllTold, IsCase
 use Rattle.dnsv_lines.specs.declared.line.Line.{Line}
 use Rattle.dnsv_lines.specs.declared.line.Line.TheVariants as line
 use Rattle.dnsv_lines.specs.declared.line.cut.InsecureCase.TheVariants as case
-use Rattle.dnsv_explain.specs.Explained.{basis_in, hoped}
-use Rattle.dnsv_explain.specs.Explanation.{IsHopeTold, IsLinkTold, IsNoDataTold, IsNoNameTold, IsSetTold, IsSettledTold, IsUnsignedFromTold, IsVerdictTold, signature_of}
-use Rattle.dnsv_explain.specs.Explanation.IsSetTold.{as_owned, by_wildcard}
-use Rattle.dnsv_explain.specs.Explanation.IsUnsignedFromTold.{by_cut, by_wildcard as loosely}
+use Rattle.dnsv_holding.specs.Explained.{basis_in, hoped}
+use Rattle.dnsv_holding.specs.Holding.{IsHopeTold, IsLinkTold, IsNoDataTold, IsNoNameTold, IsSetTold, IsSettledTold, IsUnsignedFromTold, IsVerdictTold, signature_of}
+use Rattle.dnsv_holding.specs.Holding.IsSetTold.{as_owned, by_wildcard}
+use Rattle.dnsv_holding.specs.Holding.IsUnsignedFromTold.{by_cut, by_wildcard as loosely}
 use Rattle.dnsv_moments.proofs.lemmas.validity.DerivationLemmas.{both_too, each_too, has_secured, lowest_secured, records_derived, setting_at, signature_told, trust_too}
 use Rattle.dnsv_moments.proofs.lemmas.validity.MomentLemmas.{StayValid, asked_at, settled_as}
-use Rattle.dnsv_explain.specs.Derived.{AreLinksDerived, AreLinksTold, IsDerivationOf, IsDerivationTold, explained_with}
+use Rattle.dnsv_holding.specs.Derived.{AreLinksDerived, AreLinksTold, IsDerivationOf, IsDerivationTold, explained_with}
 use Rattle.dnsv_moments.specs.validity.SameValid.{AreSignaturesSameValid, at_moment}
 
 module _ (rrsets : List ReceivedRrset) (anchors : List Anchor) (meaning : Entry → Answer) (todo : List Entry) (moment other : ℕ)

@@ -1,7 +1,0 @@
--- The keys that what fails is a matter of, by numbers.
-pub mod EachLemmas
-pub mod ListingLemmas
-pub mod LowestLemmas
-pub mod OneKeyLemmas
-pub mod OneListLemmas
-pub mod ShownKeyLemmas

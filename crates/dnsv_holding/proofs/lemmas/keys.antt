@@ -1,0 +1,6 @@
+-- The keys that what fails is a matter of, by numbers.
+pub mod EachLemmas
+pub mod ListingLemmas
+pub mod LowestLemmas
+pub mod OneListLemmas
+pub mod ShownKeyLemmas

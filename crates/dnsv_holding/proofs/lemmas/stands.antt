@@ -1,0 +1,3 @@
+-- What is shown stands wherever the signatures count that are told of it.
+pub mod CutLemmas
+pub mod ToldLemmas

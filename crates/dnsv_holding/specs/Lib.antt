@@ -1,0 +1,9 @@
+pub mod At
+pub mod Derived
+pub mod Explained
+pub mod Holding
+pub mod KeyLines
+pub mod Listing
+pub mod Marked
+pub mod OnWay
+pub mod SharedWays
