@@ -255,7 +255,7 @@ fn is_better(price: Price, best: &Option<Remedy>) -> bool
 }
 
 /// Whether there are none.
-#[tactic(auto, using(crate::proofs::Lists::none_by_length))]
+#[tactic(auto, using(dnsv_mending::proofs::Lists::none_by_length))]
 pub fn is_none<T>(things: &[T]) -> bool
     ensures { result ≡ mending.is_none things.now }
 {
