@@ -1,4 +1,5 @@
 -- Each explanation checks.
+pub mod DenyLemmas
 pub mod DerivedLemmas
 pub mod ExplanationLemmas
 pub mod FormLemmas

@@ -9,10 +9,11 @@ use Rattle.dnsv_names.specs.Tree.{wildcard_of}
 use Rattle.dnsv_zones.specs.forms.Forms.{EmptyForm, EmptyWildcardForm, NoCloserForm, NoDataForm, NoNameForm, NoWildcardDataForm}
 use Rattle.dnsv_zones.specs.forms.Parts.{OptsOut, OptsOutNextCloser}
 use Rattle.dnsv_zones.specs.forms.RecordWords.{RecordWords, words}
+use Rattle.dnsv_zones.specs.zones.Types.{Denies}
 use Rattle.dnsv_canonical.specs.Rrsets.{ReceivedRrset}
 use Rattle.dnsv_canonical.specs.declared.number.RecordNumber.{RecordNumber}
 use Rattle.dnsv_denial.specs.words.EvidenceWords.{Chain}
-use Rattle.dnsv_derivations.specs.Denials.{SameEncloser}
+use Rattle.dnsv_derivations.specs.Denials.{SameEncloser, number_told}
 use Rattle.dnsv_derivations.specs.Explained.{Setting}
 use Rattle.dnsv_derivations.specs.Following.{EachFollows}
 use Rattle.dnsv_derivations.specs.Following.Parts.{IsOfKind}
@@ -20,7 +21,10 @@ use Rattle.dnsv_lines.specs.declared.line.Line.{Line}
 use Rattle.dnsv_lines.specs.declared.line.Line.TheVariants as line
 use Rattle.dnsv_lines.specs.declared.line.denial.Form.{Form}
 use Rattle.dnsv_lines.specs.declared.line.denial.Form.TheVariants as form
+use Rattle.dnsv_lines.specs.declared.line.denial.Part.{Part}
 use Rattle.dnsv_lines.specs.declared.line.denial.Proof.{Proof}
+use Rattle.dnsv_lines.specs.declared.line.denial.Relation.{Relation}
+use Rattle.dnsv_lines.specs.declared.line.denial.Relation.TheVariants as relation
 use Rattle.dnsv_lines.specs.declared.line.denial.Role.{Role}
 use Rattle.dnsv_lines.specs.declared.line.denial.Role.TheVariants as role
 use Rattle.dnsv_rules.specs.Told.{shown_said, told_words}
@@ -84,12 +88,29 @@ IsNameFor question role.Wildcard name =
 IsNameFor question role.Name name = SameName name question
 IsNameFor question role.Cut name = IsAtOrBelow question name
 
--- What the line says of the question is so by the lines of the text: a proof stands, a part is of a name of the way, and
--- from the name of a case on the name at the way's end may be unsigned.
+-- The record of the part denies the type asked at the part's name. It is one of a chain of some zone, of which lines show
+-- a signature of the zone to be good.
+pub record DeniesAsked (rrsets : List ReceivedRrset) (asked : Asked) (lines : List Line) (part : Part) : Type 0 where
+  pub zone : Labels
+  pub chain : Chain
+  pub number : RecordNumber
+  pub is_by : number_told part.by ≡ Some number
+  pub denies : (shown_said rrsets lines zone chain).TypesAt part.name (λ has. Denies has asked.rtype) number
+
+-- What is asked of a record that is matched with the name itself or with the wildcard (RFC 4035 5.4, RFC 5155 8.5, 8.7).
+-- One that is matched with a closest encloser or a delegation says nothing of the type.
+abbrev pub DeniesIf : Role → Relation → Type 0 → Type 0
+DeniesIf role.Name relation.Matched Denied = Denied
+DeniesIf role.Wildcard relation.Matched Denied = Denied
+DeniesIf _ _ Denied = Unit {0}
+
+-- What the line says of the question is so by the lines of the text: a proof stands, a part is of a name of the way and
+-- denies the type asked where it says so, and from the name of a case on the name at the way's end may be unsigned.
 abbrev pub IsSoFor : List ReceivedRrset → Asked → List Line → Line → Type 0
 IsSoFor rrsets asked lines (line.Proof proof) = IsProvedBy rrsets asked lines proof
 IsSoFor rrsets asked lines (line.Part part) =
     (name : Labels) × IsOnWay asked name × IsNameFor name part.role part.name
+    × DeniesIf part.role part.relation (DeniesAsked rrsets asked lines part)
 IsSoFor rrsets asked lines (line.Case cut) = IsAtOrBelow asked.name cut.name
 IsSoFor rrsets asked lines _ = Unit {0}
 

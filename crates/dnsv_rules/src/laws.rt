@@ -20,7 +20,7 @@ ghost use Rattle.dnsv_verdict.specs.Way.{IsVerdictOf};
 ghost use Rattle.dnsv_verdict.specs.declared.link.Link.{Link};
 
 use dnsv_canonical::RecordNumber;
-use dnsv_lines::{Form, Line, Part, Proof, Relation, SignedRrset};
+use dnsv_lines::{Form, Line, Part, Proof, Relation, Role, SignedRrset};
 use dnsv_verdict::Verdict;
 
 /// Of a text that checks each proof is true: it rests on records of one chain of its zone, which the text shows to be
@@ -104,4 +104,16 @@ pub fn a_record_that_holds_the_type_denies_nothing()
         → ((part : Part) (number : RecordNumber) → Contains lines (Line.Part part) → part.relation ≡ Relation.Matched
         → SameName part.name asked.name → number_told part.by ≡ Some number
         → HoldsType setting.rrsets number asked.rtype) → ¬ Checks setting asked lines }
+{}
+
+/// Nor where a part alone matches the name, or the wildcard, with a record that holds the type.
+pub fn a_part_that_matches_denies_the_type()
+    ensures name { (setting : Setting) (asked : Asked) (lines : List Line) (part : Part) (number : RecordNumber)
+        → Checks setting asked lines → Contains lines (Line.Part part) → part.relation ≡ Relation.Matched
+        → part.role ≡ Role.Name → number_told part.by ≡ Some number
+        → ¬ HoldsType setting.rrsets number asked.rtype }
+    ensures wildcard { (setting : Setting) (asked : Asked) (lines : List Line) (part : Part) (number : RecordNumber)
+        → Checks setting asked lines → Contains lines (Line.Part part) → part.relation ≡ Relation.Matched
+        → part.role ≡ Role.Wildcard → number_told part.by ≡ Some number
+        → ¬ HoldsType setting.rrsets number asked.rtype }
 {}

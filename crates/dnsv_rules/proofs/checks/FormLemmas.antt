@@ -91,11 +91,17 @@ module _ (S : ℕ → ℕ → Type 0) (rrsets : List ReceivedRrset) (lines : Lis
     out_told of number counts said tells =
         (word_by S rrsets apex number (IsShownGood lines) counts chain role.NextCloser relation.OptOut of said, tells)
 
+  -- a record of which lines show a signature to be good denies the type as it did
+  pub types_own : (chain : Chain) (t : ℕ) (of : Labels) (number : RecordNumber) → Counts number
+      → (evidence_said S rrsets apex chain).TypesAt of (λ has. Denies has t) number
+      → (shown_said rrsets lines apex chain).TypesAt of (λ has. Denies has t) number
+  types_own ByNsec t of number counts said = nsec_by S rrsets apex number (IsShownGood lines) counts _ said
+  types_own (ByNsec3 parameters) t of number counts said = nsec3_by S rrsets apex number (IsShownGood lines) counts _ said
+
   types_told : (chain : Chain) (t : ℕ) (of : Labels) (number : RecordNumber) → Counts number
       → (evidence_said S rrsets apex chain).TypesAt of (λ has. Denies has t) number → IsTold lines relation.Matched of (Some number)
       → (told chain).TypesAt of (λ has. Denies has t) number
-  types_told ByNsec t of number counts said tells = (nsec_by S rrsets apex number (IsShownGood lines) counts _ said, tells)
-  types_told (ByNsec3 parameters) t of number counts said tells = (nsec3_by S rrsets apex number (IsShownGood lines) counts _ said, tells)
+  types_told chain t of number counts said tells = (types_own chain t of number counts said, tells)
 
   encloser_told : (chain : Chain) (labels : ℕ) (by : Option RecordNumber) → CountsIf by
       → ShowsEncloser number_cmp (evidence_said S rrsets apex chain) (rightmost name labels) by
@@ -135,7 +141,7 @@ module _ (S : ℕ → ℕ → Type 0) (rrsets : List ReceivedRrset) (lines : Lis
         );
       }
 
-  last_counts : (parts : WildcardParts RecordNumber) → AllByRecursion Counts (wildcard_records parts) → Counts parts.wildcard
+  pub last_counts : (parts : WildcardParts RecordNumber) → AllByRecursion Counts (wildcard_records parts) → Counts parts.wildcard
   last_counts parts counts = (split parts.encloser parts.next_closer parts.wildcard counts).2
 
   module _ (aliases : List Labels) (t : ℕ) where

@@ -28,6 +28,7 @@ use Rattle.dnsv_derivations.proofs.lemmas.unsigned_cuts.CutLemmas.{closer_above,
 use Rattle.dnsv_lines.specs.declared.line.Line.{Line}
 use Rattle.dnsv_rules.specs.Checked.{Asked, IsOnWay}
 use Rattle.dnsv_rules.specs.Told.{IsShownGood}
+use Rattle.dnsv_rules.proofs.checks.DenyLemmas.{delegation_denies, no_closer_denies, no_data_denies, no_name_denies, opt_out_denies, out_closer_denies}
 use Rattle.dnsv_rules.proofs.checks.FormLemmas.{Counts, delegation_stands, no_closer_stands, no_data_stands, no_name_stands, opt_out_stands, out_closer_stands}
 use Rattle.dnsv_rules.proofs.checks.StepLemmas.{Tellable}
 
@@ -68,6 +69,7 @@ module _ (setting : Setting) (trust : KeptTrust) (good : IsTrustIn setting trust
       stands = λ own tells.
           no_name_stands Kept setting.rrsets all shown.proof.zone name aliases t is.chain shown.form
           (each_by (Counts Kept setting.rrsets all shown.proof.zone name) (form_records shown.form) own) tells is.shows;
+      denies = λ own. no_name_denies Kept setting.rrsets all shown.proof.zone name here is.chain shown.proof.zone shown.form is.shows;
     }
 
     pub no_data_told : IsShownNoData Kept setting.rrsets name t shown → Tells
@@ -80,6 +82,9 @@ module _ (setting : Setting) (trust : KeptTrust) (good : IsTrustIn setting trust
       stands = λ own tells.
           no_data_stands Kept setting.rrsets all shown.proof.zone name aliases t is.chain shown.form
           (each_by (Counts Kept setting.rrsets all shown.proof.zone name) (form_records shown.form) own) tells is.shows;
+      denies = λ own.
+          no_data_denies Kept setting.rrsets all shown.proof.zone name here is.chain shown.form
+          (each_by (Counts Kept setting.rrsets all shown.proof.zone name) (form_records shown.form) own) is.shows;
     }
 
     pub delegation_told : (labels : ℕ) → IsFirstShown Kept setting.rrsets name (λ said zone. IsDelegationAt said zone name labels)
@@ -91,6 +96,7 @@ module _ (setting : Setting) (trust : KeptTrust) (good : IsTrustIn setting trust
       listed = λ number there. (is.records.members number).1 there;
       fits = parts_fit name shown (no_ds labels is);
       stands = λ own tells. delegation_stands Kept setting.rrsets all shown.proof.zone name aliases t is.chain labels shown.form is.shows;
+      denies = λ own. delegation_denies Kept setting.rrsets all shown.proof.zone name here is.chain shown.proof.zone labels shown.form is.shows;
     }
 
     pub opt_out_told : (labels : ℕ) → IsFirstShown Kept setting.rrsets name (λ said zone. OptsOut said zone name labels)
@@ -104,6 +110,7 @@ module _ (setting : Setting) (trust : KeptTrust) (good : IsTrustIn setting trust
       stands = λ own tells.
           opt_out_stands Kept setting.rrsets all shown.proof.zone name aliases t is.chain labels shown.form
           (each_by (Counts Kept setting.rrsets all shown.proof.zone name) (form_records shown.form) own) tells is.shows;
+      denies = λ own. opt_out_denies Kept setting.rrsets all shown.proof.zone name here is.chain shown.proof.zone labels shown.form is.shows;
     }
 
     pub out_closer_told : (labels : ℕ) (zone : Labels) → IsShownOptOutCloser Kept setting.rrsets name labels zone shown → Tells
@@ -121,6 +128,7 @@ module _ (setting : Setting) (trust : KeptTrust) (good : IsTrustIn setting trust
               (each_by (Counts Kept setting.rrsets all zone name) (form_records shown.form)
               (λ number there.
               zone_as (IsShownGood all) setting.rrsets shown.proof.zone zone number.rrset (sym same) (own number there))) tells is.shows;
+          denies = λ own. out_closer_denies Kept setting.rrsets all shown.proof.zone name here is.chain zone labels shown.form is.shows;
         }
 
   -- ---- of any name of the way
@@ -140,4 +148,5 @@ module _ (setting : Setting) (trust : KeptTrust) (good : IsTrustIn setting trust
             (each_by (Counts Kept setting.rrsets all zone name) (form_records shown.form)
             (λ number there.
             zone_as (IsShownGood all) setting.rrsets shown.proof.zone zone number.rrset (sym same) (own number there))) tells is.shows;
+        denies = λ own. no_closer_denies Kept setting.rrsets all shown.proof.zone name asked is.chain zone labels shown.form is.shows;
       }

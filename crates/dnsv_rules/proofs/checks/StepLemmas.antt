@@ -5,6 +5,7 @@ use Rattle.std.specs.Option.{option_map}
 use Rattle.dnsv_names.specs.Name.{IsAtOrBelow, Labels, rightmost}
 use Rattle.dnsv_names.specs.Tree.AncestorLaws.{rightmost_above, rightmost_below}
 use Rattle.dnsv_canonical.specs.declared.number.RecordNumber.{RecordNumber}
+use Rattle.dnsv_zones.specs.zones.Types.{Denies}
 use Rattle.dnsv_denial.specs.forms.ProofForms.{form_encloser, form_records}
 use Rattle.dnsv_denial.specs.proving.ProofParts.{IsPartName, form_parts, part_name}
 use Rattle.dnsv_denial.specs.proving.ShownDenials.{kind_of}
@@ -17,11 +18,12 @@ use Rattle.dnsv_denial.specs.declared.proving.proof_part.PartName.TheVariants as
 use Rattle.dnsv_denial.specs.declared.proving.proof_part.ProofPart.{ProofPart}
 use Rattle.dnsv_denial.specs.declared.proving.shown_denial.ShownDenial.{ShownDenial}
 use Rattle.dnsv_denial.specs.declared.records.chain_kind.ChainKind.{ChainKind}
-use Rattle.dnsv_derivations.specs.Denials.{IsCaseFor, IsDenialTold, IsPartSaid, IsPartTold, IsProofLine, IsProofOf, IsProofSaid, IsProofTold, IsProofWithParts, told_case, told_chain, told_form, told_role}
+use Rattle.dnsv_derivations.specs.Denials.{IsCaseFor, IsDenialTold, IsPartSaid, IsPartTold, IsProofLine, IsProofOf, IsProofSaid, IsProofTold, IsProofWithParts, told_case, told_chain, told_form, told_relation, told_role}
 use Rattle.dnsv_derivations.specs.Explained.{Setting}
 use Rattle.dnsv_derivations.specs.Following.Parts.{IsOfKind}
 use Rattle.dnsv_derivations.specs.Saying.{AreBoth, AreEach}
 use Rattle.dnsv_derivations.specs.derivations.OwnDerivations.{AreRecordsDerived}
+use Rattle.dnsv_derivations.proofs.lemmas.denials.FormLemmas.{each_member}
 use Rattle.dnsv_verifier.proofs.NumberLemmas.{at_front, further}
 use Rattle.dnsv_lines.specs.declared.line.Line.{Line}
 use Rattle.dnsv_lines.specs.declared.line.Line.TheVariants as line
@@ -30,11 +32,12 @@ use Rattle.dnsv_lines.specs.declared.line.denial.Form.{Form}
 use Rattle.dnsv_lines.specs.declared.line.denial.Proof.{Proof}
 use Rattle.dnsv_lines.specs.declared.line.denial.Role.{Role}
 use Rattle.dnsv_holding.proofs.lemmas.keys.EachLemmas.{Each, both_each, none_each, one_each}
-use Rattle.dnsv_rules.specs.Checked.{Asked, IsNameFor, IsOnWay, IsProvedBy, IsSoFor}
+use Rattle.dnsv_rules.specs.Checked.{Asked, DeniesAsked, DeniesIf, IsNameFor, IsOnWay, IsProvedBy, IsSoFor}
 use Rattle.dnsv_rules.specs.Told.{shown_said, told_words}
+use Rattle.dnsv_rules.proofs.checks.DenyLemmas.{PartDenies, denied_by}
 use Rattle.dnsv_rules.proofs.checks.DerivedLemmas.{records_so}
 use Rattle.dnsv_rules.proofs.checks.FormLemmas.{Stands, StandsIf}
-use Rattle.dnsv_rules.proofs.checks.TellLemmas.{AreWithin, IsOwn, IsPartTellable, parts_told, records_own, within_back, within_front}
+use Rattle.dnsv_rules.proofs.checks.TellLemmas.{AreWithin, IsOwn, IsPartTellable, number_of, parts_told, records_own, within_back, within_front}
 
 -- the records are of such a chain
 of_kind : (chain : Chain) → IsOfKind (told_chain (kind_of chain)) chain
@@ -121,6 +124,8 @@ module _ (setting : Setting) (asked : Asked) (all : List Line) where
       pub stands : ((number : RecordNumber) → Contains (form_records shown.form) number → IsOwn setting.rrsets all shown.proof.zone number.rrset)
           → AllByRecursion (IsPartTellable all name) (form_parts (kind_of chain) shown.form)
           → Stands asked name shown.proof.zone shown.form (told_words (shown_said setting.rrsets all shown.proof.zone chain) all)
+      pub denies : ((number : RecordNumber) → Contains (form_records shown.form) number → IsOwn setting.rrsets all shown.proof.zone number.rrset)
+          → AllByRecursion (PartDenies setting.rrsets asked all name shown.proof.zone chain) (form_parts (kind_of chain) shown.form)
 
     module _ (tellable : Tellable) (own : (number : RecordNumber) → Contains shown.proof.records number → IsOwn setting.rrsets all shown.proof.zone number.rrset) where
       proved : (form : Form) → Stands asked name shown.proof.zone shown.form (told_words (shown_said setting.rrsets all shown.proof.zone tellable.chain) all)
@@ -155,10 +160,29 @@ module _ (setting : Setting) (asked : Asked) (all : List Line) where
           let fits : Fits told.part.role told.part.name =
           subst (λ as_role. Fits as_role told.part.name) (sym told.is.role)
           (subst (λ as_name. Fits (told_role each.name) as_name) (sym told.is.name) (name_fits name each.name (tellable.fits each there))) in
+          let Each : ChainKind → Type 0 = λ kind. Contains (form_parts kind shown.form) each in
+          let kept = tellable.denies (λ number listed. own number (tellable.listed number listed)) in
+          let one : PartDenies setting.rrsets asked all name shown.proof.zone tellable.chain each =
+          each_member (PartDenies setting.rrsets asked all name shown.proof.zone tellable.chain) (form_parts (kind_of tellable.chain) shown.form) each
+          kept (subst Each tellable.kind there) in
+          let Denied : Type 0 = DeniesAsked setting.rrsets asked all told.part in
+          let by_line : DeniesIf (told_role each.name) (told_relation each.relation) Denied =
+          denied_by (told_role each.name) (told_relation each.relation) _ Denied (λ by. record {
+            zone = shown.proof.zone;
+            chain = tellable.chain;
+            number = by.0;
+            is_by = number_of setting.rrsets each.by told.part.by told.is.by ∙ by.1;
+            denies = subst
+                (λ as_name. (shown_said setting.rrsets all shown.proof.zone tellable.chain).TypesAt as_name (λ has. Denies has asked.rtype) by.0)
+                (sym told.is.name) by.2;
+          }) one in
+          let denies : DeniesIf told.part.role told.part.relation Denied =
+          subst (λ related. DeniesIf told.part.role related Denied) (sym told.is.relation)
+          (subst (λ as_role. DeniesIf as_role (told_relation each.relation) Denied) (sym told.is.role) by_line) in
           ⊎_elim
           (λ (once : IsPartSaid told.part before × (lines ≡ [])). none_each So lines once.1)
           (λ (once : (¬ IsPartSaid told.part before) × (lines ≡ line.Part told.part ∷ [])).
-          one_each So (line.Part told.part) lines once.1 (name, on_way, fits))
+          one_each So (line.Part told.part) lines once.1 (name, on_way, fits, denies))
           told.once
 
       case_so : (which : Option (InsecureCase × PartName)) → IsCaseAbove name which → told_case shown.form ≡ which → (before lines : List Line)

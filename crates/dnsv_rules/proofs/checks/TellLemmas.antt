@@ -66,7 +66,7 @@ own_within rrsets few many zone k within own =
 abbrev pub IsPartTellable : List Line → Labels → ProofPart → Type 0
 IsPartTellable lines name part = IsTold lines (told_relation part.relation) (part_name name part.name) part.by
 
-number_of : (rrsets : List ReceivedRrset) (by : Option RecordNumber) (told : Option RecordPlace) → IsTellingOf rrsets by told → number_told told ≡ by
+pub number_of : (rrsets : List ReceivedRrset) (by : Option RecordNumber) (told : Option RecordPlace) → IsTellingOf rrsets by told → number_told told ≡ by
 number_of rrsets None None telling = refl
 number_of rrsets None (Some place) telling = absurd telling
 number_of rrsets (Some number) None telling = absurd telling

@@ -19,7 +19,8 @@ use Rattle.dnsv_lines.specs.declared.line.denial.Part.{Part}
 use Rattle.dnsv_lines.specs.declared.line.denial.Proof.{Proof}
 use Rattle.dnsv_lines.specs.declared.line.denial.Relation.{Relation}
 use Rattle.dnsv_lines.specs.declared.line.denial.Relation.TheVariants as relation
-use Rattle.dnsv_rules.specs.Checked.{Asked, Checks, StandsFor}
+use Rattle.dnsv_lines.specs.declared.line.denial.Role.{Role}
+use Rattle.dnsv_rules.specs.Checked.{Asked, Checks, DeniesAsked, DeniesIf, StandsFor}
 use Rattle.dnsv_rules.specs.Planted.{HoldsType, NeedsEncloser, ShowsNode}
 use Rattle.dnsv_rules.specs.Told.{IsShownGood, IsTold, shown_said, told_words}
 use Rattle.dnsv_rules.proofs.needs.RecordLemmas.{never_held}
@@ -106,3 +107,24 @@ module _ (setting : Setting) (asked : Asked) (lines : List Line) (proof : Proof)
       let tells = some.1.1 in
       never_held (IsShownGood lines) setting.rrsets its_zone asked.name asked.rtype by.chain some.0 some.1.0
       (holds tells.part some.0 tells.among tells.is_relation tells.is_name tells.is_by)
+
+-- ---- a part alone
+
+module _ (setting : Setting) (asked : Asked) (lines : List Line) (checks : Checks setting asked lines) (part : Part) (number : RecordNumber)
+    (there : Contains lines (line.Part part)) (is_by : number_told part.by ≡ Some number)
+    (holds : HoldsType setting.rrsets number asked.rtype) where
+  never_denied : DeniesAsked setting.rrsets asked lines part → ⊥
+  never_denied denied =
+      let both : Some number ≡ Some denied.number = sym is_by ∙ denied.is_by in
+      let same : number ≡ denied.number = cc in
+      never_held (IsShownGood lines) setting.rrsets denied.zone part.name asked.rtype denied.chain denied.number denied.denies
+      (subst (λ each. HoldsType setting.rrsets each asked.rtype) same holds)
+
+  pub never_matched : (as_role : Role) → ((denied : Type 0) → DeniesIf as_role relation.Matched denied → denied) → part.role ≡ as_role
+      → part.relation ≡ relation.Matched → ⊥
+  never_matched as_role denies is_role is_relation =
+      let Denied : Type 0 = DeniesAsked setting.rrsets asked lines part in
+      let so = checks.is_so (line.Part part) there in
+      let by : DeniesIf part.role part.relation Denied = so.2.2 in
+      never_denied (denies Denied (subst (λ each. DeniesIf each relation.Matched Denied) is_role
+      (subst (λ each. DeniesIf part.role each Denied) is_relation by)))
