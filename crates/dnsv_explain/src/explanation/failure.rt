@@ -5,7 +5,6 @@ ghost use Rattle.dnsv_verdict.specs.Report.{hashed_in};
 ghost use Rattle.dnsv_holding.specs.At.{IsAt};
 ghost use Rattle.dnsv_derivations.specs.Explained.{setting_in};
 ghost use Rattle.dnsv_explain.specs.Explanation.{IsFailureTold};
-ghost use Rattle.dnsv_holding.specs.Holding.{IsUnproved};
 ghost use Rattle.dnsv_derivations.specs.Saying.{Adds};
 
 use dnsv_derivations::Evidence;
