@@ -15,7 +15,7 @@ NAMED = {
     "dnsv_verdict/src/case.rt": 1,  # how much the verifier was asked for a case
     "dnsv_verdict/src/case/hashed_name.rt": 1,  # the digests that a name takes, which each report of a question tells
     "dnsv_verdict/src/case/tracing.rt": 1,  # the digests that a report tells
-    "dnsv_program/src/work/listing.rt": 1,  # `list` asks a verifier, and prints no number
+    "dnsv_work/src/listing.rt": 1,  # `list` asks a verifier, and prints no number
     "dnsv_program/src/work/timeline.rt": 1,  # and so does `timeline`
 }
 

@@ -3,8 +3,8 @@ use Rattle.std.proofs.Common.{◌≡◌, ℕ, List, [], ◌++◌, inl, inr, refl
 use Rattle.std.specs.Prelude.{Err, Result}
 use Rattle.dnsv_files.specs.Files.{Files}
 use Rattle.dnsv_files.specs.Files.Faults.{OfOctets}
-use Rattle.dnsv_program.specs.Run.{AsksRefused, IsFaultOfQuestion, IsFirstFault, IsTextAskedFor, IsTimelineRefused}
-use Rattle.dnsv_program.specs.Work.Timeline.{IsFaultOfRange}
+use Rattle.dnsv_program.specs.Run.{AsksRefused, IsFirstFault, IsTextAskedFor}
+use Rattle.dnsv_work.specs.Faults.{IsFaultOfQuestion, IsTimelineRefused, IsFaultOfRange}
 use Rattle.dnsv_commands.specs.declared.request.Asking.TheVariants as asking
 use Rattle.dnsv_commands.specs.declared.request.Request.{Request}
 use Rattle.dnsv_commands.specs.declared.request.Request.TheVariants as request

@@ -5,7 +5,7 @@ ghost use Rattle.dnsv_verdict.specs.Hope.{HasHope, IsHope};
 ghost use Rattle.dnsv_verdict.specs.Report.{hashed_in};
 ghost use Rattle.dnsv_verdict.specs.Verdict.{AreUnknown, IsSettledVerdict, IsVerdictAt};
 ghost use Rattle.dnsv_holding.specs.Explained.{explained_by};
-ghost use Rattle.dnsv_holding.specs.Holding.{IsHopeTold, IsVerdictTold, told_kind};
+ghost use Rattle.dnsv_holding.specs.Holding.{IsHopeTold, IsUnproved, IsVerdictTold, told_kind};
 ghost use Rattle.dnsv_derivations.specs.Saying.{Adds};
 ghost use Rattle.dnsv_holding.specs.SharedWays.{AreHopedWays};
 

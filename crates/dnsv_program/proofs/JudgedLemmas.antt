@@ -19,24 +19,26 @@ use Rattle.dnsv_chain.specs.Basis.{Basis, basis_of}
 use Rattle.dnsv_texts.specs.Checking.{check_text}
 use Rattle.dnsv_texts.specs.declared.format.Format.{Format}
 use Rattle.dnsv_files.specs.declared.inputs.Inputs.{Inputs}
-use Rattle.dnsv_program.specs.declared.work.Outcome.{Outcome}
+use Rattle.dnsv_work.specs.declared.judged.Outcome.{Outcome}
 use Rattle.dnsv_files.specs.declared.status.Status.TheVariants as status
 use Rattle.dnsv_files.specs.Status.{status_code}
-use Rattle.dnsv_program.specs.Work.Asking.{IsAnswer, IsRefusedOne}
+use Rattle.dnsv_program.specs.Work.Asking.{IsAnswer}
+use Rattle.dnsv_work.specs.Judged.{IsRefusedOne, verdict_fault, verdict_status}
 use Rattle.dnsv_files.specs.declared.status.Fault.{Fault}
 use Rattle.dnsv_files.specs.declared.status.Fault.TheVariants as fault
 use Rattle.dnsv_files.specs.declared.status.InputFile.{InputFile}
 use Rattle.dnsv_files.specs.declared.status.InputFile.TheVariants.{Questions}
-use Rattle.dnsv_program.specs.Work.Checking.{AreGivenBy, IsJudged, IsStopped, IsWhy, verdict_fault, verdict_status}
+use Rattle.dnsv_work.specs.InOrder.{AreGivenBy}
+use Rattle.dnsv_program.specs.Work.Checking.{IsJudged, IsStopped, IsWhy}
 use Rattle.dnsv_files.specs.Files.Faults.{OfFailedRead, OfOctets, TellsFaults, TellsFaultsBeside}
 use Rattle.dnsv_files.specs.Files.{AreTold, AreToldBeside, Files, given_failures}
 use Rattle.dnsv_files.proofs.FileLemmas.Faults.{IsOther, reads_after, reads_untouched, refused_behind, with_questions}
-use Rattle.dnsv_program.proofs.ReachedLemmas.{refused_reached, refused_unwritten}
+use Rattle.dnsv_work.proofs.ReachedLemmas.{refused_reached, refused_unwritten}
 use Rattle.dnsv_files.specs.Told.{IsFaultOf}
 use Rattle.dnsv_files.specs.declared.status.Place.{Place}
 use Rattle.dnsv_files.specs.declared.status.Refusal.{Refusal}
-use Rattle.dnsv_program.specs.Work.Known.{Ground}
-use Rattle.dnsv_program.specs.declared.work.given.Said.{Said}
+use Rattle.dnsv_work.specs.Known.{Ground}
+use Rattle.dnsv_work.specs.declared.given.Said.{Said}
 
 -- it tells no failed read
 verdict_fault_reads : (error : VerdictError) (file : InputFile) → IsOther file (verdict_fault error)

@@ -1,5 +1,4 @@
 pub mod Layers
 pub mod Program
-pub mod Question
 pub mod Run
 pub mod Work

@@ -1,16 +1,13 @@
 -- How the program ends, where its machine tells the words of the command line and the octets of files.
-use Rattle.std.specs.Prelude.{◌≡◌, ◌⊎◌, ◌↔◌, ◌<◌, ◌≤◌, ◌-◌, ◌^◌, ℕ, Bool, not, List, [], ◌∷◌, Option, Some, None, find}
-use Rattle.std.specs.Option.{option_map}
+use Rattle.std.specs.Prelude.{◌≡◌, ◌⊎◌, ◌↔◌, ◌≤◌, ℕ, Bool, List, Option, Some}
 use Rattle.std.specs.Io.KnownBytes.{Appends}
-use Rattle.dnsv_message.specs.Streams.Counted.{AppendsBeginning, failures_of, inner_of}
-use Rattle.dnsv_message.specs.declared.streams.counted.Counted.{Counted}
+use Rattle.dnsv_message.specs.Streams.Counted.{AppendsBeginning}
 use Rattle.clap.specs.Words.{Text}
 use Rattle.dnsv_commands.specs.declared.request.Request.{Request}
 use Rattle.dnsv_commands.specs.declared.command_line.CommandLineError.{CommandLineError}
 use Rattle.dnsv_files.specs.declared.status.Fault.{Fault}
 use Rattle.dnsv_files.specs.declared.status.Fault.TheVariants as fault
 use Rattle.dnsv_files.specs.declared.status.InputFile.{InputFile}
-use Rattle.dnsv_files.specs.declared.status.InputFile.TheVariants.{Anchors, Answers, Capture, Keys, Macs, Questions, Statements}
 use Rattle.dnsv_files.specs.declared.status.Status.{Status}
 use Rattle.dnsv_files.specs.declared.status.Status.TheVariants.{Refused}
 use Rattle.dnsv_files.specs.declared.status.Place.{Place}
@@ -18,37 +15,9 @@ use Rattle.dnsv_files.specs.declared.status.Refusal.{Refusal}
 use Rattle.dnsv_files.specs.Files.Faults.{OfFailedRead, OfOctets}
 use Rattle.dnsv_files.specs.Files.{Files}
 use Rattle.dnsv_commands.specs.CommandLine.{IsAccepted, IsRefused, command_line_code}
-use Rattle.dnsv_commands.specs.Paths.{anchors_of, answers_of, capture_of, keys_of, macs_of, questions_of, statements_of}
 use Rattle.dnsv_program.specs.Run.{AsksMany, AsksRefused, IsTextAskedFor, IsTextOfFewer, IsTextOfFirst, IsFirstFault, IsReached}
-use Rattle.dnsv_files.specs.Status.{fault_line, status_code}
-
--- ---- files
-
--- the files that the request names hold these octets
-pub record AreFilesAt (octets_at : List ℕ → Option (List ℕ)) (request : Request) (files : Files) : Type 0 where
-  pub capture : octets_at (capture_of request) ≡ Some files.capture
-  pub anchors : option_map octets_at (anchors_of request) ≡ option_map (λ octets. Some octets) files.anchors
-  pub statements : option_map octets_at (statements_of request) ≡ option_map (λ octets. Some octets) files.statements
-  pub answers : option_map octets_at (answers_of request) ≡ option_map (λ octets. Some octets) files.answers
-  pub keys : option_map octets_at (keys_of request) ≡ option_map (λ octets. Some octets) files.keys
-  pub macs : option_map octets_at (macs_of request) ≡ option_map (λ octets. Some octets) files.macs
-  pub questions : option_map octets_at (questions_of request) ≡ option_map (λ octets. Some octets) files.questions
-
--- a file with its path, where one is given, before others
-abbrev pub given_path : InputFile → Option (List ℕ) → List (InputFile × List ℕ) → List (InputFile × List ℕ)
-given_path file None others = others
-given_path file (Some path) others = (file, path) ∷ others
-
--- the files of a request with their paths, in the order in which they are opened
-abbrev pub paths_of : Request → List (InputFile × List ℕ)
-paths_of request = (Capture, capture_of request)
-    ∷ given_path Anchors (anchors_of request) (given_path Statements (statements_of request)
-    (given_path Answers (answers_of request) (given_path Keys (keys_of request) (given_path Macs (macs_of request)
-    (given_path Questions (questions_of request) [])))))
-
--- the first of the files that doesn't open
-abbrev pub first_unopened : (List ℕ → Bool) → List (InputFile × List ℕ) → Option InputFile
-first_unopened opens paths = option_map (λ file. file.0) (find (λ file. not (opens file.1)) paths)
+use Rattle.dnsv_files.specs.Status.{status_code}
+use Rattle.dnsv_work.specs.Opened.{AreFilesAt, first_unopened, paths_of}
 
 -- ---- ends
 
@@ -106,29 +75,7 @@ pub record RefusedWords (words : List Text) (code : ℕ) : Type 0 where
   pub refused : IsRefused words error
   pub code_told : command_line_code error ≡ code
 
--- ---- help
-
--- The output got a text, and no write of it failed. What help says is clap's; tests see that it is all of it.
-abbrev pub HasWritten : {W : Type 0} → (W → Option (List ℕ)) → Counted W → Counted W → Type 0
-HasWritten contents old new = (failures_of new ≡ failures_of old)
-    × ((text : List ℕ) × Appends (contents (inner_of old)) (contents (inner_of new)) text)
-
 -- ---- the line that is told
-
--- a stream got the line of the fault; or a beginning of it, and then a write failed: by the count of its calls that
--- failed, unless that began at its greatest value
-abbrev pub HasToldIn : {W : Type 0} → (W → Option (List ℕ)) → Counted W → Counted W → Fault → Type 0
-HasToldIn contents old new told =
-    Appends (contents (inner_of old)) (contents (inner_of new)) (fault_line told)
-    ⊎ ((failures_of old < 2 ^ 64 - 1 → failures_of old < failures_of new)
-    × AppendsBeginning (contents (inner_of old)) (contents (inner_of new)) (fault_line told))
-
--- where this fault is told, a write of the output failed, or the output is as it was; where memory was wanting it may
--- have grown so
-abbrev pub LeavesOutput : {W : Type 0} → Counted W → Counted W → Type 0 → Fault → Type 0
-LeavesOutput old new Grew fault.WriteFailed = failures_of old < 2 ^ 64 - 1 → failures_of old < failures_of new
-LeavesOutput old new Grew fault.OutOfMemory = (new ≡ old) ⊎ Grew
-LeavesOutput old new Grew _ = new ≡ old
 
 -- a question or a range that is refused is told, unless a file doesn't open
 abbrev pub TellsQuestion : Request → Fault → Type 0

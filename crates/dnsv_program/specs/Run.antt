@@ -1,41 +1,31 @@
 -- What a request asks of its files, and what is their first fault.
 use Rattle.std.specs.Prelude.{◌≡◌, ◌⊎◌, ⊤, ℕ, Bool, List, string_bytes}
 use Rattle.dnsv_names.specs.Name.{Labels}
-use Rattle.dnsv_message.specs.Message.{Contents}
-use Rattle.dnsv_canonical.specs.Evidence.{evidence_of}
-use Rattle.dnsv_canonical.specs.Rrsets.{IsQuestion, ReceivedRrset}
+use Rattle.dnsv_canonical.specs.Rrsets.{IsQuestion}
 use Rattle.dnsv_timeline.specs.Range.{IsRange}
-use Rattle.dnsv_answers.specs.declared.heading.Moments.{Moments}
 use Rattle.dnsv_answers.specs.declared.heading.Moments.TheVariants.{At, Between}
-use Rattle.dnsv_chain.specs.declared.anchor.Anchor.{Anchor}
-use Rattle.dnsv_files.specs.declared.opening.Opening.{Opening}
 use Rattle.dnsv_files.specs.declared.opening.Opening.TheVariants.{Plain}
 use Rattle.dnsv_commands.specs.declared.request.Asking.TheVariants as asking
-use Rattle.dnsv_commands.specs.declared.request.Listing.{Listing}
-use Rattle.dnsv_commands.specs.declared.request.Listing.TheVariants as listing
 use Rattle.dnsv_commands.specs.declared.request.Request.{Request}
 use Rattle.dnsv_commands.specs.declared.request.Request.TheVariants as request
 use Rattle.dnsv_files.specs.declared.status.Fault.{Fault}
-use Rattle.dnsv_files.specs.declared.status.Fault.TheVariants as fault
 use Rattle.dnsv_files.specs.declared.status.InputFile.{InputFile}
-use Rattle.dnsv_files.specs.declared.status.InputFile.TheVariants.{Anchors, Answers, Capture, Keys, Macs, Questions, Statements}
+use Rattle.dnsv_files.specs.declared.status.InputFile.TheVariants.{Questions}
 use Rattle.dnsv_files.specs.declared.status.Status.{Status}
 use Rattle.dnsv_files.specs.declared.status.Status.TheVariants.{Done}
 use Rattle.dnsv_texts.specs.declared.format.Format.{Format}
-use Rattle.dnsv_files.specs.Files.Anchors.{HasAnchors, IsFaultOfAnchors}
-use Rattle.dnsv_files.specs.Files.Capture.{AnyMessage, NewEvidence, Holds, IsFaultOfCapture}
+use Rattle.dnsv_files.specs.Files.Capture.{AnyMessage, IsFaultOfCapture}
 use Rattle.dnsv_canonical.specs.Question.{Asked}
 use Rattle.dnsv_files.specs.Files.Questions.{HasQuestions, IsFaultOfQuestions}
 use Rattle.dnsv_program.specs.Work.Asking.{AreAnswered, AreFewerAnswered, AreFirstAnswered}
 use Rattle.dnsv_program.specs.Work.Checking.{IsCheck, IsStopped}
-use Rattle.dnsv_program.specs.Work.Known.{IsFaultOfKnown, IsKnownReached}
 use Rattle.dnsv_files.specs.Files.{Files, IsGiven, octets_or_none}
-use Rattle.dnsv_program.specs.Work.Listing.{IsListing, IsTodo}
-use Rattle.dnsv_program.specs.Question.{IsQuestionRefused, Spells}
-use Rattle.dnsv_program.specs.Work.Opening.{IsFaultOfOpeningAt, IsOpeningAt, IsOpeningReachedAt}
-use Rattle.dnsv_program.specs.Work.Showing.{IsShowing}
-use Rattle.dnsv_program.specs.Work.Timeline.{IsFaultOfRange, IsStoppedThroughout, IsTimeline}
-use Rattle.dnsv_files.specs.Files.Statements.{IsFaultOfStatements}
+use Rattle.dnsv_work.specs.Listing.{IsTodo, IsListed}
+use Rattle.dnsv_work.specs.Question.{Spells}
+use Rattle.dnsv_work.specs.Showing.{IsShowing}
+use Rattle.dnsv_work.specs.Faults.{IsFaultOfRange, IsFaultOfQuestion, IsFirstFaultOfAsked, IsFirstFaultOfFiles, IsFirstFaultOfList, IsFirstFaultOfRange, IsFirstFaultOfTodo, IsTimelineRefused}
+use Rattle.dnsv_program.specs.Work.Timeline.{IsStoppedThroughout, IsTimeline}
+use Rattle.dnsv_work.specs.Reached.{IsCaptureReached, IsReachedByList, IsReachedByTodo, IsReachedOfFiles}
 
 -- ---- the text
 
@@ -49,11 +39,6 @@ abbrev pub IsTimelineAsked : Format → Bool → List ℕ → ℕ → ℕ → �
 IsTimelineAsked format kinds asked rtype from to files text =
     (name : Labels) × Spells asked name × IsQuestion name rtype × IsRange from to
     × IsTimeline format kinds name rtype from to files text
-
--- what each signature signs, or what a verifier still has to check
-abbrev pub IsListed : Listing → Format → ℕ → Files → List ℕ → Type 0
-IsListed listing.All format moment files text = IsListing format moment files.capture text
-IsListed (listing.Todo form) format moment files text = IsTodo form format (At moment) files text
 
 -- over these files the request ends so, with this text: in JSON, and with why the verdict stands, where it asks for that
 abbrev pub IsTextAskedFor : Request → Files → Status → List ℕ → Type 0
@@ -122,62 +107,6 @@ IsTextOfFewer (request.Check capture anchors moment (asking.Each questions) know
 
 -- ---- the first fault
 
--- the file holds messages in such frames, each of them evidence besides those before it
-abbrev pub HasEvidence : Opening → List ℕ → Type 0
-HasEvidence opening file = (messages : List Contents) × Holds NewEvidence opening file messages
-
--- the file of captured messages has this fault; or it has none, and the file of statements has it
-abbrev pub IsFirstFaultOfTodo : Files → Fault → Type 0
-IsFirstFaultOfTodo files fault =
-    IsFaultOfCapture NewEvidence Plain files.capture fault
-    ⊎ (HasEvidence Plain files.capture × IsFaultOfStatements (octets_or_none files.statements) fault)
-
--- where only the file of captured messages is read, that has this fault
-abbrev pub IsFirstFaultOfList : Listing → Files → Fault → Type 0
-IsFirstFaultOfList listing.All files fault = IsFaultOfCapture NewEvidence Plain files.capture fault
-IsFirstFaultOfList (listing.Todo form) files fault = IsFirstFaultOfTodo files fault
-
--- behind the file of captured messages, which has these RRsets, the first fault is in the trust anchors, and then in what
--- is known of signatures at the moments
-abbrev pub IsFirstFaultBehind : Moments → List ReceivedRrset → Files → Fault → Type 0
-IsFirstFaultBehind moments rrsets files fault =
-    IsFaultOfAnchors (octets_or_none files.anchors) fault
-    ⊎ (((anchors : List Anchor) × HasAnchors (octets_or_none files.anchors) anchors)
-    × IsFaultOfKnown files.capture moments rrsets files.statements files.answers fault)
-
--- where frames are opened so, the first fault is in the file of captured messages, and then in those behind it
-abbrev pub IsFirstFaultOfEvidence : Opening → Moments → Files → Fault → Type 0
-IsFirstFaultOfEvidence opening moments files fault =
-    IsFaultOfCapture NewEvidence opening files.capture fault
-    ⊎ ((messages : List Contents) × Holds NewEvidence opening files.capture messages
-    × IsFirstFaultBehind moments (evidence_of messages).rrsets files fault)
-
--- the first fault is in the files of keys and MACs, where these are read, and then in the others
-abbrev pub IsFirstFaultOfFiles : Moments → Files → Fault → Type 0
-IsFirstFaultOfFiles moments files fault =
-    IsFaultOfOpeningAt files.keys files.macs moments fault
-    ⊎ ((opening : Opening) × IsOpeningAt files.keys files.macs moments opening
-    × IsFirstFaultOfEvidence opening moments files fault)
-
--- the question is refused so
-abbrev pub IsFaultOfQuestion : List ℕ → ℕ → Fault → Type 0
-IsFaultOfQuestion asked rtype (fault.Refused why place) = IsQuestionRefused asked rtype why place
-IsFaultOfQuestion asked rtype _ = ⊥
-
--- the question is refused so, and else this is the first fault behind it
-abbrev pub IsFirstFaultOfAsked : List ℕ → ℕ → (Labels → Fault → Type 0) → Fault → Type 0
-IsFirstFaultOfAsked asked rtype Behind fault =
-    IsFaultOfQuestion asked rtype fault
-    ⊎ ((name : Labels) × Spells asked name × IsQuestion name rtype × Behind name fault)
-
--- the range is refused so, and else this is the first fault behind it
-abbrev pub IsFirstFaultOfRange : ℕ → ℕ → (Fault → Type 0) → Fault → Type 0
-IsFirstFaultOfRange from to Behind fault = IsFaultOfRange from to fault ⊎ (IsRange from to × Behind fault)
-
--- the question is refused so, and else the range
-abbrev pub IsTimelineRefused : List ℕ → ℕ → ℕ → ℕ → Fault → Type 0
-IsTimelineRefused asked rtype from to = IsFirstFaultOfAsked asked rtype (λ name. IsFaultOfRange from to)
-
 -- the request asks a question, or asks for a range, which is refused so
 abbrev pub AsksRefused : Request → Fault → Type 0
 AsksRefused (request.Show capture) fault = ⊥
@@ -230,40 +159,6 @@ IsFirstFault (request.Check capture anchors moment (asking.Each questions) known
     IsFirstFaultOfEach moment files fault
 
 -- ---- what a failed read comes behind
-
--- only the file of captured messages is read
-abbrev pub IsCaptureReached : InputFile → Type 0
-IsCaptureReached Capture = ⊤
-IsCaptureReached _ = ⊥
-
--- the statements are read behind evidence, where they are given
-abbrev pub IsReachedByTodo : Files → InputFile → Type 0
-IsReachedByTodo files Capture = ⊤
-IsReachedByTodo files Statements = HasEvidence Plain files.capture × IsGiven files.statements
-IsReachedByTodo files _ = ⊥
-
-abbrev pub IsReachedByList : Listing → Files → InputFile → Type 0
-IsReachedByList listing.All files file = IsCaptureReached file
-IsReachedByList (listing.Todo form) files file = IsReachedByTodo files file
-
--- the file of captured messages is read behind the keys and MACs, the anchors behind evidence, and the statements, or
--- the answers, behind the anchors, each where it is given
-abbrev pub IsReachedOfFiles : Moments → Files → InputFile → Type 0
-IsReachedOfFiles moments files Keys = IsOpeningReachedAt files.keys files.macs moments Keys
-IsReachedOfFiles moments files Macs = IsOpeningReachedAt files.keys files.macs moments Macs
-IsReachedOfFiles moments files Capture = (opening : Opening) × IsOpeningAt files.keys files.macs moments opening
-IsReachedOfFiles moments files Anchors =
-    (opening : Opening) × IsOpeningAt files.keys files.macs moments opening × HasEvidence opening files.capture
-    × IsGiven files.anchors
-IsReachedOfFiles moments files Statements =
-    (opening : Opening) × IsOpeningAt files.keys files.macs moments opening × HasEvidence opening files.capture
-    × ((anchors : List Anchor) × HasAnchors (octets_or_none files.anchors) anchors)
-    × IsKnownReached files.statements files.answers Statements
-IsReachedOfFiles moments files Answers =
-    (opening : Opening) × IsOpeningAt files.keys files.macs moments opening × HasEvidence opening files.capture
-    × ((anchors : List Anchor) × HasAnchors (octets_or_none files.anchors) anchors)
-    × IsKnownReached files.statements files.answers Answers
-IsReachedOfFiles moments files Questions = ⊥
 
 -- the question can be asked, and the files before this one are in order
 abbrev pub IsReachedByCheck : List ℕ → ℕ → ℕ → Files → InputFile → Type 0

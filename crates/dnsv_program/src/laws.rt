@@ -1,27 +1,17 @@
 //! What the definitions of a request's text and of its first fault say of each other, for files of octets.
-ghost use Rattle.std.specs.Prelude.{◌≡◌, ◌⊎◌, List, ℕ};
+ghost use Rattle.std.specs.Prelude.{◌≡◌, List, ℕ};
 ghost use Rattle.dnsv_names.specs.Octets.{AreOctets};
-ghost use Rattle.dnsv_message.specs.Streams.Frames.{IsTooLong};
-ghost use Rattle.dnsv_files.specs.Files.Capture.{AnyMessage, IsRefusal, NewEvidence};
-ghost use Rattle.dnsv_files.specs.declared.opening.Opening.TheVariants.{Plain};
-ghost use Rattle.dnsv_texts.specs.declared.format.Format.{Format};
-ghost use Rattle.dnsv_program.specs.Work.Listing.{IsListing};
-ghost use Rattle.dnsv_program.specs.Work.Showing.{IsShowing};
 ghost use Rattle.dnsv_files.specs.Files.{Files};
 ghost use Rattle.dnsv_program.specs.Layers.{LayerLaws};
 ghost use Rattle.dnsv_program.specs.Run.{IsFirstFault, IsTextAskedFor};
 ghost use Rattle.dnsv_files.specs.declared.status.Status.{Status};
 ghost use Rattle.dnsv_files.specs.declared.status.Fault.{Fault};
 ghost use Rattle.dnsv_commands.specs.declared.request.Request.{Request};
-ghost use Rattle.dnsv_files.specs.declared.status.Place.{Place};
-ghost use Rattle.dnsv_files.specs.declared.status.Refusal.{Refusal};
 
-use dnsv_canonical::{evidence_or_one_refusal, one_signed_data, rrsets_are_well_formed};
+use dnsv_canonical::{evidence_or_one_refusal, one_signed_data};
 use dnsv_chain::a_text_is_one_list_of_anchors;
 use dnsv_explain::a_report_has_one_explanation;
-use dnsv_message::{
-    message_or_fault, no_fault_of_a_message, no_fault_of_memory, one_answer, one_fault, one_message,
-};
+use dnsv_message::{no_fault_of_a_message, one_answer, one_fault, one_message};
 use dnsv_moments::{
     a_timeline_has_one_text, one_thing_is_said_of_a_question, what_is_refused_throughout,
 };
@@ -78,28 +68,4 @@ pub fn one_first_fault()
         → IsFirstFault asked files a → IsFirstFault asked files b → a ≡ b }
 {
     layers();
-}
-
-/// A file of octets is shown, or refused, or has an octet too many.
-pub fn every_file_is_shown_or_refused()
-    ensures { (file : List ℕ) → AreOctets file → ((text : List ℕ) × IsShowing file text)
-        ⊎ (((why : Refusal) × (place : Place) × IsRefusal AnyMessage Plain file why place) ⊎ IsTooLong file) }
-{
-    one_answer();
-    message_or_fault();
-    no_fault_of_memory();
-}
-
-/// A file of octets is listed, or refused, or has an octet too many.
-pub fn every_file_is_listed_or_refused()
-    ensures { (format : Format) (moment : ℕ) (file : List ℕ) → AreOctets file
-        → ((text : List ℕ) × IsListing format moment file text)
-        ⊎ (((why : Refusal) × (place : Place) × IsRefusal NewEvidence Plain file why place) ⊎ IsTooLong file) }
-{
-    one_answer();
-    message_or_fault();
-    no_fault_of_memory();
-    evidence_or_one_refusal();
-    one_signed_data();
-    rrsets_are_well_formed();
 }

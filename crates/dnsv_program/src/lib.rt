@@ -4,16 +4,13 @@
 pub use dnsv_commands::{
     Asking, CommandLineError, Form, Known, Listing, Request, read_command_line,
 };
-pub use laws::{
-    every_file_is_listed_or_refused, every_file_is_shown_or_refused, no_fault_of_a_text,
-    one_first_fault, one_text,
+pub use dnsv_work::{
+    Host, Machine, every_file_is_listed_or_refused, every_file_is_shown_or_refused,
 };
-pub use machine::{Host, Machine};
+pub use laws::{no_fault_of_a_text, one_first_fault, one_text};
 pub use program::{exit_status, exit_status_on};
 pub use work::run;
 
 mod laws;
-mod machine;
 mod program;
-mod question;
 mod work;

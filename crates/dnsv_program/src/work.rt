@@ -9,33 +9,20 @@ ghost use Rattle.dnsv_files.specs.declared.status.Status.{Status};
 
 pub mod asking;
 pub mod checking;
-pub mod given;
 pub mod judging;
 pub mod known;
-pub mod listing;
-pub mod showing;
-pub mod span;
 pub mod timeline;
 
 use crate::work::asking::check_each;
 use crate::work::checking::check;
-use crate::work::judging::Telling;
-use crate::work::listing::{list, list_range};
-use crate::work::showing::show;
 use crate::work::timeline::{Ends, Showing, timeline};
 use bumpalo::Bump;
 use dnsv_commands::{Asking, Request};
 use dnsv_files::{Fault, Inputs, Moment, Status};
 use dnsv_message::Counted;
+use dnsv_work::{Outcome, Telling, list, list_range, show};
 use std::alloc::Global;
 use std::io::{Read, Write};
-
-/// How a run ends that makes its whole text.
-#[derive(Drop)]
-pub struct Outcome {
-    pub status: Status,
-    pub text: String,
-}
 
 /// Makes the whole text that the request asks for, and then writes it; of many questions the text of each, which is
 /// written before the next is judged. The octets of the messages lie in an arena of its own.

@@ -5,14 +5,15 @@ ghost use Rattle.dnsv_verdict.specs.Report.{hashed_in};
 ghost use Rattle.dnsv_holding.specs.At.{IsAt};
 ghost use Rattle.dnsv_derivations.specs.Explained.{setting_in};
 ghost use Rattle.dnsv_explain.specs.Explanation.{IsFailureTold};
-ghost use Rattle.dnsv_holding.specs.Holding.{IsUnproved};
 ghost use Rattle.dnsv_derivations.specs.Saying.{Adds};
 
+use dnsv_denial::Hashes;
 use dnsv_derivations::Evidence;
 use dnsv_holding::{At, add_keys_in_question};
 use dnsv_lines::Line;
-use dnsv_names::RecordType;
+use dnsv_names::{Name, RecordType};
 use dnsv_reasons::{CaseFacts, failures};
+use dnsv_verdict::Case;
 use std::alloc::{AllocError, Global};
 
 /// Adds what fails of the question, and the keys that this is a matter of.
@@ -41,8 +42,36 @@ fn failing(alloc: Global, at: &At<'_, '_>, rtype: RecordType) -> Result<Vec<Line
     ensures { IfOk result (λ lines. AreFailures (asking_of at.now.case.now at.now.name.now rtype.0) lines.items) }
 {
     let case = at.case;
-    let capture = case.capture();
-    let facts = CaseFacts::of(alloc, capture, case.anchors(), case.table(), case.trust())?;
-    let denials = case.denials();
-    failures(alloc, capture, denials, &facts, at.hashes, at.name, rtype)
+    let facts = CaseFacts::of(
+        alloc,
+        case.capture(),
+        case.anchors(),
+        case.table(),
+        case.trust(),
+    )?;
+    failing_by(alloc, case, &facts, at.hashes, at.name, rtype)
+}
+
+/// The same by the facts of the case.
+fn failing_by<'s, 'a>(
+    alloc: Global,
+    case: &'s Case<'a>,
+    facts: &'s CaseFacts<'s>,
+    hashes: &'s Hashes<'a>,
+    name: &'s Name,
+    rtype: RecordType,
+) -> Result<Vec<Line>, AllocError>
+    requires facts { facts.now ≡ case.now }
+    requires hashes { hashes.now ≡ hashed_in case.now.rrsets name.now }
+    ensures { IfOk result (λ lines. AreFailures (asking_of case.now name.now rtype.0) lines.items) }
+{
+    failures(
+        alloc,
+        case.capture(),
+        case.denials(),
+        facts,
+        hashes,
+        name,
+        rtype,
+    )
 }

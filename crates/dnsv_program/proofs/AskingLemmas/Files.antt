@@ -17,18 +17,19 @@ use Rattle.dnsv_files.specs.declared.status.Status.{Status}
 use Rattle.dnsv_files.specs.Files.{AreTold, AreToldBeside, Files, given_failures, octets_or_none}
 use Rattle.dnsv_files.specs.Files.Faults.{OfFailedRead, TellsFailedReads, TellsFaults, TellsFaultsBeside, TellsReads}
 use Rattle.dnsv_files.specs.Files.Questions.{HasQuestions}
-use Rattle.dnsv_program.specs.Run.{IsFirstFaultOfEach, IsFirstFaultOfFiles}
+use Rattle.dnsv_program.specs.Run.{IsFirstFaultOfEach}
+use Rattle.dnsv_work.specs.Faults.{IsFirstFaultOfFiles}
 use Rattle.dnsv_program.specs.Work.Asking.{AreAnswered, AreAnswers, AreFewerAnswered, AreFirstAnswered}
-use Rattle.dnsv_program.specs.Work.Checking.{AreReadFrom, basis_in}
-use Rattle.dnsv_program.specs.Work.Known.{Ground}
+use Rattle.dnsv_work.specs.InOrder.{AreReadFrom, basis_in}
+use Rattle.dnsv_work.specs.Known.{Ground}
 use Rattle.dnsv_files.specs.Told.{IsFaultOf}
 use Rattle.dnsv_files.specs.declared.status.Fault.TheVariants as fault
 use Rattle.dnsv_files.specs.declared.status.InputFile.{InputFile}
 use Rattle.dnsv_files.specs.declared.status.Place.{Place}
 use Rattle.dnsv_files.specs.declared.status.Refusal.{Refusal}
-use Rattle.dnsv_program.specs.declared.work.given.Said.{Said}
-use Rattle.dnsv_program.proofs.ReachedLemmas.{refused_reached}
-use Rattle.dnsv_program.proofs.WorkLemmas.Checking.{all_given}
+use Rattle.dnsv_work.specs.declared.given.Said.{Said}
+use Rattle.dnsv_work.proofs.ReachedLemmas.{refused_reached}
+use Rattle.dnsv_work.proofs.WorkLemmas.InOrder.{all_given}
 use Rattle.dnsv_files.proofs.FileLemmas.Faults.{IsOther, OfOctets-weaker, beside_passed, reads_after, reads_then, refused_behind}
 
 -- behind the questions

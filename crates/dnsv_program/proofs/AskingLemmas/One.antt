@@ -16,7 +16,8 @@ use Rattle.dnsv_files.specs.Files.{Files, octets_or_none}
 use Rattle.dnsv_program.specs.Layers.{LayerLaws}
 use Rattle.dnsv_files.specs.Status.{status_code}
 use Rattle.dnsv_program.specs.Work.Asking.{Answered, AreAnswered, AreAnswers, EachAnswered, IsAnswer, IsGreatest}
-use Rattle.dnsv_program.specs.Work.Checking.{IsJudged, basis_in}
+use Rattle.dnsv_program.specs.Work.Checking.{IsJudged}
+use Rattle.dnsv_work.specs.InOrder.{basis_in}
 use Rattle.dnsv_files.specs.declared.status.Status.{Status}
 use Rattle.dnsv_files.specs.declared.status.Status.TheVariants.{Bogus, Done, Indeterminate, Insecure, Pending, Refused}
 use Rattle.dnsv_files.proofs.FileLemmas.Questions.{one_list_of_questions}

@@ -14,20 +14,13 @@ use Rattle.dnsv_files.specs.declared.status.Fault.TheVariants as fault
 use Rattle.dnsv_files.specs.declared.status.InputFile.TheVariants.{Anchors, Answers, Capture, Keys, Macs, Questions, Statements}
 use Rattle.dnsv_files.specs.declared.status.Place.{Place}
 use Rattle.dnsv_files.specs.declared.status.Refusal.{Refusal}
-use Rattle.dnsv_files.specs.Files.Capture.{AreFramesRefused, Demand, AnyMessage, NewEvidence, Meets, Fails, AllTaken, Holds, FrameRefused, FirstRefused, IsFaultOfCapture, IsNowhere, IsRefusal}
+use Rattle.dnsv_files.specs.Files.Capture.{AreFramesRefused, Demand, AnyMessage, NewEvidence, Meets, Fails, AllTaken, Holds, FrameRefused, FirstRefused, IsFaultOfCapture, IsRefusal}
 use Rattle.dnsv_files.specs.Opening.{HasItsMacs, IsInFrame}
 use Rattle.dnsv_program.specs.Layers.{LayerLaws}
 use Rattle.dnsv_files.specs.Status.{TellsCaptureError}
 use Rattle.dnsv_program.proofs.LawLemmas.Held.{in_frame_stands, no_message_once, one_in_frame}
 use Rattle.dnsv_files.proofs.FileLemmas.Text.{too_many}
-
--- ---- places
-
-pub same_place : (p q : Place) → p.message ≡ q.message → p.record ≡ q.record → p.line ≡ q.line → p ≡ q
-same_place p q messages records lines = λ i. record { message = messages i; «record» = records i; line = lines i }
-
-pub same_nowhere : (p q : Place) → IsNowhere p → IsNowhere q → p ≡ q
-same_nowhere p q x y = same_place p q (x.0 ∙ sym y.0) (x.1 ∙ sym y.1) (x.2 ∙ sym y.2)
+use Rattle.dnsv_work.proofs.PlaceLemmas.{same_nowhere, same_place}
 
 -- ---- the messages that are asked for
 

@@ -32,29 +32,31 @@ use Rattle.dnsv_texts.specs.declared.format.Format.{Format}
 use Rattle.dnsv_files.specs.Files.Capture.{NewEvidence, Holds}
 use Rattle.dnsv_texts.specs.Checking.{check_text}
 use Rattle.dnsv_texts.specs.Compact.{compact_text}
-use Rattle.dnsv_program.specs.Work.Checking.{AreInOrder, IsCheck, IsJudged, IsWhy, basis_in, verdict_status}
+use Rattle.dnsv_work.specs.InOrder.{AreInOrder, basis_in}
+use Rattle.dnsv_program.specs.Work.Checking.{IsCheck, IsJudged, IsWhy}
+use Rattle.dnsv_work.specs.Judged.{verdict_status}
 use Rattle.dnsv_files.specs.Opening.Given.{IsOpeningOf}
 use Rattle.dnsv_files.specs.Moment.{begin_of, end_of}
-use Rattle.dnsv_program.specs.Work.Opening.{IsOpeningAt}
+use Rattle.dnsv_work.specs.Opening.{IsOpeningAt}
 use Rattle.dnsv_files.specs.Files.{Files, octets_or_none}
 use Rattle.dnsv_files.specs.Opening.Keys.{MayHaveKeys}
 use Rattle.dnsv_program.specs.Layers.{LayerLaws}
 use Rattle.dnsv_texts.specs.Listing.{ListsRrsets, ListsSignatures, SignedOctets}
-use Rattle.dnsv_program.specs.Question.{Spells}
+use Rattle.dnsv_work.specs.Question.{Spells}
 use Rattle.dnsv_files.specs.Status.{status_code}
 use Rattle.dnsv_program.specs.Run.{IsAnswered, IsTimelineAsked}
 use Rattle.dnsv_program.specs.Work.Timeline.{IsTimelineBehind}
 use Rattle.dnsv_timeline.specs.declared.stretch.Stretch.{Stretch}
 use Rattle.dnsv_moments.specs.validity.Said.{Said}
 use Rattle.dnsv_moments.specs.texts.Text.{IsTimelineText}
-use Rattle.dnsv_program.specs.Work.Listing.{IsTodo, ListsEntries}
+use Rattle.dnsv_work.specs.Listing.{IsTodo, ListsEntries}
 use Rattle.dnsv_files.proofs.OpeningLemmas.Keys.{same_keys}
 use Rattle.dnsv_files.proofs.OpeningLemmas.Macs.{same_macs}
 use Rattle.dnsv_program.proofs.LawLemmas.OneCapture.{one_holding}
 use Rattle.dnsv_program.proofs.LawLemmas.OneCompact.{one_compact_list}
 use Rattle.dnsv_files.proofs.FileLemmas.Statements.{one_meaning}
-use Rattle.dnsv_program.proofs.LawLemmas.OneKnown.{one_known}
-use Rattle.dnsv_program.specs.Work.Known.{IsKnownBy}
+use Rattle.dnsv_work.proofs.LawLemmas.OneKnown.{one_known}
+use Rattle.dnsv_work.specs.Known.{IsKnownBy}
 
 module _ (laws : LayerLaws) where
   -- ---- list --all

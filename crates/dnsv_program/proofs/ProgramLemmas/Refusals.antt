@@ -4,7 +4,8 @@ use Rattle.std.specs.Prelude.{Err, IfErr, IfOk, IfSome, Ok, OnOk, Result}
 use Rattle.std.specs.Io.KnownBytes.{Appends}
 use Rattle.dnsv_commands.specs.CommandLine.{IsAccepted}
 use Rattle.dnsv_files.specs.Files.{Files}
-use Rattle.dnsv_program.specs.Program.{AreFilesAt, RefusedFiles, WroteFirst, WroteRefused}
+use Rattle.dnsv_work.specs.Opened.{AreFilesAt}
+use Rattle.dnsv_program.specs.Program.{RefusedFiles, WroteFirst, WroteRefused}
 use Rattle.dnsv_program.specs.Run.{AsksMany, IsFirstFault, IsTextAskedFor, IsTextOfFewer}
 use Rattle.dnsv_files.specs.Status.{outcome_code}
 use Rattle.dnsv_commands.specs.declared.request.Request.{Request}

@@ -14,7 +14,9 @@ use Rattle.dnsv_files.specs.declared.status.Status.TheVariants.{Refused}
 use Rattle.dnsv_files.specs.Files.Faults.{OfFailedRead, OfOctets}
 use Rattle.dnsv_files.specs.Files.{Files}
 use Rattle.dnsv_commands.specs.CommandLine.{IsAccepted, IsRefused, command_line_code}
-use Rattle.dnsv_program.specs.Program.{AreFilesAt, FailedRequest, FailedWords, HasToldIn, IsEnd, LeavesOutput, TellsQuestion, first_unopened, paths_of}
+use Rattle.dnsv_work.specs.Opened.{AreFilesAt, first_unopened, paths_of}
+use Rattle.dnsv_program.specs.Program.{FailedRequest, FailedWords, IsEnd, TellsQuestion}
+use Rattle.dnsv_work.specs.Telling.{HasToldIn, LeavesOutput}
 use Rattle.dnsv_program.specs.Run.{AsksRefused, IsFirstFault, IsReached}
 use Rattle.dnsv_files.specs.Status.{fault_code, fault_line, outcome_code}
 use Rattle.dnsv_files.specs.Told.{IsOpenFault}

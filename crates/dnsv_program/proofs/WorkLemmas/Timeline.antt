@@ -1,8 +1,8 @@
 -- The timeline of a question over files that were all taken.
-use Rattle.std.proofs.Common.{◌≡◌, ◌⊎◌, ℕ, Bool, List, Option, inl, inr, refl, subst, sym, ⊎_elim}
-use Rattle.std.specs.Prelude.{Err, IfErr, IfOk, IsErrOf, Ok, Result}
+use Rattle.std.proofs.Common.{◌≡◌, ◌⊎◌, ℕ, Bool, List, inl, inr, refl, subst, sym}
+use Rattle.std.specs.Prelude.{Err, IfOk, IsErrOf, Ok, Result}
 use Rattle.dnsv_names.specs.Name.{Labels}
-use Rattle.dnsv_canonical.specs.Rrsets.{IsQuestion, ReceivedRrset}
+use Rattle.dnsv_canonical.specs.Rrsets.{ReceivedRrset}
 use Rattle.dnsv_timeline.specs.declared.stretch.Stretch.{Stretch}
 use Rattle.dnsv_answers.specs.declared.heading.Moments.TheVariants.{Between}
 use Rattle.dnsv_verifier.specs.declared.answer.Answer.{Answer}
@@ -17,49 +17,17 @@ use Rattle.dnsv_moments.specs.Question.{IsRefusedFor, IsRefusedThroughout, IsTim
 use Rattle.dnsv_timeline.specs.Timeline.{IsTimelineBy}
 use Rattle.dnsv_moments.specs.validity.Said.{IsSaidAt, Said}
 use Rattle.dnsv_moments.specs.texts.Text.{IsTimelineText}
-use Rattle.dnsv_files.specs.declared.inputs.Inputs.{Inputs}
 use Rattle.dnsv_files.specs.declared.status.Fault.{Fault}
-use Rattle.dnsv_files.specs.declared.status.Fault.TheVariants as fault
-use Rattle.dnsv_files.specs.declared.status.InputFile.{InputFile}
 use Rattle.dnsv_files.specs.declared.status.Place.{Place}
 use Rattle.dnsv_files.specs.declared.status.Refusal.{Refusal}
-use Rattle.dnsv_files.specs.declared.status.Refusal.TheVariants as refusal
-use Rattle.dnsv_files.specs.Files.Faults.{OfFailedRead, OfOctets, TellsFaults}
-use Rattle.dnsv_files.specs.Files.{Files, given_failures}
-use Rattle.dnsv_files.specs.Told.{IsFaultOf, nowhere}
-use Rattle.dnsv_files.proofs.FileLemmas.Faults.{reads_of_none, reads_untouched, same_fault}
-use Rattle.dnsv_program.specs.Question.{Spells}
-use Rattle.dnsv_program.specs.Run.{IsFaultOfQuestion, IsTimelineRefused}
-use Rattle.dnsv_program.specs.Work.Checking.{AreReadFrom, basis_in, verdict_fault}
-use Rattle.dnsv_program.specs.Work.Known.{Ground}
-use Rattle.dnsv_program.specs.Work.Timeline.{IsFaultOfRange, IsStoppedThroughout, IsTimeline, IsTimelineBehind}
-use Rattle.dnsv_program.specs.declared.work.given.Said as given
-use Rattle.dnsv_program.proofs.WorkLemmas.Checking.{all_given}
-
--- ---- the question
-
--- a question that is refused is told before the range
-pub name_refused : {T : Type 0} (asked : List ℕ) (rtype from to : ℕ) (told : Fault)
-    → ((other : Fault) → IsFaultOfQuestion asked rtype other → Path (Result T Fault) (Err told) (Err other))
-    → ((name : Labels) → Spells asked name → ¬ IsQuestion name rtype) → (other : Fault) → IsTimelineRefused asked rtype from to other → told ≡ other
-name_refused asked rtype from to told every none other (inl bad) = same_fault (every other bad)
-name_refused asked rtype from to told every none other (inr bad) = absurd (none bad.0 bad.1 bad.2)
-
--- ---- the range
-
-module _ (from to : ℕ) (told : Fault) (bad : IsFaultOfRange from to told) where
-  -- a range that is none is told before any file is read
-  pub range_refused : {R T : Type 0} {remaining : R → Option (List ℕ)} {before : Inputs R} (Whole : Files → Fault → Type 0) → ((files : Files) → Whole files told)
-      → TellsFaults {T = T} Whole remaining before before (Err told)
-  range_refused {R} {T} {remaining} {before} Whole first =
-      subst (λ (each : Fault). TellsFaults {T = T} Whole remaining before before (Err each)) (sym bad.1) (record {
-        first = λ files are. subst (λ (each : Fault). Whole files each) bad.1 (first files);
-        reads = reads_of_none {before = before} {after = before} (Err (fault.Refused refusal.BadRange nowhere)) refl refl refl refl refl refl tt;
-        questions = reads_untouched (given_failures before.questions) (given_failures before.questions) (Err (fault.Refused refusal.BadRange nowhere)) refl (λ is. cc);
-      })
-
-  pub range_unread : (Of : InputFile → Type 0) → OfFailedRead Of told
-  range_unread Of = subst (OfFailedRead Of) (sym bad.1) tt
+use Rattle.dnsv_files.specs.Files.{Files}
+use Rattle.dnsv_files.specs.Told.{IsFaultOf}
+use Rattle.dnsv_work.specs.InOrder.{AreReadFrom}
+use Rattle.dnsv_work.specs.Judged.{verdict_fault}
+use Rattle.dnsv_work.specs.Known.{Ground}
+use Rattle.dnsv_program.specs.Work.Timeline.{IsStoppedThroughout, IsTimeline, IsTimelineBehind}
+use Rattle.dnsv_work.specs.declared.given.Said as given
+use Rattle.dnsv_work.proofs.WorkLemmas.InOrder.{all_given}
 
 -- ---- what is said at the moments
 

@@ -5,26 +5,17 @@ use Rattle.dnsv_answers.specs.declared.heading.Moments.TheVariants.{At}
 use Rattle.dnsv_canonical.specs.Question.{Asked}
 use Rattle.dnsv_canonical.specs.Rrsets.{IsQuestion}
 use Rattle.dnsv_chain.specs.Basis.{Basis}
-use Rattle.dnsv_verdict.specs.VerdictError.{verdict_error_code}
-use Rattle.dnsv_verdict.specs.Way.{IsRefusal}
-use Rattle.dnsv_verdict.specs.declared.error.VerdictError.{VerdictError}
-use Rattle.dnsv_texts.specs.Refused.{refused_text}
 use Rattle.dnsv_texts.specs.declared.format.Format.{Format}
 use Rattle.dnsv_files.specs.Files.{Files, octets_or_none}
 use Rattle.dnsv_files.specs.Files.Questions.{HasQuestions}
 use Rattle.dnsv_files.specs.Status.{status_code}
-use Rattle.dnsv_program.specs.Work.Checking.{AreInOrder, IsJudged, basis_in}
+use Rattle.dnsv_work.specs.InOrder.{AreInOrder, basis_in}
+use Rattle.dnsv_program.specs.Work.Checking.{IsJudged}
 use Rattle.dnsv_files.specs.declared.status.Status.{Status}
-use Rattle.dnsv_files.specs.declared.status.Status.TheVariants.{Done, Refused}
+use Rattle.dnsv_files.specs.declared.status.Status.TheVariants.{Done}
+use Rattle.dnsv_work.specs.Judged.{IsRefusedOne}
 
 -- ---- one question
-
--- the question has no verdict, and the text says by which number it is refused
-pub record IsRefusedOne (format : Format) (why : Bool) (basis : Basis) (asked : Asked) (end : Status) (text : List ℕ) : Type 0 where
-  pub error : VerdictError
-  pub refused : IsRefusal basis asked.name asked.rtype error
-  pub ends : end ≡ Refused
-  pub line : text ≡ refused_text format (verdict_error_code error) why asked.name asked.rtype basis.moment (status_code end)
 
 -- the end and the text that the question has alone, or how it is refused
 abbrev pub IsAnswer : Format → Bool → Option (List ℕ) → Basis → Asked → Status → List ℕ → Type 0

@@ -1,7 +1,6 @@
 -- What the timeline of a question is over the files, and how a question that has none is refused.
 use Rattle.std.specs.Prelude.{◌≡◌, ℕ, Bool, List}
 use Rattle.dnsv_names.specs.Name.{Labels}
-use Rattle.dnsv_timeline.specs.Range.{IsRange}
 use Rattle.dnsv_timeline.specs.Timeline.{IsTimelineBy}
 use Rattle.dnsv_timeline.specs.declared.stretch.Stretch.{Stretch}
 use Rattle.dnsv_answers.specs.declared.heading.Moments.TheVariants.{Between}
@@ -12,15 +11,9 @@ use Rattle.dnsv_moments.specs.validity.Said.{IsSaidAt, Said}
 use Rattle.dnsv_moments.specs.Question.{IsRefusedThroughout}
 use Rattle.dnsv_moments.specs.texts.Text.{IsTimelineText}
 use Rattle.dnsv_files.specs.Files.{Files}
-use Rattle.dnsv_files.specs.Told.{nowhere}
 use Rattle.dnsv_files.specs.declared.status.Fault.{Fault}
-use Rattle.dnsv_files.specs.declared.status.Fault.TheVariants as fault
-use Rattle.dnsv_files.specs.declared.status.Refusal.TheVariants as refusal
-use Rattle.dnsv_program.specs.Work.Checking.{AreInOrder, basis_in, verdict_fault}
-
--- the range is none, and is refused so, without a place
-abbrev pub IsFaultOfRange : ℕ → ℕ → Fault → Type 0
-IsFaultOfRange from to told = (¬ IsRange from to) × (told ≡ fault.Refused refusal.BadRange nowhere)
+use Rattle.dnsv_work.specs.InOrder.{AreInOrder, basis_in}
+use Rattle.dnsv_work.specs.Judged.{verdict_fault}
 
 -- By what it is judged by at the first moment, the question isn't refused throughout the range that ends there, and the text
 -- is that of its timeline: of what is said of it at each moment of the range.

@@ -3,30 +3,24 @@ ghost use Rattle.std.specs.Prelude.{◌≡◌, ◌⊎◌, ◌<◌, ℕ, Err, IfE
 ghost use Rattle.std.specs.Io.KnownBytes.{Appends};
 ghost use Rattle.dnsv_message.specs.Streams.Counted.{inner_of, failures_of, AppendsBeginning};
 ghost use Rattle.dnsv_answers.specs.declared.heading.Moments.TheVariants.{At};
-ghost use Rattle.dnsv_canonical.specs.Question as asked;
 ghost use Rattle.dnsv_chain.specs.Basis.{IsCaseOf, Basis, basis_of};
-ghost use Rattle.dnsv_verdict.specs.Way.{IsRefusal};
 ghost use Rattle.dnsv_files.specs.Files.Faults.{OfFailedRead, TellsFaults};
 ghost use Rattle.dnsv_files.specs.Files.{AreTold, Files};
 ghost use Rattle.dnsv_program.specs.Run.{IsFirstFaultOfEach, IsReachedByEach};
-ghost use Rattle.dnsv_program.specs.Work.Asking.{AreAnswered, AreAnswers, AreFewerAnswered, AreFirstAnswered, IsAnswer, IsRefusedOne};
+ghost use Rattle.dnsv_program.specs.Work.Asking.{AreAnswered, AreAnswers, AreFewerAnswered, AreFirstAnswered, IsAnswer};
 ghost use Rattle.dnsv_files.specs.Told.{IsFaultOf};
 ghost use Rattle.dnsv_program.specs.Work.Judging.{case_of, tells_why};
-ghost use Rattle.dnsv_program.specs.Work.Known.{AreMiscountedIn, Ground};
+ghost use Rattle.dnsv_work.specs.Known.{AreMiscountedIn, Ground};
 ghost use Rattle.dnsv_files.specs.declared.status.Status.{Status};
 
-use crate::work::Outcome;
-use crate::work::given::{Given, given_in};
-use crate::work::judging::{Asked, Judging, Telling, outcome_by, verdict_fault};
-use crate::work::known::{OpenNumbers, open_case};
-use crate::work::span::Span;
+use crate::work::judging::{Judging, outcome_by};
+use crate::work::known::open_case;
 use bumpalo::Bump;
 use dnsv_canonical::Rrset;
 use dnsv_files::{Fault, InputFile, Inputs, Moment, Status, text_in};
 use dnsv_message::Counted;
 use dnsv_questions::{Questions, StoredQuestion};
-use dnsv_texts::{Heading, refused_text};
-use dnsv_verdict::VerdictError;
+use dnsv_work::{Asked, Given, OpenNumbers, Outcome, Span, Telling, given_in, refused};
 use std::alloc::{AllocError, Global};
 use std::io::{Read, Write};
 
@@ -240,30 +234,4 @@ fn answer(
         ),
         Err(error) => refused(alloc, reporting.telling, &asked, error),
     }
-}
-
-/// How the question is refused, unless that is for want of memory.
-fn refused(
-    alloc: Global,
-    telling: Telling,
-    asked: &Asked<'_>,
-    error: VerdictError,
-) -> Result<Outcome, AllocError>
-    ensures { (basis : Basis) → basis.moment ≡ asked.now.moment
-        → (error ≡ VerdictError.OutOfMemory) ⊎ IsRefusal basis asked.now.name.now asked.now.rtype.0 error
-        → IfOk result (λ outcome. IsRefusedOne telling.format telling.why basis (record { name = asked.now.name.now; rtype = asked.now.rtype.0 })
-        outcome.status (string_bytes outcome.text)) }
-{
-    let Fault::Refused(_, _) = verdict_fault(error) else {
-        return Err(AllocError);
-    };
-    let status = Status::Refused;
-    let heading = Heading {
-        name: asked.name,
-        rtype: asked.rtype,
-        moment: asked.moment.seconds(),
-        status: status.code(),
-    };
-    let text = refused_text(alloc, telling.format, error.code(), telling.why, &heading)?;
-    Ok(Outcome { status, text })
 }

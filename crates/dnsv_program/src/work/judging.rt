@@ -1,5 +1,5 @@
 //! How questions are judged, and what the program says of one.
-ghost use Rattle.std.specs.Prelude.{◌≡◌, ◌⊎◌, ℕ, IfErr, IfOk, List, Option, string_bytes};
+ghost use Rattle.std.specs.Prelude.{◌≡◌, ◌⊎◌, ℕ, IfErr, IfOk, List, string_bytes};
 ghost use Rattle.std.specs.Option.{option_map};
 ghost use Rattle.dnsv_canonical.specs.Rrsets.{IsQuestion, ReceivedRrset};
 ghost use Rattle.dnsv_verifier.specs.Table.{IsTableOf};
@@ -8,46 +8,25 @@ ghost use Rattle.dnsv_verifier.specs.declared.entry.Entry.{Entry};
 ghost use Rattle.dnsv_verdict.specs.Way.{IsRefusal, IsRefusedFor, IsVerdictOf};
 ghost use Rattle.dnsv_verdict.specs.declared.error.VerdictError.{VerdictError};
 ghost use Rattle.dnsv_verdict.specs.declared.error.VerdictError.TheVariants.{OutOfMemory};
-ghost use Rattle.dnsv_verdict.specs.declared.report.Report.{Report};
 ghost use Rattle.dnsv_chain.specs.Basis.{Basis, basis_of, IsCaseOf};
-ghost use Rattle.dnsv_verdict.specs.VerdictError.{verdict_error_code};
-ghost use Rattle.dnsv_lines.specs.declared.line.Line.{Line};
-ghost use Rattle.dnsv_files.specs.Status.{fault_number, status_code};
+ghost use Rattle.dnsv_files.specs.Status.{status_code};
 ghost use Rattle.dnsv_texts.specs.Checking as texts;
-ghost use Rattle.dnsv_program.specs.Work.Checking as specs;
+ghost use Rattle.dnsv_work.specs.Judged as specs;
 ghost use Rattle.dnsv_program.specs.Work.Checking.{IsJudged, IsWhy};
 ghost use Rattle.dnsv_program.specs.Work.Judging.{case_of, tells_why};
 
-use crate::work::Outcome;
-use crate::work::known::OpenNumbers;
 use bumpalo::Bump;
 use dnsv_canonical::{Capture, Rrset};
 use dnsv_chain::Anchors;
 use dnsv_explain::{Explainer, Explanation};
-use dnsv_files::{Fault, Moment, Place, Refusal, Status};
+use dnsv_files::{Fault, Moment};
 use dnsv_lines::Line;
 use dnsv_names::{Name, RecordType};
 use dnsv_texts::{Format, Heading, check_text};
-use dnsv_verdict::{Case, OpenCase, Report, Verdict, VerdictError};
+use dnsv_verdict::{Case, OpenCase, Report, VerdictError};
 use dnsv_verifier::{Table, Verifier};
+use dnsv_work::{Asked, OpenNumbers, Outcome, Telling, status_of, verdict_fault};
 use std::alloc::{AllocError, Global};
-
-/// How a verdict is reported.
-#[derive(Clone, Copy)]
-pub struct Telling {
-    /// How the text is written.
-    pub format: Format,
-    /// Whether it says besides why the verdict stands.
-    pub why: bool,
-}
-
-/// What is asked, and the moment that the verdict speaks of.
-#[derive(Clone, Copy)]
-pub struct Asked<'a> {
-    pub name: &'a Name,
-    pub rtype: RecordType,
-    pub moment: Moment,
-}
 
 /// A case that questions are judged by, and where it is asked why verdicts stand, explained by: with what these share.
 #[derive(Drop)]
@@ -198,29 +177,5 @@ fn lines_of(why: &Option<Explanation>) -> Option<&[Line]>
     match why {
         Some(explanation) => Some(explanation.lines()),
         None => None,
-    }
-}
-
-/// The fault by which it is reported that a question has no verdict. It has no place.
-pub fn verdict_fault(error: VerdictError) -> Fault
-    ensures told { result ≡ specs.verdict_fault error }
-    ensures number { fault_number result ≡ verdict_error_code error }
-{
-    match error {
-        VerdictError::OutOfMemory => Fault::OutOfMemory,
-        _ => Fault::Refused(Refusal::Question(error), Place::NOWHERE),
-    }
-}
-
-/// The end of a run by the verdict.
-fn status_of(verdict: &Verdict<'_>) -> Status
-    ensures { result ≡ specs.verdict_status verdict.now }
-{
-    match verdict {
-        Verdict::Insecure(_) => Status::Insecure,
-        Verdict::Pending(_) => Status::Pending,
-        Verdict::Bogus => Status::Bogus,
-        Verdict::Indeterminate => Status::Indeterminate,
-        _ => Status::Done,
     }
 }

@@ -7,26 +7,26 @@ ghost use Rattle.dnsv_files.specs.Files.{AreTold, Files};
 ghost use Rattle.dnsv_files.specs.Told.{IsFaultOf};
 ghost use Rattle.dnsv_moments.specs.Moments.{AreMomentsBy};
 ghost use Rattle.dnsv_moments.specs.Question.{IsRefusedThroughout};
-ghost use Rattle.dnsv_program.specs.Run.{IsFirstFaultOfTimeline, IsFirstFaultThroughout, IsReachedByTimeline, IsReachedOfFiles, IsTimelineAsked, IsTimelineRefused};
-ghost use Rattle.dnsv_program.specs.Work.Checking.{verdict_fault};
-ghost use Rattle.dnsv_program.specs.Work.Known.{AreMiscountedIn, Ground, IsKnown, numbers_said};
+ghost use Rattle.dnsv_program.specs.Run.{IsFirstFaultOfTimeline, IsFirstFaultThroughout, IsReachedByTimeline, IsTimelineAsked};
+ghost use Rattle.dnsv_work.specs.Reached.{IsReachedOfFiles};
+ghost use Rattle.dnsv_work.specs.Faults.{IsTimelineRefused};
+ghost use Rattle.dnsv_work.specs.Judged.{verdict_fault};
+ghost use Rattle.dnsv_work.specs.Known.{AreMiscountedIn, Ground, IsKnown, numbers_said};
 ghost use Rattle.dnsv_program.specs.Work.Timeline.{IsTimeline, IsTimelineBehind};
 ghost use Rattle.dnsv_chain.specs.Basis.{basis_of};
 ghost use Rattle.dnsv_verdict.specs.declared.error.VerdictError.{VerdictError};
 ghost use Rattle.dnsv_verifier.specs.declared.answer.Answer.{Answer};
 ghost use Rattle.dnsv_verifier.specs.declared.entry.Entry.{Entry};
 
-use crate::question::question_name;
-use crate::work::given::{Given, Said, given_in};
-use crate::work::judging::verdict_fault;
-use crate::work::known::table_of;
-use crate::work::span::{Span, range_between};
 use bumpalo::Bump;
 use dnsv_files::{Fault, Inputs, Moment};
 use dnsv_moments::{Moments, Question, timeline_of_question, timeline_text};
 use dnsv_names::{Count, RecordType};
 use dnsv_texts::Format;
 use dnsv_timeline::Range;
+use dnsv_work::{
+    Given, Said, Span, given_in, question_name, range_between, table_of, verdict_fault,
+};
 use std::alloc::Global;
 use std::io::Read;
 

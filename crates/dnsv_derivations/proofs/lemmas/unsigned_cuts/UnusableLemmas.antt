@@ -198,9 +198,9 @@ module _ {X : Type 0} (rdata : X → List ℕ) (record_read : X → Ds) (rrsets 
     (numbered : IsNumbered rrsets k ds) (rtype : ds.rtype ≡ 43) (values : List Ds) (zip : AllZip IsDs ds.rdata values)
     (records items : List X) (same : items ≡ records) (canonical : IsCanonical ds.rdata (map rdata records))
     (are_read : AllByRecursion (λ x. IsDs (rdata x) (record_read x)) records) where
-  record_at : (place : ℕ) (x : X) → place < length items → x ≡ get_or items place x
+  ds_at : (place : ℕ) (x : X) → place < length items → x ≡ get_or items place x
       → IsRecordAt rrsets (record_at k (place + 1)) ds (rdata x)
-  record_at place x within at =
+  ds_at place x within at =
       let AtPlace : ℕ → Type 0 = λ p. slice_get (map rdata records) p ≡ Some (rdata x) in
       let here : place ≡ place + 1 - 1 = omega arith in record {
         is_rrset = numbered;
@@ -217,7 +217,7 @@ module _ {X : Type 0} (rdata : X → List ℕ) (record_read : X → Ds) (rrsets 
       let At : RecordNumber → Type 0 = λ each. IsRecordAt rrsets each ds (rdata x) in record {
         rrset = ds;
         rdata = rdata x;
-        at = subst At (sym number) (record_at place x within at);
+        at = subst At (sym number) (ds_at place x within at);
         rtype = rtype;
         owner = owner;
         ds = record_read x;

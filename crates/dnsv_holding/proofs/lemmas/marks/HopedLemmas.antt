@@ -8,7 +8,7 @@ use Rattle.dnsv_verifier.specs.Table.{IsTableOf, TableContents, hoped_answer, ho
 use Rattle.dnsv_verifier.specs.declared.answer.Answer.{Answer}
 use Rattle.dnsv_verifier.specs.declared.answer.Answer.TheVariants.{Valid, Invalid, Unknown}
 use Rattle.dnsv_verifier.specs.declared.entry.Entry.{Entry}
-use Rattle.dnsv_chain.specs.Trusted.{IsKeyOf}
+use Rattle.dnsv_chain.specs.Trusted.{IsKeyOf, IsSecured}
 use Rattle.dnsv_chain.specs.declared.anchor.Anchor.{Anchor}
 use Rattle.dnsv_verdict.specs.Verdict.{AreUnknown}
 use Rattle.dnsv_chain.specs.Basis.{basis_of}

@@ -6,6 +6,7 @@ use Rattle.std.proofs.lemmas.Map.Keys.{Less-from_sorted}
 use Rattle.std.proofs.lemmas.Option.{get_or_from_slice_get, slice_get_within}
 use Rattle.std.specs.List.Sorted.{IsStrictlySortedBy}
 use Rattle.std.specs.declared.cmp.Ordering.TheVariants.{Less, Equal}
+use Rattle.std.specs.List.{Contains}
 use Rattle.dnsv_names.specs.Name.{Labels}
 use Rattle.dnsv_records.specs.declared.rrsig.Rrsig.{Rrsig}
 use Rattle.dnsv_canonical.specs.Rrsets.{IsNumbered, ReceivedRrset}
@@ -47,6 +48,10 @@ use Rattle.dnsv_holding.proofs.lemmas.one.PlaceLemmas.{one_end, one_places_told}
 use Rattle.dnsv_holding.proofs.lemmas.one.ShownLemmas.{cut_there, one_shown_closer, one_shown_cut, one_shown_data, one_shown_name, one_shown_out, one_trust}
 use Rattle.dnsv_derivations.proofs.lemmas.one.StepLemmas.{IsOne, one_both, one_each}
 use Rattle.dnsv_derivations.proofs.lemmas.one.TrustedLemmas.{AreApart, one_signature_at}
+
+-- which signatures are kept as good
+abbrev Kept : (ℕ → List ℕ) → ℕ → ℕ → Type 0
+Kept signed k s = Contains (signed k) s
 
 module _ (setting : Setting) (apart : AreApart setting.todo) (name : Labels) where
   -- ---- an RRset that holds

@@ -1,5 +1,5 @@
 use Rattle.std.proofs.lemmas.Result.{err_from_is_err_and}
-use Rattle.dnsv_program.proofs.ProgramLemmas.{which_unopened}
+use Rattle.dnsv_work.proofs.OpenedLemmas.{which_unopened}
 use Rattle.dnsv_program.proofs.ProgramLemmas.Told.{not_opened, told_by_run}
 use Rattle.dnsv_program.proofs.program.answer.Goals as goal
 

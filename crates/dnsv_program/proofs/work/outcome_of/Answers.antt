@@ -1,7 +1,7 @@
 use Rattle.std.proofs.Common.{subst}
 use Rattle.dnsv_program.specs.Run.{IsFirstFault, IsFirstFaultOfCheck, IsReached, IsReachedByCheck}
 use Rattle.dnsv_files.proofs.FileLemmas.Faults.{TellsFaults-weaker}
-use Rattle.dnsv_program.proofs.ReachedLemmas.{reached_in}
+use Rattle.dnsv_work.proofs.ReachedLemmas.{reached_in}
 use Rattle.dnsv_program.proofs.work.outcome_of.Goals as goal
 
 pub returns-clause-faults : goal.returns-clause-faults

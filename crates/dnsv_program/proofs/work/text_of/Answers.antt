@@ -1,6 +1,7 @@
 use Rattle.std.proofs.Common.{subst, sym}
 use Rattle.dnsv_files.proofs.FileLemmas.Faults.{TellsFaults-weaker}
-use Rattle.dnsv_program.specs.Run.{IsFirstFault, IsFirstFaultOfRange, IsFirstFaultOfTimeline, IsFirstFaultOfTodo, IsTimelineRefused}
+use Rattle.dnsv_program.specs.Run.{IsFirstFault, IsFirstFaultOfTimeline}
+use Rattle.dnsv_work.specs.Faults.{IsFirstFaultOfRange, IsFirstFaultOfTodo, IsTimelineRefused}
 use Rattle.dnsv_program.proofs.work.text_of.Goals as goal
 
 pub returns-in-ListRange-clause-faults : goal.returns-in-ListRange-clause-faults

@@ -3,11 +3,11 @@ use Rattle.std.proofs.lemmas.Result.{err_from_is_err_and}
 use Rattle.dnsv_answers.specs.declared.heading.Moments.TheVariants.{At}
 use Rattle.dnsv_chain.specs.Basis.{Basis, basis_of}
 use Rattle.dnsv_program.specs.Work.Asking.{AreAnswers}
-use Rattle.dnsv_program.specs.Work.Known.{AreMiscountedIn, Ground, numbers_said}
+use Rattle.dnsv_work.specs.Known.{AreMiscountedIn, Ground, numbers_said}
 use Rattle.dnsv_files.specs.declared.status.Status.{Status}
 use Rattle.dnsv_program.proofs.AskingLemmas.Files.{told_done, told_only, told_untouched}
 use Rattle.dnsv_files.proofs.FileLemmas.Faults.{same_fault}
-use Rattle.dnsv_program.proofs.ReachedLemmas.{refused_unwritten}
+use Rattle.dnsv_work.proofs.ReachedLemmas.{refused_unwritten}
 use Rattle.dnsv_program.proofs.work.asking.answer_all.Goals as goal
 
 pub returns-in_err-judge-clause-only : goal.returns-in_err-judge-clause-only

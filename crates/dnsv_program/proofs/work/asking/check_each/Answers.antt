@@ -1,9 +1,9 @@
 use Rattle.std.proofs.lemmas.Result.{err_from_is_err_and}
 use Rattle.dnsv_answers.specs.declared.heading.Moments.TheVariants.{At}
 use Rattle.dnsv_program.specs.Run.{IsReachedByEach}
-use Rattle.dnsv_program.specs.Work.Known.{AreMiscountedIn}
+use Rattle.dnsv_work.specs.Known.{AreMiscountedIn}
 use Rattle.dnsv_program.proofs.AskingLemmas.Files.{all_asked, all_done, asked_reached, first_begun, first_whole, given_failed, told_behind}
-use Rattle.dnsv_program.proofs.WorkLemmas.Checking.{none_given}
+use Rattle.dnsv_work.proofs.WorkLemmas.InOrder.{none_given}
 use Rattle.dnsv_program.proofs.work.asking.check_each.Goals as goal
 
 pub returns-in_err-given-clause-faults : goal.returns-in_err-given-clause-faults

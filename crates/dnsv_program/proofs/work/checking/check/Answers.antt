@@ -1,8 +1,9 @@
 use Rattle.std.proofs.Common.{inr}
 use Rattle.dnsv_answers.specs.declared.heading.Moments.TheVariants.{At}
-use Rattle.dnsv_program.specs.Run.{IsFirstFaultOfCheck, IsFirstFaultOfName, IsReachedByCheck, IsReachedOfFiles}
+use Rattle.dnsv_program.specs.Run.{IsFirstFaultOfCheck, IsFirstFaultOfName, IsReachedByCheck}
+use Rattle.dnsv_work.specs.Reached.{IsReachedOfFiles}
 use Rattle.dnsv_files.proofs.FileLemmas.Faults.{TellsFaults-weaker}
-use Rattle.dnsv_program.proofs.ReachedLemmas.{reached_in}
+use Rattle.dnsv_work.proofs.ReachedLemmas.{reached_in}
 use Rattle.dnsv_program.proofs.work.checking.check.Goals as goal
 
 pub returns-clause-faults : goal.returns-clause-faults

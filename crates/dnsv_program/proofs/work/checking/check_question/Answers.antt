@@ -4,11 +4,14 @@ use Rattle.dnsv_answers.specs.declared.heading.Moments.TheVariants.{At}
 use Rattle.dnsv_chain.specs.Basis.{basis_of}
 use Rattle.dnsv_verdict.specs.Way.{IsRefusedFor}
 use Rattle.dnsv_verdict.specs.declared.error.VerdictError.{VerdictError}
-use Rattle.dnsv_program.specs.Run.{IsFirstFaultOfFiles, IsFirstFaultOfName, IsReachedOfFiles}
-use Rattle.dnsv_program.specs.Work.Known.{AreMiscountedIn, Ground}
+use Rattle.dnsv_work.specs.Faults.{IsFirstFaultOfFiles}
+use Rattle.dnsv_program.specs.Run.{IsFirstFaultOfName}
+use Rattle.dnsv_work.specs.Reached.{IsReachedOfFiles}
+use Rattle.dnsv_work.specs.Known.{AreMiscountedIn, Ground}
 use Rattle.dnsv_files.proofs.FileLemmas.Faults.{beside_passed, with_questions}
 use Rattle.dnsv_program.proofs.JudgedLemmas.{given_or_refused, judged_unrefused, stopped_there, ungiven_read, ungiven_writes}
-use Rattle.dnsv_program.proofs.WorkLemmas.Checking.{all_checked, all_given, none_given}
+use Rattle.dnsv_program.proofs.WorkLemmas.Checking.{all_checked}
+use Rattle.dnsv_work.proofs.WorkLemmas.InOrder.{all_given, none_given}
 use Rattle.dnsv_program.proofs.work.checking.check_question.Goals as goal
 
 pub returns-in_err-given-clause-faults : goal.returns-in_err-given-clause-faults

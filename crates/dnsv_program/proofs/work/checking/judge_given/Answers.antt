@@ -2,7 +2,7 @@ use Rattle.std.proofs.Common.{inl, refl}
 use Rattle.std.proofs.lemmas.Result.{err_from_is_err_and}
 use Rattle.dnsv_answers.specs.declared.heading.Moments.TheVariants.{At}
 use Rattle.dnsv_chain.specs.Basis.{Basis, basis_of}
-use Rattle.dnsv_program.specs.Work.Known.{AreMiscountedIn, numbers_said}
+use Rattle.dnsv_work.specs.Known.{AreMiscountedIn, numbers_said}
 use Rattle.dnsv_program.proofs.JudgedLemmas.{refused_by, told_by}
 use Rattle.dnsv_program.proofs.work.checking.judge_given.Goals as goal
 

@@ -4,7 +4,7 @@ use Rattle.dnsv_verdict.specs.Way.{IsRefusal, IsRefusedFor}
 use Rattle.dnsv_verdict.specs.declared.error.VerdictError.TheVariants.{BadQuestion, OutOfMemory}
 use Rattle.dnsv_texts.specs.Checking.{check_text}
 use Rattle.dnsv_files.specs.Status.{status_code}
-use Rattle.dnsv_program.specs.Work.Checking.{verdict_fault}
+use Rattle.dnsv_work.specs.Judged.{verdict_fault}
 use Rattle.dnsv_program.proofs.work.judging.judge.Goals as goal
 
 pub returns-in_ok-outcome_by-in-Ok-clause-verdict : goal.returns-in_ok-outcome_by-in-Ok-clause-verdict

@@ -4,7 +4,7 @@ use Rattle.dnsv_answers.specs.declared.heading.Moments.TheVariants.{At}
 use Rattle.dnsv_verifier.specs.Table.{table_answer}
 use Rattle.dnsv_chain.specs.Basis.{IsCaseOf, basis_of}
 use Rattle.dnsv_program.specs.Work.Judging.{case_of}
-use Rattle.dnsv_program.proofs.WorkLemmas.Known.{known_answered, known_stated, miscounted}
+use Rattle.dnsv_work.proofs.WorkLemmas.Known.{known_answered, known_stated, miscounted}
 use Rattle.dnsv_program.proofs.work.known.open_case.Goals as goal
 
 pub by_table-requires : goal.by_table-requires

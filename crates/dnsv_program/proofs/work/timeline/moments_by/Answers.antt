@@ -5,7 +5,7 @@ use Rattle.dnsv_answers.specs.declared.heading.Moments.TheVariants.{Between}
 use Rattle.dnsv_answers.proofs.AnsweredLaws.{answered_within}
 use Rattle.dnsv_verifier.specs.Table.{table_answer}
 use Rattle.dnsv_moments.specs.Moments.{AreMomentsBy}
-use Rattle.dnsv_program.proofs.WorkLemmas.Known.{known_answered, known_stated, miscounted}
+use Rattle.dnsv_work.proofs.WorkLemmas.Known.{known_answered, known_stated, miscounted}
 use Rattle.dnsv_program.proofs.work.timeline.moments_by.Goals as goal
 
 pub returns-in_ok-moments-in-Statements-clause-known : goal.returns-in_ok-moments-in-Statements-clause-known

@@ -2,9 +2,10 @@ use Rattle.std.proofs.Common.{Err, ap, inl, inr}
 use Rattle.std.proofs.lemmas.Result.{err_from_is_err_and}
 use Rattle.dnsv_answers.specs.declared.heading.Moments.TheVariants.{Between}
 use Rattle.dnsv_files.proofs.FileLemmas.Faults.{TellsFaults-weaker}
-use Rattle.dnsv_program.specs.Run.{IsFirstFaultOfTimeline, IsFirstFaultThroughout, IsReachedByTimeline, IsReachedOfFiles}
-use Rattle.dnsv_program.proofs.ReachedLemmas.{reached_in}
-use Rattle.dnsv_program.proofs.WorkLemmas.Timeline.{name_refused, range_refused, range_unread}
+use Rattle.dnsv_program.specs.Run.{IsFirstFaultOfTimeline, IsFirstFaultThroughout, IsReachedByTimeline}
+use Rattle.dnsv_work.specs.Reached.{IsReachedOfFiles}
+use Rattle.dnsv_work.proofs.ReachedLemmas.{reached_in}
+use Rattle.dnsv_work.proofs.WorkLemmas.Range.{name_refused, range_refused, range_unread}
 use Rattle.dnsv_files.specs.declared.status.Fault.{Fault}
 use Rattle.dnsv_program.proofs.work.timeline.timeline.Goals as goal
 

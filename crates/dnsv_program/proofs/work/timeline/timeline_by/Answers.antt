@@ -5,7 +5,7 @@ use Rattle.dnsv_verdict.specs.declared.error.VerdictError.{VerdictError}
 use Rattle.std.proofs.Common.{inl}
 use Rattle.std.proofs.lemmas.Result.{err_from_is_err_and}
 use Rattle.std.specs.Prelude.{string_bytes}
-use Rattle.dnsv_program.specs.Work.Known.{AreMiscountedIn, Ground, numbers_said}
+use Rattle.dnsv_work.specs.Known.{AreMiscountedIn, Ground, numbers_said}
 use Rattle.dnsv_program.proofs.WorkLemmas.Timeline.{refused_said, timeline_said, unrefused}
 use Rattle.dnsv_program.proofs.work.timeline.timeline_by.Goals as goal
 

@@ -1,0 +1,12 @@
+pub mod Faults
+pub mod InOrder
+pub mod Judged
+pub mod Known
+pub mod Listing
+pub mod Opened
+pub mod Opening
+pub mod Question
+pub mod Reached
+pub mod Showing
+pub mod Span
+pub mod Telling
