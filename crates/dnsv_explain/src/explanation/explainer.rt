@@ -1,8 +1,11 @@
 //! What all explanations over one case share.
-ghost use Rattle.std.specs.Prelude.{◌≡◌, IfOk};
-ghost use Rattle.dnsv_chain.specs.Basis.{Basis, IsCaseOf, basis_of};
-ghost use Rattle.dnsv_verdict.specs.Report.{IsReport, Refuses};
-ghost use Rattle.dnsv_explain.specs.Explanation.{IsExplanationOf};
+ghost use Rattle.std.specs.Prelude.{◌≡◌, [], IfOk};
+ghost use Rattle.dnsv_names.specs.Name.{Labels};
+ghost use Rattle.dnsv_chain.specs.Basis.{Basis, IsCaseOf, basis_by, basis_of};
+ghost use Rattle.dnsv_verdict.specs.Report.{IsKept, IsReport, Refuses, hashes_in};
+ghost use Rattle.dnsv_verdict.specs.Way.{IsVerdictOf};
+ghost use Rattle.dnsv_holding.specs.Explained.{explained_by};
+ghost use Rattle.dnsv_explain.specs.Explanation.{IsExplanation, IsExplanationOf};
 
 use crate::explanation::{Explanation, explanation_of};
 use bumpalo::Bump;
@@ -10,7 +13,7 @@ use dnsv_canonical::Capture;
 use dnsv_chain::Anchors;
 use dnsv_holding::Deriver;
 use dnsv_names::{Name, RecordType};
-use dnsv_verdict::{Case, Report, VerdictError};
+use dnsv_verdict::{Case, Judged, Report, VerdictError};
 use dnsv_verifier::Verifier;
 use std::alloc::{AllocError, Global};
 use std::marker::Model;
@@ -76,12 +79,29 @@ impl<'a> Explainer<'a> {
         ensures same { self.new ≡ self.old }
     {
         let judged = self.deriver.judge(alloc, name, rtype)?;
-        let case = self.deriver.case();
-        // What is true of every case.
-        let _trust = case.trust();
-        let evidence = self.deriver.evidence();
-        let hoped = self.deriver.hoped_ways();
-        let explanation = explanation_of(alloc, &evidence, case, &judged, hoped, rtype)?;
+        let explanation = explained(alloc, &self.deriver, &judged, rtype)?;
         Ok((judged.report, explanation))
     }
+}
+
+/// Why the verdict stands that was judged.
+fn explained<'a>(
+    alloc: Global,
+    deriver: &Deriver<'a>,
+    judged: &Judged<'a>,
+    rtype: RecordType,
+) -> Result<Explanation, AllocError>
+    requires kept { IsKept deriver.now rtype.0 judged.now.report.links judged.now.report.last
+        judged.now.report.verdict (hashes_in judged.now) judged.now.hope }
+    requires verdict { (name : Labels) × IsVerdictOf (basis_by deriver.now) name rtype.0 judged.now.report.links
+        judged.now.report.last judged.now.report.verdict }
+    ensures { IfOk result (IsExplanation (explained_by deriver.now []) rtype.0 judged.now.report.links
+        judged.now.report.last judged.now.report.verdict) }
+{
+    let case = deriver.case();
+    // What is true of every case.
+    let _trust = case.trust();
+    let evidence = deriver.evidence();
+    let hoped = deriver.hoped_ways();
+    explanation_of(alloc, &evidence, case, judged, hoped, rtype)
 }

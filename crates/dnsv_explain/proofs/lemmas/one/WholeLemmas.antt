@@ -20,17 +20,17 @@ use Rattle.dnsv_derivations.proofs.lemmas.one.TrustedLemmas.{AreApart}
 use Rattle.dnsv_holding.proofs.lemmas.one.HoldingLemmas.{NeedsApart, needs_apart, none_apart, one_holding}
 
 module _ (explained : Explained) (none : AreApart explained.todo) (t : ℕ) where
-  one_failed : (links : List Link) (last : Labels) (verdict : Verdict) → NeedsApart verdict
+  one_failed : (links : List Link) (last : Labels) (verdict : Verdict) → NeedsApart explained none t verdict
       → IsOne (AreBoth (IsFailureTold (setting_in explained) last t) (IsHoldingTold explained t links last verdict))
   one_failed links last verdict apart before a b x y =
       one_both (IsFailureTold (setting_in explained) last t) (IsHoldingTold explained t links last verdict)
-      (one_failure_told (setting_in explained) last t) (one_holding links last verdict apart) before a b x y
+      (one_failure_told (setting_in explained) last t) (one_holding explained none t links last verdict apart) before a b x y
 
-  one_explanation : (links : List Link) (last : Labels) (verdict : Verdict) → NeedsApart verdict → (a b : List Line)
+  one_explanation : (links : List Link) (last : Labels) (verdict : Verdict) → NeedsApart explained none t verdict → (a b : List Line)
       → IsExplanation explained t links last verdict a → IsExplanation explained t links last verdict b → a ≡ b
   one_explanation links last Bogus apart a b x y = one_failed links last Bogus apart [] a b x y
   one_explanation links last Indeterminate apart a b x y = one_failed links last Indeterminate apart [] a b x y
-  one_explanation links last verdict apart a b x y = one_holding links last verdict apart [] a b x y
+  one_explanation links last verdict apart a b x y = one_holding explained none t links last verdict apart [] a b x y
 
 pub one_of_report : (basis : Basis) (name : Labels) (t : ℕ) (report : Report) (a b : List Line)
     → IsVerdictOf basis name t report.links report.last report.verdict → IsExplanationOf basis t report a → IsExplanationOf basis t report b → a ≡ b
