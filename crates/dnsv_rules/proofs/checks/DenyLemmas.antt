@@ -57,25 +57,18 @@ module _ (S : ℕ → ℕ → Type 0) (rrsets : List ReceivedRrset) (lines : Lis
 
   pub no_name_denies : (apex : Labels) (shape : ProofForm RecordNumber) → ShowsNoName number_cmp (evidence_said S rrsets apex chain) apex name shape
       → All shape
-  no_name_denies apex _ (name_shown parts x) = (encloser_denies (kind_of chain) parts.labels parts.encloser, tt, tt, tt)
+  no_name_denies apex _ (name_shown parts x) = (encloser_denies (kind_of chain) parts.labels parts.encloser, (tt, (tt, tt)))
 
   pub no_data_denies : (shape : ProofForm RecordNumber) → AllByRecursion (Counts S rrsets lines zone name) (form_records shape)
       → ShowsNoData number_cmp (evidence_said S rrsets zone chain) zone name asked.rtype shape → All shape
   no_data_denies _ counts (at_name number x) =
       ((number, refl, types_own S rrsets lines zone name chain asked.rtype name number counts.0 x.types.says), tt)
   no_data_denies _ counts (empty number x) = (tt, tt)
-  no_data_denies _ counts (at_wildcard parts x) = (
-    encloser_denies (kind_of chain) parts.labels parts.encloser,
-    tt,
-    (
-      parts.wildcard,
-      refl,
-      types_own S rrsets lines zone name chain asked.rtype (wildcard_of (rightmost name parts.labels)) parts.wildcard
-          (last_counts S rrsets lines zone name parts counts) x.shows.wildcard.says,
-    ),
-    tt,
-  )
-  no_data_denies _ counts (empty_wildcard parts x) = (encloser_denies (kind_of chain) parts.labels parts.encloser, tt, tt, tt)
+  no_data_denies _ counts (at_wildcard parts x) =
+      let denied = types_own S rrsets lines zone name chain asked.rtype (wildcard_of (rightmost name parts.labels)) parts.wildcard
+      (last_counts S rrsets lines zone name parts counts) x.shows.wildcard.says in
+      (encloser_denies (kind_of chain) parts.labels parts.encloser, (tt, ((parts.wildcard, refl, denied), tt)))
+  no_data_denies _ counts (empty_wildcard parts x) = (encloser_denies (kind_of chain) parts.labels parts.encloser, (tt, (tt, tt)))
 
   pub delegation_denies : (apex : Labels) (labels : ℕ) (shape : ProofForm RecordNumber)
       → ShowsDelegation number_cmp (evidence_said S rrsets apex chain) apex name labels shape → All shape
@@ -83,8 +76,8 @@ module _ (S : ℕ → ℕ → Type 0) (rrsets : List ReceivedRrset) (lines : Lis
 
   pub opt_out_denies : (apex : Labels) (labels : ℕ) (shape : ProofForm RecordNumber)
       → ShowsOptOut number_cmp (evidence_said S rrsets apex chain) apex name labels shape → All shape
-  opt_out_denies apex labels _ (out_shown by number x) = (encloser_denies (kind_of chain) labels by, tt, tt)
-  opt_out_denies apex labels _ (wildcard_out_shown parts same x) = (encloser_denies (kind_of chain) parts.labels parts.encloser, tt, tt, tt)
+  opt_out_denies apex labels _ (out_shown by number x) = (encloser_denies (kind_of chain) labels by, (tt, tt))
+  opt_out_denies apex labels _ (wildcard_out_shown parts same x) = (encloser_denies (kind_of chain) parts.labels parts.encloser, (tt, (tt, tt)))
 
   pub no_closer_denies : (apex : Labels) (labels : ℕ) (shape : ProofForm RecordNumber)
       → ShowsNoCloser number_cmp (evidence_said S rrsets apex chain) apex name labels shape → All shape

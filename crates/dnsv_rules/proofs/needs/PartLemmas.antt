@@ -125,6 +125,6 @@ module _ (setting : Setting) (asked : Asked) (lines : List Line) (checks : Check
   never_matched as_role denies is_role is_relation =
       let Denied : Type 0 = DeniesAsked setting.rrsets asked lines part in
       let so = checks.is_so (line.Part part) there in
-      let by : DeniesIf part.role part.relation Denied = so.2.2 in
+      let by : DeniesIf part.role part.relation Denied = so.3 in
       never_denied (denies Denied (subst (λ each. DeniesIf each relation.Matched Denied) is_role
       (subst (λ each. DeniesIf part.role each Denied) is_relation by)))
