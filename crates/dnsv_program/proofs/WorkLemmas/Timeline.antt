@@ -1,5 +1,5 @@
 -- The timeline of a question over files that were all taken.
-use Rattle.std.proofs.Common.{◌≡◌, ◌⊎◌, ℕ, Bool, List, inl, inr, refl, subst, sym}
+use Rattle.std.proofs.Common.{◌≡◌, ◌⊎◌, ⊎_elim, ℕ, Bool, List, inl, inr, refl, subst, sym}
 use Rattle.std.specs.Prelude.{Err, IfOk, IsErrOf, Ok, Result}
 use Rattle.dnsv_names.specs.Name.{Labels}
 use Rattle.dnsv_canonical.specs.Rrsets.{ReceivedRrset}
