@@ -85,7 +85,11 @@ impl<'b> SignedData<'b> {
     pub(crate) fn stand_to(&self, other: &SignedData<'_>) -> Ordering
         ensures { result ≡ octets_cmp self.now other.now }
     {
-        if self.front.len() <= other.front.len() {
+        if self.front.len() == other.front.len() {
+            let fronts = compare_octets(self.front, other.front);
+            return fronts.then_with(|| compare_octets(self.records, other.records));
+        }
+        if self.front.len() < other.front.len() {
             let (first, rest) = other.front.split_at(self.front.len());
             return compare_octets(self.front, first).then_with(|| against(
                 self.records,

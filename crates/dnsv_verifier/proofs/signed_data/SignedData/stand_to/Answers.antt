@@ -9,9 +9,18 @@ pub returns-then-self-other : goal.returns-then-self-other
 returns-then-self-other c =
     let own = c.self.inside in
     let its = c.other.inside in
+    let joined : c.then_with.result ≡ ordering_then (octets_cmp own.front.now its.front.now) (octets_cmp own.records.now its.records.now) = search rules in
+    joined ∙ sym (parted own.front.now its.front.now own.records.now its.records.now c.if-self-other.true)
+    ∙ ap (λ all. octets_cmp (own.front.now ++ own.records.now) all) c.other.view_is
+    ∙ ap (λ all. octets_cmp all c.args.other.now) c.self.view_is
+
+pub returns-then-self-other-2 : goal.returns-then-self-other-2
+returns-then-self-other-2 c =
+    let own = c.self.inside in
+    let its = c.other.inside in
     let first = c.split_at.result.0.now in
     let rest = c.split_at.result.1.now in
-    let joined : c.then_with.result ≡ ordering_then (octets_cmp own.front.now first) (octets_cmp own.records.now (rest ++ its.records.now)) = search rules in
+    let joined : c.then_with-then-self-other-2.result ≡ ordering_then (octets_cmp own.front.now first) (octets_cmp own.records.now (rest ++ its.records.now)) = search rules in
     joined ∙ sym (parted own.front.now first own.records.now (rest ++ its.records.now) (sym c.split_at.ensures.front_len))
     ∙ ap (λ all. octets_cmp (own.front.now ++ own.records.now) all)
     (sym (append_assoc first rest its.records.now) ∙ ap (λ front. front ++ its.records.now) (sym c.split_at.ensures.by_index.0) ∙ c.other.view_is)
