@@ -1,13 +1,13 @@
 //! The RDATA of NSEC (RFC 4034 4).
 use crate::bitmap::TypeBitmap;
 use crate::error::{Field, RecordError};
-use dnsv_names::Name;
+use dnsv_names::WireName;
 
 /// Which types an owner has, and which owner is the next of the zone (RFC 4034 4.1).
 #[derive(Debug, Drop)]
 pub struct Nsec<'b> {
-    /// The next owner in canonical order, as it is spelled; behind the last one the apex.
-    pub next: Name,
+    /// The next owner in canonical order, as it is spelled, where it stands; behind the last one the apex.
+    pub next: WireName<'b>,
     /// The types that the owner has.
     pub types: TypeBitmap<'b>,
 }
@@ -26,7 +26,7 @@ impl<'b> Nsec<'b> {
         ensures every_fault { (field : Field) → NsecFault rdata.now field
             → result ≡ Err (RecordError.BadRdata field) }
     {
-        let Some((next, length)) = Name::read(rdata) else {
+        let Some((next, length)) = WireName::read(rdata) else {
             return Err(RecordError::BadRdata(Field::Name));
         };
         let types = TypeBitmap::read(&rdata[length..])?;

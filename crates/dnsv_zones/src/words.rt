@@ -1,5 +1,6 @@
 //! What one NSEC record says of a name (RFC 4035 5.4, RFC 6840 4.1 and 4.3).
 ghost use Rattle.std.specs.Prelude.{◌↔◌, IsTrue};
+ghost use Rattle.dnsv_names.specs.Name.{IsAtOrBelow};
 ghost use Rattle.dnsv_zones.specs.chains.Rdata.{nsec_record};
 ghost use Rattle.dnsv_zones.specs.forms.Nsec.{Covers, IsNoCutAbove, IsAbsentBy, IsEmptyNonTerminalBy, IsNodeBy};
 
@@ -11,7 +12,7 @@ use dnsv_records::Nsec;
 pub fn is_covered(owner: &Name, nsec: &Nsec<'_>, name: &Name) -> bool
     ensures { IsTrue result ↔ Covers (nsec_record owner.now nsec.now) name.now }
 {
-    covers(owner, &nsec.next, name)
+    covers(owner, &nsec.next.to_name(), name)
 }
 
 /// Whether the record may speak of the name: it isn't that of a delegation or a DNAME above the name
@@ -32,7 +33,7 @@ pub fn is_no_cut_above(owner: &Name, nsec: &Nsec<'_>, name: &Name) -> bool
 pub fn is_absent(owner: &Name, nsec: &Nsec<'_>, name: &Name) -> bool
     ensures { IsTrue result ↔ IsAbsentBy (nsec_record owner.now nsec.now) name.now }
 {
-    if nsec.next.is_at_or_below(name) {
+    if is_above_next(nsec, name) {
         return false;
     }
     if !is_covered(owner, nsec, name) {
@@ -45,7 +46,7 @@ pub fn is_absent(owner: &Name, nsec: &Nsec<'_>, name: &Name) -> bool
 pub fn is_empty_non_terminal(owner: &Name, nsec: &Nsec<'_>, name: &Name) -> bool
     ensures { IsTrue result ↔ IsEmptyNonTerminalBy (nsec_record owner.now nsec.now) name.now }
 {
-    if !nsec.next.is_at_or_below(name) {
+    if !is_above_next(nsec, name) {
         return false;
     }
     if !is_covered(owner, nsec, name) {
@@ -61,5 +62,12 @@ pub fn is_node(owner: &Name, nsec: &Nsec<'_>, name: &Name) -> bool
     if owner.is_at_or_below(name) {
         return true;
     }
-    nsec.next.is_at_or_below(name)
+    is_above_next(nsec, name)
+}
+
+/// Whether the next owner is at or below the name.
+fn is_above_next(nsec: &Nsec<'_>, name: &Name) -> bool
+    ensures { IsTrue result ↔ IsAtOrBelow nsec.now.next name.now }
+{
+    nsec.next.to_name().is_at_or_below(name)
 }

@@ -70,7 +70,7 @@ fn nsecs(row: &Row) -> Result<String, RowError> {
 fn nexts_of(alloc: Global, rrset: &Rrset<'_>) -> Result<String, RowError> {
     let mut texts = Vec::new(alloc);
     for nsec in rrset.nsecs() {
-        let next = &nsec.next;
+        let next = nsec.next.to_name();
         let bitmap = printed::octets(alloc, nsec.types.write())?;
         texts.push(format!(in alloc; "{next}:{bitmap}")?)?;
     }

@@ -60,7 +60,7 @@ fn nsec(row: &Row) -> Result<String, RowError> {
 }
 
 fn nsec_told(row: &Row, nsec: &Nsec<'_>) -> Result<String, RowError> {
-    let next = &nsec.next;
+    let next = nsec.next.to_name();
     let types = told::types(row, 1, &nsec.types)?;
     Ok(format!(in row.alloc(); "next {next} {types}")?)
 }
