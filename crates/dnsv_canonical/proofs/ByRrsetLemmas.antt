@@ -83,15 +83,33 @@ alone [] few = refl
 alone (x ∷ []) few = refl
 alone (x ∷ y ∷ xs) few = absurd (omega arith)
 
-abbrev octets_cmp : Bor (List ℕ) → Bor (List ℕ) → Ordering
+abbrev pub octets_cmp : Bor (List ℕ) → Bor (List ℕ) → Ordering
 octets_cmp a b = slice_cmp nat_cmp a.now b.now
 
 -- the octets are those of one in the set
 abbrev pub is_seen : BTreeSet (Bor (List ℕ)) → List ℕ → Bool
 is_seen seen octets = list_any (λ r. bytes_eq octets r.now) seen.keys
 
-seen_contains : (seen : BTreeSet (Bor (List ℕ))) (x : Bor (List ℕ)) → contains octets_cmp seen x ≡ is_seen seen x.now
+pub seen_contains : (seen : BTreeSet (Bor (List ℕ))) (x : Bor (List ℕ)) → contains octets_cmp seen x ≡ is_seen seen x.now
 seen_contains seen x = λ i. list_any (λ r. is_eq-slice_cmp x.now r.now i) seen.keys
+
+-- once RDATA is put into a set in which just these are seen, these and it are
+pub seen_behind : (before : List (List ℕ)) (x : Bor (List ℕ)) (old new : BTreeSet (Bor (List ℕ))) → sorted.Updates octets_cmp old new x true
+    → ((octets : List ℕ) → is_seen old octets ≡ list_any (λ y. bytes_eq y octets) before)
+    → (octets : List ℕ) → is_seen new octets ≡ list_any (λ y. bytes_eq y octets) (before ++ x.now ∷ [])
+seen_behind before x old new updates seen octets =
+    let q : Bor (List ℕ) = record { ref_ptr = (0, 0); now = octets } in
+    let earlier : Bool = list_any (λ y. bytes_eq y octets) before in
+    sym (seen_contains new q) ∙ updates.0 q
+    ∙ (λ j. cond (is_eq-slice_cmp x.now octets j) true ((seen_contains old q ∙ seen octets) j))
+    ∙ either earlier (bytes_eq x.now octets)
+    ∙ sym (list_any-append (λ y. bytes_eq y octets) before (x.now ∷ []))
+  where
+    either : (s b : Bool) → cond b true s ≡ (s || (b || false))
+    either true true = refl
+    either true false = refl
+    either false true = refl
+    either false false = refl
 
 module _ (xs : List (Bor (List ℕ))) (i : ℕ) (d : Bor (List ℕ)) (within : i < length xs) where
   abbrev x : Bor (List ℕ)
@@ -106,19 +124,7 @@ module _ (xs : List (Bor (List ℕ))) (i : ℕ) (d : Bor (List ℕ)) (within : i
   -- once an RDATA is put into the set, it is seen, and so is what was
   pub seen_more : (old new : BTreeSet (Bor (List ℕ))) → sorted.Updates octets_cmp old new x true → ((octets : List ℕ) → is_seen old octets ≡ list_any (λ y. bytes_eq y octets) (so_far i)) → (octets : List ℕ) → is_seen new octets ≡ list_any (λ y. bytes_eq y octets) (so_far (i + 1))
   seen_more old new updates seen octets =
-      let q : Bor (List ℕ) = record { ref_ptr = (0, 0); now = octets } in
-      let earlier : Bool = list_any (λ y. bytes_eq y octets) (so_far i) in
-      sym (seen_contains new q) ∙ updates.0 q
-      ∙ (λ j. cond (is_eq-slice_cmp x.now octets j) true ((seen_contains old q ∙ seen octets) j))
-      ∙ either earlier (bytes_eq x.now octets)
-      ∙ sym (list_any-append (λ y. bytes_eq y octets) (so_far i) (x.now ∷ []))
-      ∙ ap (list_any (λ y. bytes_eq y octets)) (sym one_more)
-    where
-      either : (s b : Bool) → cond b true s ≡ (s || (b || false))
-      either true true = refl
-      either true false = refl
-      either false true = refl
-      either false false = refl
+      seen_behind (so_far i) x old new updates seen octets ∙ ap (list_any (λ y. bytes_eq y octets)) (sym one_more)
 
   module _ (found : List (Bor (List ℕ))) (once : map (λ r. r.now) found ≡ first_appearances bytes_eq (so_far i)) (seen : Bool) (is : list_any (λ y. bytes_eq y x.now) (so_far i) ≡ seen) where
     next : first_appearances bytes_eq (so_far (i + 1)) ≡ map (λ r. r.now) found ++ cond seen [] (x.now ∷ [])

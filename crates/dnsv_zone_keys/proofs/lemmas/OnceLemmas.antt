@@ -1,29 +1,15 @@
 -- Keys that stand several times, each once and with its place.
-use Rattle.std.proofs.Common.{◌≡◌, ℕ, ◌+◌, ◌<◌, ◌||◌, Bool, true, false, cond, not, List, [], ◌∷◌, ◌++◌, length, take, get_or, map, Bor, refl, sym, ap, ◌∙◌, append-nil, arith}
+use Rattle.std.proofs.Common.{◌≡◌, ℕ, ◌+◌, ◌<◌, Bool, true, false, cond, not, List, [], ◌∷◌, ◌++◌, length, take, get_or, map, Bor, refl, sym, ap, ◌∙◌, append-nil, arith}
 use Rattle.std.proofs.lemmas.List.{length-map, map-append, take_more}
-use Rattle.std.proofs.lemmas.List.Folds.{list_any-append}
 use Rattle.std.proofs.lemmas.List.FromFn.{length-enumerate_from}
-use Rattle.std.proofs.lemmas.Map.Text.{is_eq-slice_cmp}
 use Rattle.std.specs.BTreeSet as sorted
 use Rattle.std.specs.BTreeSet.{BTreeSet, contains}
-use Rattle.std.specs.Cmp.Lexicographic.{slice_cmp}
 use Rattle.std.specs.List.{AllByRecursion, enumerate_from, list_any}
-use Rattle.std.specs.Ordering.{nat_cmp}
 use Rattle.std.specs.Str.{bytes_eq}
-use Rattle.std.specs.declared.cmp.Ordering.{Ordering}
 use Rattle.dnsv_canonical.specs.Rrsets.{first_appearances}
+use Rattle.dnsv_canonical.proofs.ByRrsetLemmas.{is_seen, octets_cmp, seen_behind, seen_contains}
 use Rattle.dnsv_canonical.proofs.GroupLemmas.{first_appearances-push, placed-push}
 use Rattle.dnsv_zone_keys.specs.Keys.Index.{Placed}
-
-abbrev pub octets_cmp : Bor (List ℕ) → Bor (List ℕ) → Ordering
-octets_cmp a b = slice_cmp nat_cmp a.now b.now
-
--- the octets are those of one in the set
-abbrev pub is_seen : BTreeSet (Bor (List ℕ)) → List ℕ → Bool
-is_seen seen octets = list_any (λ r. bytes_eq octets r.now) seen.keys
-
-seen_contains : (seen : BTreeSet (Bor (List ℕ))) (x : Bor (List ℕ)) → contains octets_cmp seen x ≡ is_seen seen x.now
-seen_contains seen x = λ i. list_any (λ r. is_eq-slice_cmp x.now r.now i) seen.keys
 
 abbrev pub pair : Placed → ℕ × List ℕ
 pair placed = (placed.place, placed.key.rdata)
@@ -45,19 +31,7 @@ module _ {X : Type 0} (f : X → Bor (List ℕ)) (xs : List X) (i : ℕ) (item :
       → ((octets : List ℕ) → is_seen old octets ≡ list_any (λ y. bytes_eq y octets) (so_far i))
       → (octets : List ℕ) → is_seen new octets ≡ list_any (λ y. bytes_eq y octets) (so_far (i + 1))
   seen_more old new updates seen octets =
-      let q : Bor (List ℕ) = record { ref_ptr = (0, 0); now = octets } in
-      let earlier : Bool = list_any (λ y. bytes_eq y octets) (so_far i) in
-      sym (seen_contains new q) ∙ updates.0 q
-      ∙ (λ j. cond (is_eq-slice_cmp x.now octets j) true ((seen_contains old q ∙ seen octets) j))
-      ∙ either earlier (bytes_eq x.now octets)
-      ∙ sym (list_any-append (λ y. bytes_eq y octets) (so_far i) (x.now ∷ []))
-      ∙ ap (list_any (λ y. bytes_eq y octets)) (sym one_more)
-    where
-      either : (s b : Bool) → cond b true s ≡ (s || (b || false))
-      either true true = refl
-      either true false = refl
-      either false true = refl
-      either false false = refl
+      seen_behind (so_far i) x old new updates seen octets ∙ ap (list_any (λ y. bytes_eq y octets)) (sym one_more)
 
   module _ (old : BTreeSet (Bor (List ℕ)))
       (seen : (octets : List ℕ) → is_seen old octets ≡ list_any (λ y. bytes_eq y octets) (so_far i))

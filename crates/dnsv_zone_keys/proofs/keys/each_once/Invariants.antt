@@ -3,7 +3,8 @@ use Rattle.std.specs.List.{AllByRecursion, enumerate_from, list_any}
 use Rattle.std.specs.Str.{bytes_eq}
 use Rattle.dnsv_canonical.specs.Rrsets.{first_appearances}
 use Rattle.dnsv_zone_keys.specs.Keys.ZoneSearch.{IsOf}
-use Rattle.dnsv_zone_keys.proofs.lemmas.OnceLemmas.{is_seen, pair}
+use Rattle.dnsv_canonical.proofs.ByRrsetLemmas.{is_seen}
+use Rattle.dnsv_zone_keys.proofs.lemmas.OnceLemmas.{pair}
 use Rattle.dnsv_zone_keys.proofs.keys.each_once.Given as goal
 
 -- those so far, of equal RDATA the first; and that it is what was seen
