@@ -13,6 +13,8 @@ use Rattle.dnsv_zones.specs.zones.Zone.{Holds, Zone}
 use Rattle.dnsv_canonical.specs.Rrsets.{ReceivedRrset}
 use Rattle.dnsv_canonical.specs.SignedData.{IsExpanded}
 use Rattle.dnsv_canonical.specs.declared.number.RecordNumber.{RecordNumber}
+use Rattle.dnsv_denial.specs.gathering.Evidence.{IsSecuredBy}
+use Rattle.dnsv_denial.specs.proving.FirstProof.{ProofRecords}
 use Rattle.dnsv_denial.specs.unsigned_cuts.CutMeaning.{HasRecord}
 use Rattle.dnsv_denial.specs.words.EvidenceWords.{Chain}
 use Rattle.dnsv_derivations.specs.Explained.{Setting}
@@ -27,7 +29,7 @@ use Rattle.dnsv_verdict.specs.declared.verdict.Verdict.{Verdict}
 use Rattle.dnsv_verdict.specs.declared.verdict.Verdict.TheVariants.{SecureAnswer, SecureAlias, SecureNoName, SecureNoData, Insecure}
 use Rattle.dnsv_rules.specs.Checked.{Asked}
 use Rattle.dnsv_rules.specs.Told.{IsShownGood, shown_said, told_words}
-use Rattle.dnsv_rules.specs.Truth.{IsOfChain, IsShownSecured}
+use Rattle.dnsv_rules.specs.Truth.{IsOfChain, IsPartsRecord, IsShownSecured}
 
 -- ---- an RRset
 
@@ -47,11 +49,17 @@ IsSetBorne rrsets lines name t =
 
 -- ---- a verdict
 
--- a proof line has such a form
-pub record HasProof (lines : List Line) (Such : Form → Type 0) : Type 0 where
+-- A proof line has such a form and the denial's zone; and of each record that carries the denial a part line tells, and a
+-- line calls a signature of its RRset good, which that zone made and no wildcard is behind (RFC 4035 5.4, RFC 5155 8).
+pub record IsDenialBorne (rrsets : List ReceivedRrset) (lines : List Line) (Such : Form → Type 0) (denial : ProofRecords)
+    : Type 0 where
   pub proof : Proof
   pub among : Contains lines (line.Proof proof)
   pub such : Such proof.form
+  pub zone : SameName proof.zone denial.zone
+  pub signed : (number : RecordNumber) → Contains denial.records number
+      → IsSecuredBy (IsShownGood lines) rrsets denial.zone number.rrset
+  pub told : (number : RecordNumber) → Contains denial.records number → IsPartsRecord lines number
 
 -- the form denies a type
 abbrev pub DeniesType : Form → Type 0
@@ -65,13 +73,14 @@ DeniesType _ = ⊥
 abbrev pub HasCase : List Line → Labels → Type 0
 HasCase lines name = (told : Cut) × Contains lines (line.Case told) × SameName told.name name
 
--- An answer and an alias are borne out by the RRset and its signature, a denial by a proof in a form of its own, and
--- from which name on the name may be unsigned by a case. What needs answers, and what isn't proved, asks for no line.
+-- An answer and an alias are borne out by the RRset and its signature, a denial by a proof in a form of its own with the
+-- records that carry it, and from which name on the name may be unsigned by a case. What needs answers, and what isn't
+-- proved, asks for no line.
 abbrev pub BearsOut : List ReceivedRrset → Asked → List Line → Verdict → Type 0
 BearsOut rrsets asked lines (SecureAnswer k s) = IsSetBorne rrsets lines asked.name asked.rtype k s
 BearsOut rrsets asked lines (SecureAlias k s) = IsSetBorne rrsets lines asked.name cname k s
-BearsOut rrsets asked lines (SecureNoName proof) = HasProof lines (λ each. each ≡ form.NoName)
-BearsOut rrsets asked lines (SecureNoData proof) = HasProof lines DeniesType
+BearsOut rrsets asked lines (SecureNoName proof) = IsDenialBorne rrsets lines (λ each. each ≡ form.NoName) proof
+BearsOut rrsets asked lines (SecureNoData proof) = IsDenialBorne rrsets lines DeniesType proof
 BearsOut rrsets asked lines (Insecure cut) = HasCase lines cut
 BearsOut rrsets asked lines _ = Unit {0}
 

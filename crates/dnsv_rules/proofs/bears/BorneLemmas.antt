@@ -11,8 +11,9 @@ use Rattle.dnsv_canonical.specs.SignedData.{IsExpanded}
 use Rattle.dnsv_canonical.specs.declared.number.RecordNumber.{RecordNumber}
 use Rattle.dnsv_chain.specs.Trust.{KeptTrust, SecuredIn as KeptIn}
 use Rattle.dnsv_denial.specs.forms.ProofForms.{form_records}
+use Rattle.dnsv_denial.specs.proving.FirstProof.{IsFirstNoData, IsFirstNoName, ProofRecords}
 use Rattle.dnsv_denial.specs.proving.ProofParts.{form_parts}
-use Rattle.dnsv_denial.specs.proving.ShownDenials.{IsShownNoCloser}
+use Rattle.dnsv_denial.specs.proving.ShownDenials.{IsShownNoCloser, IsShownNoData, IsShownNoName}
 use Rattle.dnsv_denial.specs.words.EvidenceWords.{Chain, evidence_said}
 use Rattle.dnsv_denial.specs.declared.proving.shown_denial.ShownDenial.{ShownDenial}
 use Rattle.dnsv_denial.specs.declared.records.chain_kind.ChainKind.{ChainKind}
@@ -24,26 +25,54 @@ use Rattle.dnsv_verdict.specs.declared.verdict.Verdict.{Verdict}
 use Rattle.dnsv_verdict.specs.declared.verdict.Verdict.TheVariants.{SecureAnswer, SecureAlias, SecureNoName, SecureNoData, Insecure, Pending, Bogus, Indeterminate}
 use Rattle.dnsv_derivations.specs.Explained.{Explained, Setting, setting_in}
 use Rattle.dnsv_derivations.specs.Saying.{AreBoth, AreEach}
-use Rattle.dnsv_derivations.specs.derivations.OwnDerivations.{SecuredIn}
+use Rattle.dnsv_derivations.specs.derivations.OwnDerivations.{IsTrustIn, SecuredIn}
 use Rattle.dnsv_canonical.proofs.NumberLemmas.{one_numbered}
+use Rattle.dnsv_denial.proofs.lemmas.more.EvidenceLemmas.{first_no_data_to, first_no_name_to}
+use Rattle.dnsv_denial.proofs.lemmas.proving.FirstProofLemmas.{proof_of_no_data, proof_of_no_name}
+use Rattle.dnsv_verdict.proofs.OneProof.{one_first_no_data, one_first_no_name}
 use Rattle.dnsv_derivations.proofs.lemmas.denials.PartLemmas.{zone_as}
 use Rattle.dnsv_derivations.proofs.lemmas.denials.StandingLemmas.{each_by}
+use Rattle.dnsv_derivations.proofs.lemmas.denials.TrustLemmas.{kept_good}
 use Rattle.dnsv_derivations.proofs.lemmas.intervals.MomentLemmas.{first_or_behind}
 use Rattle.dnsv_lines.specs.declared.line.Line.{Line}
+use Rattle.dnsv_lines.specs.declared.line.denial.Form.TheVariants as form
 use Rattle.dnsv_holding.specs.Explained.{basis_in}
 use Rattle.dnsv_holding.specs.Holding.{IsEndTold, IsHoldingTold, IsLinkTold, IsSetTold, IsSettledTold, IsVerdictTold, signature_of}
 use Rattle.dnsv_explain.specs.Explanation.{IsExplanation, IsFailureTold}
 use Rattle.dnsv_holding.specs.Holding.IsSetTold.{as_owned, by_wildcard}
 use Rattle.dnsv_explain.proofs.lemmas.stands.WholeLemmas.{links_secure}
-use Rattle.dnsv_rules.specs.Borne.{BearsOut, DeniesType, IsSetBorne}
+use Rattle.dnsv_rules.specs.Borne.{BearsOut, DeniesType, IsDenialBorne, IsSetBorne}
 use Rattle.dnsv_rules.specs.Explained.{asked_by}
 use Rattle.dnsv_rules.specs.Told.{IsShownGood, shown_said, told_words}
 use Rattle.dnsv_rules.proofs.bears.CaseLemmas.{case_borne}
-use Rattle.dnsv_rules.proofs.bears.ToldLemmas.{denial_owns, denial_tells, no_data_form, no_name_form, proof_there, signature_there}
+use Rattle.dnsv_rules.proofs.bears.ToldLemmas.{denial_borne, denial_owns, denial_tells, no_data_form, no_name_form, signature_there}
 use Rattle.dnsv_rules.proofs.checks.FormLemmas.{Counts, no_closer_form}
 use Rattle.dnsv_rules.proofs.checks.ShownLemmas.{closer_same}
 use Rattle.dnsv_rules.proofs.checks.TellLemmas.{AreWithin, IsOwn, IsPartTellable, within_back, within_front}
 use Rattle.dnsv_rules.proofs.needs.SignerLemmas.{one_signature}
+
+-- ---- the first proof
+
+-- what is shown by the trust that is kept is the denial of the verdict
+module _ (setting : Setting) (trust : KeptTrust) (good : IsTrustIn setting trust) where
+  good_kept : (k s : ℕ) → SecuredIn setting k s → KeptIn trust k s
+  good_kept k s secured = ((good.signed k).members s).1 secured
+
+  no_name_shown : (name : Labels) (shown : ShownDenial) (proof : ProofRecords) → IsShownNoName (KeptIn trust) setting.rrsets name shown
+      → IsFirstNoName (SecuredIn setting) setting.rrsets name proof → shown.proof ≡ proof
+  no_name_shown name shown proof is first =
+      one_first_no_name (SecuredIn setting) setting.rrsets name shown.proof proof
+      (first_no_name_to (KeptIn trust) (SecuredIn setting) (kept_good setting trust good) good_kept setting.rrsets name shown.proof
+      (proof_of_no_name (KeptIn trust) setting.rrsets name shown is))
+      first
+
+  no_data_shown : (name : Labels) (t : ℕ) (shown : ShownDenial) (proof : ProofRecords) → IsShownNoData (KeptIn trust) setting.rrsets name t shown
+      → IsFirstNoData (SecuredIn setting) setting.rrsets name t proof → shown.proof ≡ proof
+  no_data_shown name t shown proof is first =
+      one_first_no_data (SecuredIn setting) setting.rrsets name t shown.proof proof
+      (first_no_data_to (KeptIn trust) (SecuredIn setting) (kept_good setting trust good) good_kept setting.rrsets name t shown.proof
+      (proof_of_no_data (KeptIn trust) setting.rrsets name (record { 0 = t }) shown is))
+      first
 
 module _ (setting : Setting) (all : List Line) where
   -- what is told against closer names stands at the signer
@@ -140,15 +169,26 @@ module _ (setting : Setting) (all : List Line) where
     settled_borne (SecureAlias k s) before lines is told within = set_borne last cname k s before lines is.2.such told within
     settled_borne (SecureNoName proof) before lines is told within =
         let shown = told.shown in
-        proof_there setting all last shown before lines told.told within _
-        (no_name_form (evidence_said (KeptIn told.trust) setting.rrsets shown.proof.zone told.is.chain) shown.proof.zone last shown.form told.is.shows)
+        let Borne : ProofRecords → Type 0 = λ each. IsDenialBorne setting.rrsets all (λ which. which ≡ form.NoName) each in
+        subst Borne (no_name_shown setting told.trust told.good last shown proof told.is is.2)
+        (denial_borne setting all last shown before lines told.told within told.is.records form.NoName
+        (no_name_form (evidence_said (KeptIn told.trust) setting.rrsets shown.proof.zone told.is.chain) shown.proof.zone last shown.form told.is.shows))
     settled_borne (SecureNoData proof) before lines is told within =
         let shown = told.shown in
         let which =
         no_data_form (evidence_said (KeptIn told.trust) setting.rrsets shown.proof.zone told.is.chain) shown.proof.zone last t shown.form
         told.is.shows in
-        let found = proof_there setting all last shown before lines told.told within which.0 which.2 in
-        record { proof = found.proof; among = found.among; such = subst DeniesType (sym found.such) which.1 }
+        let borne = denial_borne setting all last shown before lines told.told within told.is.records which.0 which.2 in
+        let Borne : ProofRecords → Type 0 = λ each. IsDenialBorne setting.rrsets all DeniesType each in
+        subst Borne (no_data_shown setting told.trust told.good last t shown proof told.is is.3)
+        (record {
+          proof = borne.proof;
+          among = borne.among;
+          such = subst DeniesType (sym borne.such) which.1;
+          zone = borne.zone;
+          signed = borne.signed;
+          told = borne.told;
+        })
     settled_borne (Insecure cut) before lines is told within = case_borne setting all last t cut before lines is told within
     settled_borne verdict before lines is told within = absurd told
 
