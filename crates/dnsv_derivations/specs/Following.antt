@@ -16,6 +16,7 @@ use Rattle.dnsv_verifier.specs.Admissible.{DnskeyRecord, IsGood}
 use Rattle.dnsv_chain.specs.Anchor.{IsAnchorMatch}
 use Rattle.dnsv_chain.specs.Ds.{IsMatch, IsUsable}
 use Rattle.dnsv_chain.specs.Trusted.{IsKeyOf}
+use Rattle.dnsv_chain.specs.declared.anchor.Anchor.{Anchor}
 use Rattle.dnsv_chain.specs.declared.anchor.Anchor.TheVariants as anchor
 use Rattle.dnsv_denial.specs.gathering.Evidence.{IsRecordAt}
 use Rattle.dnsv_canonical.specs.declared.number.RecordNumber.{RecordNumber}
@@ -75,11 +76,11 @@ pub record IsSaidTrusted (before : List Line) (k : ℕ) : Type 0 where
 -- ---- what matches a key
 
 -- record K of a DS RRset can be used and matches the key (RFC 4035 5.2, RFC 4509 3)
-pub record IsDsMatch (setting : Setting) (number : RecordNumber) (digest_type : DigestType) (key : DnskeyRecord)
+pub record IsDsMatch (rrsets : List ReceivedRrset) (number : RecordNumber) (digest_type : DigestType) (key : DnskeyRecord)
     : Type 0 where
   pub rrset : ReceivedRrset
   pub rdata : List ℕ
-  pub at : IsRecordAt setting.rrsets number rrset rdata
+  pub at : IsRecordAt rrsets number rrset rdata
   pub rtype : rrset.rtype ≡ 43
   pub ds : Ds
   pub read : IsDs rdata ds
@@ -91,19 +92,19 @@ pub record IsDsMatch (setting : Setting) (number : RecordNumber) (digest_type : 
   pub digest : digest_type.0 ≡ ds.digest_type.0
 
 -- the anchor with the number, or the record of a DS RRset whose number is such, matches the key
-abbrev pub IsMatchedBy : (ℕ → Type 0) → Setting → Voucher → DnskeyRecord → Type 0
-IsMatchedBy Signed setting (voucher.KeyAnchor number) key =
-    (owner : Labels) × (rdata : List ℕ) × IsNumbered setting.anchors number (anchor.Key owner rdata)
+abbrev pub IsMatchedBy : (ℕ → Type 0) → List ReceivedRrset → List Anchor → Voucher → DnskeyRecord → Type 0
+IsMatchedBy Signed rrsets anchors (voucher.KeyAnchor number) key =
+    (owner : Labels) × (rdata : List ℕ) × IsNumbered anchors number (anchor.Key owner rdata)
     × IsAnchorMatch (anchor.Key owner rdata) key
-IsMatchedBy Signed setting (voucher.DsAnchor number digest_type) key =
-    (owner : Labels) × (ds : Ds) × IsNumbered setting.anchors number (anchor.Ds owner ds)
+IsMatchedBy Signed rrsets anchors (voucher.DsAnchor number digest_type) key =
+    (owner : Labels) × (ds : Ds) × IsNumbered anchors number (anchor.Ds owner ds)
     × (digest_type.0 ≡ ds.digest_type.0) × IsAnchorMatch (anchor.Ds owner ds) key
-IsMatchedBy Signed setting (voucher.Ds number digest_type) key =
-    IsDsMatch setting number digest_type key × Signed number.rrset
+IsMatchedBy Signed rrsets anchors (voucher.Ds number digest_type) key =
+    IsDsMatch rrsets number digest_type key × Signed number.rrset
 
 -- an anchor matches the key, or a record of a DS RRset of which a line before says that it is signed
 abbrev pub IsVouchedBy : Setting → List Line → Voucher → DnskeyRecord → Type 0
-IsVouchedBy setting before voucher key = IsMatchedBy (IsSaidSigned before) setting voucher key
+IsVouchedBy setting before voucher key = IsMatchedBy (IsSaidSigned before) setting.rrsets setting.anchors voucher key
 
 -- ---- the rules
 

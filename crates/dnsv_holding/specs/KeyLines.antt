@@ -74,7 +74,7 @@ IsMatchedByAnchor setting key number =
 
 -- a usable DS record, signed or not, matches the key
 abbrev pub IsMatchedByDs : Setting → DnskeyRecord → RecordNumber → Type 0
-IsMatchedByDs setting key number = (digest_type : DigestType) × IsDsMatch setting number digest_type key
+IsMatchedByDs setting key number = (digest_type : DigestType) × IsDsMatch setting.rrsets number digest_type key
 
 -- one of the records, of a DS RRset of the owner, matches the key: no public clause cites this
 pub record HasMatch (records : List Ds) (owner : Labels) (key : DnskeyRecord) : Type 0 where

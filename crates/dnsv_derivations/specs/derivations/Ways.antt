@@ -36,7 +36,7 @@ pub record IsWayInto (setting : Setting) (k : ℕ) (way : Way) : Type 0 where
   pub set : ReceivedRrset
   pub stands : IsKeyOf set way.key
   pub good : IsGoodUnder setting (record { rrset = k; signature = way.signature }) set way.key
-  pub matched : IsMatchedBy (HasSecured setting) setting way.voucher way.key
+  pub matched : IsMatchedBy (HasSecured setting) setting.rrsets setting.anchors way.voucher way.key
 
 -- ---- the first way
 

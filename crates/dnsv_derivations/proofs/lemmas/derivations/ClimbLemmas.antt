@@ -30,9 +30,9 @@ module _ (setting : Setting) (before : List Line) where
 
   -- what a DS record leads to, by the line
   by_ds : (k : ℕ) (trusted : TrustedKeys) (number : RecordNumber) (digest_type : DigestType) (is : IsTrustedLine setting k trusted)
-      → trusted.voucher ≡ voucher.Ds number digest_type → IsMatchedBy (HasSecured setting) setting (voucher.Ds number digest_type) is.way.key
+      → trusted.voucher ≡ voucher.Ds number digest_type → IsMatchedBy (HasSecured setting) setting.rrsets setting.anchors (voucher.Ds number digest_type) is.way.key
   by_ds k trusted number digest_type is voucher =
-      let By : Voucher → Type 0 = λ each. IsMatchedBy (HasSecured setting) setting each is.way.key in
+      let By : Voucher → Type 0 = λ each. IsMatchedBy (HasSecured setting) setting.rrsets setting.anchors each is.way.key in
       subst By (sym is.voucher ∙ voucher) is.first.is.matched
 
   pub ds_secured : (k : ℕ) (trusted : TrustedKeys) (number : RecordNumber) (digest_type : DigestType) → IsTrustedLine setting k trusted

@@ -5,9 +5,11 @@ use Rattle.std.proofs.lemmas.List.Elements.{Contains-append_left, Contains-appen
 use Rattle.std.specs.List.{Contains}
 use Rattle.dnsv_names.specs.Name.{Labels, SameName}
 use Rattle.dnsv_names.specs.Tree.TreeLaws.{same_of_key}
+use Rattle.dnsv_canonical.specs.Rrsets.{ReceivedRrset}
 use Rattle.dnsv_canonical.specs.declared.number.RecordNumber.{RecordNumber}
 use Rattle.dnsv_records.specs.declared.number.DigestType.{DigestType}
 use Rattle.dnsv_verifier.specs.Admissible.{DnskeyRecord}
+use Rattle.dnsv_chain.specs.declared.anchor.Anchor.{Anchor}
 use Rattle.dnsv_derivations.specs.Explained.{Setting}
 use Rattle.dnsv_derivations.specs.derivations.Derivations.{IsByAnchor, IsDerivation, Subject}
 use Rattle.dnsv_derivations.specs.derivations.Derivations.IsDerivation.{said_trusted, anchored, delegated, said_signed, signed}
@@ -25,6 +27,13 @@ use Rattle.dnsv_lines.specs.declared.line.derivation.Voucher.TheVariants as vouc
 pub same_as : (a b : Labels) → b ≡ a → SameName a b
 same_as a b same = let As : Labels → Type 0 = λ each. SameName a each in subst As (sym same) (same_of_key a a refl)
 
+-- what matches a key does so by whatever else says that a DS RRset counts
+pub matched_then : (rrsets : List ReceivedRrset) (anchors : List Anchor) (P Q : ℕ → Type 0) → ((k : ℕ) → P k → Q k) → (by : Voucher) (key : DnskeyRecord)
+    → IsMatchedBy P rrsets anchors by key → IsMatchedBy Q rrsets anchors by key
+matched_then rrsets anchors P Q then (voucher.KeyAnchor number) key matched = matched
+matched_then rrsets anchors P Q then (voucher.DsAnchor number digest_type) key matched = matched
+matched_then rrsets anchors P Q then (voucher.Ds number digest_type) key (ds, signed) = (ds, then number.rrset signed)
+
 module _ (setting : Setting) where
   follows_push : (before xs : List Line) (y : Line) → EachFollows setting before xs → Follows setting (before ++ xs) y
       → EachFollows setting before (xs ++ y ∷ [])
@@ -36,16 +45,16 @@ module _ (setting : Setting) where
 
   -- what matches by trust matches by what was said
   by_anchor : (before : List Line) (voucher : Voucher) (key : DnskeyRecord) → IsByAnchor voucher
-      → IsMatchedBy (HasSecured setting) setting voucher key → IsVouchedBy setting before voucher key
+      → IsMatchedBy (HasSecured setting) setting.rrsets setting.anchors voucher key → IsVouchedBy setting before voucher key
   by_anchor before (voucher.KeyAnchor number) key is matched = matched
   by_anchor before (voucher.DsAnchor number digest_type) key is matched = matched
   by_anchor before (voucher.Ds number digest_type) key is matched = absurd is
 
   by_ds : (before : List Line) (told : Voucher) (number : RecordNumber) (digest_type : DigestType) (key : DnskeyRecord)
       → told ≡ voucher.Ds number digest_type → IsSaidSigned before number.rrset
-      → IsMatchedBy (HasSecured setting) setting told key → IsVouchedBy setting before told key
+      → IsMatchedBy (HasSecured setting) setting.rrsets setting.anchors told key → IsVouchedBy setting before told key
   by_ds before told number digest_type key is said matched =
-      let By : Voucher → Type 0 = λ each. IsMatchedBy (HasSecured setting) setting each key in
+      let By : Voucher → Type 0 = λ each. IsMatchedBy (HasSecured setting) setting.rrsets setting.anchors each key in
       let Vouched : Voucher → Type 0 = λ each. IsVouchedBy setting before each key in
       let there : By (voucher.Ds number digest_type) = subst By is matched in
       subst Vouched (sym is) (there.0, said)
@@ -64,9 +73,9 @@ module _ (setting : Setting) where
       }
 
   matched_line : (k : ℕ) (trusted : TrustedKeys) (is : IsTrustedLine setting k trusted)
-      → IsMatchedBy (HasSecured setting) setting trusted.voucher is.way.key
+      → IsMatchedBy (HasSecured setting) setting.rrsets setting.anchors trusted.voucher is.way.key
   matched_line k trusted is =
-      let By : Voucher → Type 0 = λ each. IsMatchedBy (HasSecured setting) setting each is.way.key in
+      let By : Voucher → Type 0 = λ each. IsMatchedBy (HasSecured setting) setting.rrsets setting.anchors each is.way.key in
       subst By (sym is.voucher) is.first.is.matched
 
   signed_follows : (before : List Line) (number : SignatureNumber) (this : SignedRrset) → IsSignedLine setting number this

@@ -55,7 +55,7 @@ module _ (setting : Setting) where
         anchored (among setting.rrsets k is.set is.good.is_rrset) signs
         (record { anchor = each; among = among setting.anchors number each numbered; matching = matching })
 
-    by_ds : (number : RecordNumber) (digest_type : DigestType) → IsDsMatch setting number digest_type way.key
+    by_ds : (number : RecordNumber) (digest_type : DigestType) → IsDsMatch setting.rrsets number digest_type way.key
         → HasSecured setting number.rrset → Trusted is.set
     by_ds number digest_type ds (s, secured) =
         let same : secured.rrset ≡ ds.rrset =
@@ -76,7 +76,7 @@ module _ (setting : Setting) where
         })
         (among setting.rrsets k is.set is.good.is_rrset) signs
 
-    by_voucher : (voucher : Voucher) → IsMatchedBy (HasSecured setting) setting voucher way.key → Trusted is.set
+    by_voucher : (voucher : Voucher) → IsMatchedBy (HasSecured setting) setting.rrsets setting.anchors voucher way.key → Trusted is.set
     by_voucher (voucher.KeyAnchor number) (owner, rdata, numbered, matching) =
         by_anchor number (anchor.Key owner rdata) numbered matching
     by_voucher (voucher.DsAnchor number digest_type) (owner, ds, numbered, digest, matching) =

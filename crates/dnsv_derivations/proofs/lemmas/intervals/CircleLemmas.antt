@@ -1,41 +1,14 @@
--- Distances around a circle of n numbers, and from when to when one that is valid within half of it is so.
-use Rattle.std.proofs.Common.{◌≡◌, ℕ, ◌+◌, ◌*◌, ◌-◌, ◌/◌, ◌%◌, ◌<◌, ◌≤◌, sym, ap, ◌∙◌, subst, arith, min, ⊎_elim}
-use Rattle.std.proofs.Math.Nat.{add-mul-mod_self_right, mod-eq_of_lt}
+-- Steps around a circle of n numbers, and from when to when what is valid within half of it is so.
+use Rattle.std.proofs.Common.{◌≡◌, ℕ, ◌+◌, ◌*◌, ◌-◌, ◌/◌, ◌%◌, ◌<◌, ◌≤◌, subst, arith, min, ⊎_elim}
 use Rattle.std.proofs.lemmas.Bool.{cases_lt}
-use Rattle.std.proofs.lemmas.Nat.{div-add-mod', mod_below}
-
--- how far it is from one number on to another
-abbrev pub on : ℕ → ℕ → ℕ → ℕ
-on n from to = (to + (n - from % n)) % n
-
--- the distance is the one below n by which the two differ, up to whole rounds
-one_distance : (n f t r s j k p q : ℕ) → r < n → s < n
-    → t + k * n ≡ f + r + j * n → t + p * n ≡ f + s + q * n → r ≡ s
-one_distance n f t r s j k p q r_below s_below first second =
-    let sums : r + (j + p) * n ≡ s + (q + k) * n = grind arith in
-    let mods : (r + (j + p) * n) % n ≡ (s + (q + k) * n) % n = ap (λ x. x % n) sums in
-    let left : r % n ≡ r = mod-eq_of_lt r_below in
-    let right : s % n ≡ s = mod-eq_of_lt s_below in
-    sym left ∙ sym (add-mul-mod_self_right r (j + p) n) ∙ mods ∙ add-mul-mod_self_right s (q + k) n ∙ right
-
-on_rounds : (n f t : ℕ) → 0 < n → t + (1 + f / n) * n ≡ f + on n f t + ((t + (n - f % n)) / n) * n
-on_rounds n f t positive =
-    let whole = div-add-mod' (t + (n - f % n)) n in
-    let part = div-add-mod' f n in
-    let below : f % n < n = mod_below f n positive in
-    grind arith
-
-on_is : (n f t r j k : ℕ) → r < n → t + k * n ≡ f + r + j * n → on n f t ≡ r
-on_is n f t r j k below e =
-    let positive : 0 < n = omega arith in
-    one_distance n f t (on n f t) r _ _ k j (mod_below (t + (n - f % n)) n positive) below (on_rounds n f t positive) e
+use Rattle.dnsv_timeline.proofs.CircleLemmas.{on, on_below, on_further, on_is, on_rounds}
 
 -- ---- one step back, and one on
 
 -- x numbers before the end
 pub end_before : (n f t x : ℕ) → x ≤ on n f t → x ≤ t → 0 < n → on n f (t - x) ≡ on n f t - x
 end_before n f t x within few positive =
-    let below : on n f t < n = mod_below (t + (n - f % n)) n positive in
+    let below : on n f t < n = on_below n f t positive in
     let rounds = on_rounds n f t positive in
     let e : (t - x) + (1 + f / n) * n ≡ f + (on n f t - x) + ((t + (n - f % n)) / n) * n = omega (arith, rounds) in
     on_is n f (t - x) (on n f t - x) _ _ (omega arith) e
@@ -48,18 +21,10 @@ end_beyond n f t x beyond few there =
     let more : (t - x) + (2 + f / n) * n ≡ f + ((n + on n f t) - x) + ((t + (n - f % n)) / n) * n = grind arith in
     on_is n f (t - x) ((n + on n f t) - x) _ _ (omega arith) more
 
--- x numbers behind the end
-pub end_behind : (n f t x : ℕ) → on n f t + x < n → on n f (t + x) ≡ on n f t + x
-end_behind n f t x few =
-    let positive : 0 < n = omega arith in
-    let rounds = on_rounds n f t positive in
-    let e : (t + x) + (1 + f / n) * n ≡ f + (on n f t + x) + ((t + (n - f % n)) / n) * n = omega (arith, rounds) in
-    on_is n f (t + x) (on n f t + x) _ _ few e
-
 -- x numbers behind the start
 pub start_behind : (n f t x : ℕ) → x ≤ on n f t → 0 < n → on n (f + x) t ≡ on n f t - x
 start_behind n f t x within positive =
-    let below : on n f t < n = mod_below (t + (n - f % n)) n positive in
+    let below : on n f t < n = on_below n f t positive in
     let rounds = on_rounds n f t positive in
     let e : t + (1 + f / n) * n ≡ (f + x) + (on n f t - x) + ((t + (n - f % n)) / n) * n = omega (arith, rounds) in
     on_is n (f + x) t (on n f t - x) _ _ (omega arith) e
@@ -109,7 +74,7 @@ between_behind : (half start end moment x : ℕ) → IsBetween half start end mo
 between_behind half start end moment x now within =
     let n = 2 * half in
     let first : on n start (moment + x) ≡ on n start moment + x =
-    end_behind n start moment x (omega (arith, now.begun)) in
+    on_further n start moment x (omega (arith, now.begun)) in
     let second : on n (moment + x) end ≡ on n moment end - x =
     start_behind n moment end x (omega arith) (omega (arith, now.not_over)) in
     record { begun = omega (arith, first, now.begun); not_over = omega (arith, second, now.not_over) }
@@ -162,6 +127,6 @@ none_behind half start end moment now then =
     (λ (more : half - a ≤ b).
     let e : behind half start end moment + 1 ≡ half - a = omega (arith, now.begun) in
     let gone : on n start (moment + (behind half start end moment + 1)) ≡ a + (behind half start end moment + 1) =
-    end_behind n start moment (behind half start end moment + 1) (omega (arith, now.not_over, now.begun)) in
+    on_further n start moment (behind half start end moment + 1) (omega (arith, now.not_over, now.begun)) in
     omega (arith, gone, then.begun, now.begun, e))
     (cases_lt b (half - a))

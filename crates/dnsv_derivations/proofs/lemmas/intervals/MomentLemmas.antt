@@ -8,14 +8,12 @@ use Rattle.dnsv_verifier.specs.Admissible.{DnskeyRecord, IsGood}
 use Rattle.dnsv_verifier.specs.declared.answer.Answer.{Answer}
 use Rattle.dnsv_verifier.specs.declared.entry.Entry.{Entry}
 use Rattle.dnsv_derivations.specs.Explained.{Setting}
-use Rattle.dnsv_derivations.specs.Following.{EachFollows, Follows, IsGoodUnder, IsVouchedBy, at_moment}
+use Rattle.dnsv_derivations.specs.Following.{EachFollows, Follows, IsGoodUnder, at_moment}
 use Rattle.dnsv_derivations.specs.intervals.Holding.{AreShownValidAt, HasTimes, ShowsTimes, signature_shown}
 use Rattle.dnsv_derivations.specs.declared.interval.Times.{Times}
 use Rattle.dnsv_lines.specs.declared.line.Line.{Line}
 use Rattle.dnsv_lines.specs.declared.line.Line.TheVariants as line
 use Rattle.dnsv_canonical.specs.declared.number.SignatureNumber.{SignatureNumber}
-use Rattle.dnsv_lines.specs.declared.line.derivation.Voucher.{Voucher}
-use Rattle.dnsv_lines.specs.declared.line.derivation.Voucher.TheVariants as voucher
 use Rattle.dnsv_derivations.proofs.lemmas.intervals.ShownLemmas.{one_times}
 
 -- ---- members of a list
@@ -92,28 +90,6 @@ module _ (setting : Setting) where
     abbrev pub Stays : SignatureNumber → Type 0
     Stays number = (rrset : ReceivedRrset) (key : DnskeyRecord) → IsGoodUnder setting number rrset key → IsGoodUnder Then number rrset key
 
-    pub vouched_then : (before : List Line) (voucher : Voucher) (key : DnskeyRecord) → IsVouchedBy setting before voucher key
-        → IsVouchedBy Then before voucher key
-    vouched_then before (voucher.KeyAnchor number) key vouched = vouched
-    vouched_then before (voucher.DsAnchor number digest_type) key vouched = vouched
-    vouched_then before (voucher.Ds number digest_type) key (ds, signed) = (
-      record {
-        rrset = ds.rrset;
-        rdata = ds.rdata;
-        at = ds.at;
-        rtype = ds.rtype;
-        ds = ds.ds;
-        read = ds.read;
-        records = ds.records;
-        are_read = ds.are_read;
-        among = ds.among;
-        usable = ds.usable;
-        matching = ds.matching;
-        digest = ds.digest;
-      },
-      signed,
-    )
-
     follows_then : (before : List Line) (each : Line) → ((number : SignatureNumber) → signature_shown each ≡ Some number → Stays number)
         → Follows setting before each → Follows Then before each
     follows_then before (line.Trusted keys) stays follows = record {
@@ -123,7 +99,7 @@ module _ (setting : Setting) where
       stands = follows.stands;
       named = follows.named;
       good = stays keys.signature refl follows.set follows.key follows.good;
-      vouched = vouched_then before keys.voucher follows.key follows.vouched;
+      vouched = follows.vouched;
     }
     follows_then before (line.Signed signed) stays follows = record {
       rrset = follows.rrset;

@@ -125,7 +125,7 @@ module _ (setting : Setting) where
       one_numbered setting.anchors n a b (subst At same x) y
 
   -- no DS RRset has the number of anchors
-  never_anchor : (m : ℕ) (n : RecordNumber) (d : DigestType) (key : DnskeyRecord) → record_at 0 m ≡ n → IsDsMatch setting n d key → ⊥
+  never_anchor : (m : ℕ) (n : RecordNumber) (d : DigestType) (key : DnskeyRecord) → record_at 0 m ≡ n → IsDsMatch setting.rrsets n d key → ⊥
   never_anchor m n d key same is =
       let counted = is.at.is_rrset.0 in
       let none : 0 ≡ n.rrset = ap (λ (number : RecordNumber). number.rrset) same in omega (arith, counted, none)

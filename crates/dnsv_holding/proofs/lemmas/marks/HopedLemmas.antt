@@ -26,7 +26,7 @@ use Rattle.dnsv_lines.specs.declared.line.derivation.Voucher.{Voucher}
 use Rattle.dnsv_lines.specs.declared.line.derivation.Voucher.TheVariants as voucher
 use Rattle.dnsv_derivations.proofs.lemmas.NumberedLemmas.{among}
 use Rattle.dnsv_derivations.proofs.lemmas.derivations.DerivationLemmas.{same_as}
-use Rattle.dnsv_derivations.proofs.lemmas.intervals.MomentLemmas.{good_as, is_behind, is_first, vouched_then}
+use Rattle.dnsv_derivations.proofs.lemmas.intervals.MomentLemmas.{good_as, is_behind, is_first}
 use Rattle.dnsv_holding.proofs.lemmas.marks.LineLemmas.{IsLineOf}
 use Rattle.dnsv_holding.proofs.lemmas.MemberLemmas.{key_among}
 
@@ -112,7 +112,7 @@ module _ (rrsets : List ReceivedRrset) (anchors : List Anchor) (table : TableCon
       valid = valid;
     })
 
-    vouch : (before : List Line) (told : Voucher) (key other : DnskeyRecord) → IsMatchedBy (HasSecured (By says todo)) (By says todo) told key
+    vouch : (before : List Line) (told : Voucher) (key other : DnskeyRecord) → IsMatchedBy (HasSecured (By says todo)) rrsets anchors told key
         → IsVouchedBy Hoped before told other → IsVouchedBy (By says todo) before told key
     vouch before (voucher.KeyAnchor number) key other matched said = matched
     vouch before (voucher.DsAnchor number digest_type) key other matched said = matched
@@ -123,15 +123,14 @@ module _ (rrsets : List ReceivedRrset) (anchors : List Anchor) (table : TableCon
     trusted_then before k keys x valid follows =
         let way = x.first.is in
         let Good : SignatureNumber → Type 0 = λ number. IsGoodUnder Then number way.set x.way.key in
-        let Matched : Voucher → Type 0 = λ told. IsMatchedBy (HasSecured (By says todo)) (By says todo) told x.way.key in record {
+        let Matched : Voucher → Type 0 = λ told. IsMatchedBy (HasSecured (By says todo)) rrsets anchors told x.way.key in record {
           set = way.set;
           owner = same_as way.set.owner keys.zone x.zone;
           key = x.way.key;
           stands = way.stands;
           named = x.named;
           good = subst Good (sym x.signature) (good_then (record { rrset = k; signature = x.way.signature }) way.set x.way.key way.good valid);
-          vouched = vouched_then (By says todo) table.moment after [] before keys.voucher x.way.key
-              (vouch before keys.voucher x.way.key follows.key (subst Matched (sym x.voucher) way.matched) follows.vouched);
+          vouched = vouch before keys.voucher x.way.key follows.key (subst Matched (sym x.voucher) way.matched) follows.vouched;
         }
 
     signed_then : (before : List Line) (number : SignatureNumber) (this : SignedRrset) (x : IsSignedLine (By says todo) number this)

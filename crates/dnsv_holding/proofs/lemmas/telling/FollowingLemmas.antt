@@ -6,17 +6,17 @@ use Rattle.std.specs.List.{Contains}
 use Rattle.dnsv_names.specs.Name.{Labels, rightmost}
 use Rattle.dnsv_canonical.specs.Rrsets.{IsNumbered, ReceivedRrset}
 use Rattle.dnsv_chain.specs.Trusted.{IsSecured, IsTrusted}
-use Rattle.dnsv_verifier.specs.Admissible.{DnskeyRecord}
 use Rattle.dnsv_denial.specs.words.EvidenceWords.{Chain, evidence_said}
 use Rattle.dnsv_denial.proofs.lemmas.more.FormLemmas.{SaysNoLess, cut_to, opts_out_to}
 use Rattle.dnsv_denial.proofs.lemmas.more.EvidenceLemmas.{chain_to}
 use Rattle.dnsv_derivations.specs.Explained.{Setting}
-use Rattle.dnsv_derivations.specs.Following.{EachFollows, Follows, FollowsTrusted, IsMatchedBy, IsSaidSigned, IsSignatureSaid}
+use Rattle.dnsv_derivations.specs.Following.{EachFollows, Follows, FollowsTrusted, IsSaidSigned, IsSignatureSaid}
 use Rattle.dnsv_derivations.specs.Following.Cases.{IsCaseBy, IsCaseOf}
 use Rattle.dnsv_derivations.specs.Following.Parts.{IsPartOf, IsUnusableRecord}
 use Rattle.dnsv_derivations.specs.derivations.Ways.{HasSecured, IsWayInto}
 use Rattle.dnsv_canonical.proofs.NumberLemmas.{one_numbered}
 use Rattle.dnsv_derivations.proofs.lemmas.denials.PartLemmas.{said_too}
+use Rattle.dnsv_derivations.proofs.lemmas.derivations.DerivationLemmas.{matched_then}
 use Rattle.dnsv_derivations.proofs.lemmas.derivations.WayLemmas.{way_leads}
 use Rattle.dnsv_lines.specs.declared.line.Line.{Line}
 use Rattle.dnsv_lines.specs.declared.line.Line.TheVariants as line
@@ -24,8 +24,6 @@ use Rattle.dnsv_lines.specs.declared.line.cut.InsecureCase.{InsecureCase}
 use Rattle.dnsv_lines.specs.declared.line.cut.InsecureCase.TheVariants as case
 use Rattle.dnsv_canonical.specs.declared.number.SignatureNumber.{SignatureNumber}
 use Rattle.dnsv_lines.specs.declared.line.derivation.TrustedKeys.{TrustedKeys}
-use Rattle.dnsv_lines.specs.declared.line.derivation.Voucher.{Voucher}
-use Rattle.dnsv_lines.specs.declared.line.derivation.Voucher.TheVariants as voucher
 
 -- ---- cases
 
@@ -111,19 +109,14 @@ module _ (setting : Setting) where
       let Good : SignatureNumber → Type 0 = λ number. Secured number.rrset number.signature in
       subst Good said.is (all (line.Signed said.signed) said.among)
 
-  matched_then : (P Q : ℕ → Type 0) → ((k : ℕ) → P k → Q k) → (voucher : Voucher) (key : DnskeyRecord)
-      → IsMatchedBy P setting voucher key → IsMatchedBy Q setting voucher key
-  matched_then P Q then (voucher.KeyAnchor number) key matched = matched
-  matched_then P Q then (voucher.DsAnchor number digest_type) key matched = matched
-  matched_then P Q then (voucher.Ds number digest_type) key (ds, signed) = (ds, then number.rrset signed)
-
   abbrev way_followed : (before : List Line) → AreTrue before → (keys : TrustedKeys) (follows : FollowsTrusted setting before keys)
       → IsWayInto setting keys.signature.rrset (record { voucher = keys.voucher; key = follows.key; signature = keys.signature.signature })
   way_followed before all keys follows = record {
     set = follows.set;
     stands = follows.stands;
     good = follows.good;
-    matched = matched_then (IsSaidSigned before) (HasSecured setting) (secured_said before all) keys.voucher follows.key follows.vouched;
+    matched = matched_then setting.rrsets setting.anchors (IsSaidSigned before) (HasSecured setting) (secured_said before all) keys.voucher follows.key
+        follows.vouched;
   }
 
   -- what follows is true, where the lines before are

@@ -4,15 +4,15 @@ use Rattle.dnsv_names.specs.Name.{Labels}
 use Rattle.dnsv_canonical.specs.Rrsets.{ReceivedRrset}
 use Rattle.dnsv_canonical.specs.declared.number.RecordNumber.{RecordNumber}
 use Rattle.dnsv_canonical.specs.declared.number.SignatureNumber.{SignatureNumber}
-use Rattle.dnsv_records.specs.declared.number.DigestType.{DigestType}
 use Rattle.dnsv_verifier.specs.Admissible.{DnskeyRecord}
 use Rattle.dnsv_verifier.specs.declared.answer.Answer.{Answer}
 use Rattle.dnsv_verifier.specs.declared.entry.Entry.{Entry}
 use Rattle.dnsv_chain.specs.Trust.{KeptTrust}
 use Rattle.dnsv_chain.specs.declared.anchor.Anchor.{Anchor}
 use Rattle.dnsv_derivations.proofs.lemmas.denials.PartLemmas.{secured_too}
+use Rattle.dnsv_derivations.proofs.lemmas.derivations.DerivationLemmas.{matched_then}
 use Rattle.dnsv_derivations.specs.Explained.{Setting}
-use Rattle.dnsv_derivations.specs.Following.{IsDsMatch, IsGoodUnder, IsMatchedBy}
+use Rattle.dnsv_derivations.specs.Following.{IsGoodUnder}
 use Rattle.dnsv_derivations.specs.Saying.{AreBoth, AreEach}
 use Rattle.dnsv_derivations.specs.derivations.Derivations.{IsDerivation, IsLowestSecured, Subject}
 use Rattle.dnsv_derivations.specs.derivations.Derivations.IsDerivation.{said_trusted, anchored, delegated, said_signed, signed}
@@ -21,8 +21,6 @@ use Rattle.dnsv_derivations.specs.derivations.Ways.{HasSecured, IsFirstSigner, I
 use Rattle.dnsv_lines.specs.declared.line.Line.{Line}
 use Rattle.dnsv_lines.specs.declared.line.derivation.SignedRrset.{SignedRrset}
 use Rattle.dnsv_lines.specs.declared.line.derivation.TrustedKeys.{TrustedKeys}
-use Rattle.dnsv_lines.specs.declared.line.derivation.Voucher.{Voucher}
-use Rattle.dnsv_lines.specs.declared.line.derivation.Voucher.TheVariants as voucher
 use Rattle.dnsv_moments.proofs.lemmas.validity.MomentLemmas.{StayValid, good_at, numbered_among, secured_at, trusted_at}
 
 -- ---- lines one after another
@@ -80,35 +78,12 @@ module _ (rrsets : List ReceivedRrset) (anchors : List Anchor) (meaning : Entry 
         (is.rdata, numbered_among rrset.signatures number.signature is.rdata is.is_signature, is.read)) is.good;
   }
 
-  ds_match : (number : RecordNumber) (digest_type : DigestType) (key : DnskeyRecord) → IsDsMatch Now number digest_type key
-      → IsDsMatch Then number digest_type key
-  ds_match number digest_type key ds = record {
-    rrset = ds.rrset;
-    rdata = ds.rdata;
-    at = ds.at;
-    rtype = ds.rtype;
-    ds = ds.ds;
-    read = ds.read;
-    records = ds.records;
-    are_read = ds.are_read;
-    among = ds.among;
-    usable = ds.usable;
-    matching = ds.matching;
-    digest = ds.digest;
-  }
-
-  matched_by : (by : Voucher) (key : DnskeyRecord) → IsMatchedBy (HasSecured Now) Now by key → IsMatchedBy (HasSecured Then) Then by key
-  matched_by (voucher.KeyAnchor number) key matched = matched
-  matched_by (voucher.DsAnchor number digest_type) key matched = matched
-  matched_by (voucher.Ds number digest_type) key matched =
-      (ds_match number digest_type key matched.0, has_secured number.rrset matched.1)
-
   abbrev way_into : (k : ℕ) (way : Way) → IsWayInto Now k way → IsWayInto Then k way
   way_into k way is = record {
     set = is.set;
     stands = is.stands;
     good = good_under (record { rrset = k; signature = way.signature }) is.set way.key is.good;
-    matched = matched_by way.voucher way.key is.matched;
+    matched = matched_then rrsets anchors (HasSecured Now) (HasSecured Then) has_secured way.voucher way.key is.matched;
   }
 
   abbrev is_signer : (number : SignatureNumber) (k : ℕ) (key : DnskeyRecord) → IsSigner Now number k key → IsSigner Then number k key

@@ -15,7 +15,7 @@ use Rattle.dnsv_derivations.specs.declared.derivations.ways.FoundWay.{FoundWay}
 use Rattle.dnsv_canonical.proofs.NumberLemmas.{one_numbered}
 
 abbrev pub Matched : Setting → Voucher → DnskeyRecord → Type 0
-Matched setting = IsMatchedBy (HasSecured setting) setting
+Matched setting = IsMatchedBy (HasSecured setting) setting.rrsets setting.anchors
 
 -- What stands there is told so, and matches these keys.
 pub record IsTold (setting : Setting) (rrset place : ℕ) (told : Voucher) (Matches : DnskeyRecord → Type 0) : Type 0 where

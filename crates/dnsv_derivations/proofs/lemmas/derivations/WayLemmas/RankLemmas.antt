@@ -57,7 +57,7 @@ module _ (setting : Setting) where
       let counted = ds.at.is_rrset.0 in absurd (omega (arith, counted, first))
 
   pub by_record : (told : Voucher) (key : DnskeyRecord) → Matched setting told key → 1 ≤ (voucher_rank told).rrset
-      → (digest_type : DigestType) × IsDsMatch setting (voucher_rank told) digest_type key × HasSecured setting (voucher_rank told).rrset
+      → (digest_type : DigestType) × IsDsMatch setting.rrsets (voucher_rank told) digest_type key × HasSecured setting (voucher_rank told).rrset
   by_record (voucher.KeyAnchor number) key matched counted = absurd (omega (arith, counted))
   by_record (voucher.DsAnchor number digest_type) key matched counted = absurd (omega (arith, counted))
   by_record (voucher.Ds number digest_type) key (ds, secured) counted = (digest_type, ds, secured)

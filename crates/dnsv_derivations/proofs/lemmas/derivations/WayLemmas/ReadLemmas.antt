@@ -55,7 +55,7 @@ module _ {X : Type 0} (rdata : X → List ℕ) (record_of : X → Ds) (setting :
       (forms_of ds (map rdata items) rtype in_order) in
       (one, subst (λ (list : List (List ℕ)). IsNumbered list number.place octets) lists at.is_rdata)
 
-  pub record_within : (number : RecordNumber) (digest_type : DigestType) (key : DnskeyRecord) → IsDsMatch setting number digest_type key
+  pub record_within : (number : RecordNumber) (digest_type : DigestType) (key : DnskeyRecord) → IsDsMatch setting.rrsets number digest_type key
       → number.rrset ≡ from → number.place ≤ length items
   record_within number digest_type key is of =
       let there = (its_place number is.rrset is.rdata of is.at).1 in
@@ -86,7 +86,7 @@ module _ {X : Type 0} (rdata : X → List ℕ) (record_of : X → Ds) (setting :
         (received.0, omega (arith, sizes, long), one_ds (rdata x) (get_or values received.0 (record_of x)) (record_of x) there is_read)
 
     pub record_said : (key : DnskeyRecord) → IsUsable values (record_of x) → IsMatch ds.owner (record_of x) key
-        → IsDsMatch setting (record_at from (place + 1)) (record_of x).digest_type key
+        → IsDsMatch setting.rrsets (record_at from (place + 1)) (record_of x).digest_type key
     record_said key usable matching = record {
       rrset = ds;
       rdata = rdata x;
@@ -108,7 +108,7 @@ module _ {X : Type 0} (rdata : X → List ℕ) (record_of : X → Ds) (setting :
     }
 
     -- what is said of a record with the number is said of this one
-    pub same_record : (number : RecordNumber) (digest_type : DigestType) (key : DnskeyRecord) → IsDsMatch setting number digest_type key
+    pub same_record : (number : RecordNumber) (digest_type : DigestType) (key : DnskeyRecord) → IsDsMatch setting.rrsets number digest_type key
         → number ≡ record_at from (place + 1) → IsUsable values (record_of x) × IsMatch ds.owner (record_of x) key
     same_record number digest_type key is here =
         let there = its_place number is.rrset is.rdata (ap (λ (n : RecordNumber). n.rrset) here) is.at in

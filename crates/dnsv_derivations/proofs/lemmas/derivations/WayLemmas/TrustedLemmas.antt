@@ -89,7 +89,7 @@ module _ (setting : Setting) where
     pub is : IsWayInto setting k way
 
   way_of : (k : ℕ) (set : ReceivedRrset) (key : DnskeyRecord) → IsNumbered setting.rrsets k set
-      → SignsItsSet setting.meaning setting.moment set key → (voucher : Voucher) → IsMatchedBy (HasSecured setting) setting voucher key → HasWay k
+      → SignsItsSet setting.meaning setting.moment set key → (voucher : Voucher) → IsMatchedBy (HasSecured setting) setting.rrsets setting.anchors voucher key → HasWay k
   way_of k set key numbered signs voucher matched =
       let good = good_number k set key numbered signs.signed in
       record {
