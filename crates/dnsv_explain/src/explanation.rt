@@ -4,15 +4,13 @@ mod end;
 pub mod explainer;
 mod failure;
 
-ghost use Rattle.std.specs.Prelude.{◌≡◌, [], IfOk};
-ghost use Rattle.dnsv_names.specs.Name.{Labels};
-ghost use Rattle.dnsv_chain.specs.Basis.{HasTrust, basis_by, basis_of};
-ghost use Rattle.dnsv_verdict.specs.Report.{IsKept, IsReport, Refuses, hashes_in};
-ghost use Rattle.dnsv_verdict.specs.Way.{IsVerdictOf};
+ghost use Rattle.std.specs.Prelude.{[], IfOk};
+ghost use Rattle.dnsv_chain.specs.Basis.{basis_of};
+ghost use Rattle.dnsv_verdict.specs.Report.{IsReport, Refuses};
 ghost use Rattle.dnsv_holding.specs.Explained.{explained_by};
 ghost use Rattle.dnsv_explain.specs.Explanation.{IsExplanation, IsExplanationOf};
 ghost use Rattle.dnsv_holding.specs.Holding.{IsUnproved};
-ghost use Rattle.dnsv_holding.specs.SharedWays.{AreHopedWays};
+ghost use Rattle.dnsv_holding.specs.Judged.{IsJudgedBy};
 
 use crate::explanation::end::{add_end, add_places_named};
 use crate::explanation::explainer::Explainer;
@@ -90,13 +88,7 @@ fn explanation_of<'a>(
     hoped: &[KeptWay],
     rtype: RecordType,
 ) -> Result<Explanation, AllocError>
-    requires trust { HasTrust case.now }
-    requires hoped { AreHopedWays case.now hoped.now }
-    requires evidence { evidence.now ≡ explained_by case.now [] }
-    requires kept { IsKept case.now rtype.0 judged.now.report.links judged.now.report.last
-        judged.now.report.verdict (hashes_in judged.now) judged.now.hope }
-    requires verdict { (name : Labels) × IsVerdictOf (basis_by case.now) name rtype.0 judged.now.report.links
-        judged.now.report.last judged.now.report.verdict }
+    requires { IsJudgedBy case.now evidence.now hoped.now rtype.0 judged.now }
     ensures { IfOk result (IsExplanation (explained_by case.now []) rtype.0 judged.now.report.links
         judged.now.report.last judged.now.report.verdict) }
 {
@@ -127,13 +119,7 @@ fn failed<'a>(
     hoped: &[KeptWay],
     rtype: RecordType,
 ) -> Result<Explanation, AllocError>
-    requires trust { HasTrust case.now }
-    requires hoped { AreHopedWays case.now hoped.now }
-    requires evidence { evidence.now ≡ explained_by case.now [] }
-    requires kept { IsKept case.now rtype.0 judged.now.report.links judged.now.report.last
-        judged.now.report.verdict (hashes_in judged.now) judged.now.hope }
-    requires verdict { (name : Labels) × IsVerdictOf (basis_by case.now) name rtype.0 judged.now.report.links
-        judged.now.report.last judged.now.report.verdict }
+    requires judged { IsJudgedBy case.now evidence.now hoped.now rtype.0 judged.now }
     requires unproved { IsUnproved judged.now.report.verdict }
     ensures { IfOk result (IsExplanation (explained_by case.now []) rtype.0 judged.now.report.links
         judged.now.report.last judged.now.report.verdict) }

@@ -2,6 +2,7 @@ pub mod At
 pub mod Derived
 pub mod Explained
 pub mod Holding
+pub mod Judged
 pub mod KeyLines
 pub mod Listing
 pub mod Marked

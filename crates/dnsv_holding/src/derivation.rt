@@ -2,12 +2,12 @@
 ghost use Rattle.std.specs.Prelude.{◌≡◌, ◌++◌, ◌∷◌, [], ℕ, IfOk, map};
 ghost use Rattle.dnsv_names.specs.Name.{Labels};
 ghost use Rattle.dnsv_chain.specs.Basis.{HasTrust, basis_by};
-ghost use Rattle.dnsv_verdict.specs.Report.{IsKept, hashed_in, hashes_in};
+ghost use Rattle.dnsv_verdict.specs.Report.{hashed_in};
 ghost use Rattle.dnsv_verdict.specs.Traced.{hashes_on_way};
-ghost use Rattle.dnsv_verdict.specs.Way.{IsStoppedAt, IsVerdictOf, names_on};
+ghost use Rattle.dnsv_verdict.specs.Way.{IsStoppedAt, names_on};
 ghost use Rattle.dnsv_holding.specs.Derived.{AreLinksTold, IsDerivationTold};
 ghost use Rattle.dnsv_holding.specs.Explained.{explained_by};
-ghost use Rattle.dnsv_holding.specs.SharedWays.{AreHopedWays};
+ghost use Rattle.dnsv_holding.specs.Judged.{IsJudgedBy};
 
 use crate::links::{add_link, add_links};
 use crate::verdict::{add_verdict, is_unproved};
@@ -44,13 +44,7 @@ pub fn derivation_of<'a>(
     hoped: &[KeptWay],
     rtype: RecordType,
 ) -> Result<Vec<Line>, AllocError>
-    requires trust { HasTrust case.now }
-    requires hoped { AreHopedWays case.now hoped.now }
-    requires evidence { evidence.now ≡ explained_by case.now [] }
-    requires kept { IsKept case.now rtype.0 judged.now.report.links judged.now.report.last
-        judged.now.report.verdict (hashes_in judged.now) judged.now.hope }
-    requires verdict { (name : Labels) × IsVerdictOf (basis_by case.now) name rtype.0 judged.now.report.links
-        judged.now.report.last judged.now.report.verdict }
+    requires { IsJudgedBy case.now evidence.now hoped.now rtype.0 judged.now }
     ensures { IfOk result (λ lines. IsDerivationTold (explained_by case.now []) rtype.0 judged.now.report.links
         judged.now.report.last judged.now.report.verdict lines.items) }
 {

@@ -43,29 +43,23 @@ keep_hoped-requires-clause-hope c =
     (subst (With c.case-case.result.now) c.in-Reached.is
     (subst (λ case. With case c.in_ok-traced.traced) same c.in_ok-traced.ensures.kept)).hoped
 
-pub derivation_of-requires-clause-trust : goal.derivation_of-requires-clause-trust
-derivation_of-requires-clause-trust c = c.trust-trust.ensures.of
-
-pub derivation_of-requires-clause-hoped : goal.derivation_of-requires-clause-hoped
-derivation_of-requires-clause-hoped c =
-    subst (λ (ways : List KeptWay). AreHopedWays c.case-case.result.now ways) (sym c.deref.ensures.value) c.in_ok-keep_hoped-in-Reached.ensures
-
-pub derivation_of-requires-clause-kept : goal.derivation_of-requires-clause-kept
-derivation_of-requires-clause-kept c =
+pub derivation_of-requires : goal.derivation_of-requires
+derivation_of-requires c =
     let same = case_is c.case-case.ensures c.in_ok-traced.ensures.same in
     let With : CaseContents → Traced → Type 0 = λ case each. IsKeptWith case c.args.rtype.0 each in
-    subst (With c.case-case.result.now) c.in-Reached.is
-    (subst (λ case. With case c.in_ok-traced.traced) same c.in_ok-traced.ensures.kept)
-
-pub derivation_of-requires-clause-verdict : goal.derivation_of-requires-clause-verdict
-derivation_of-requires-clause-verdict c =
-    let same = case_is c.case-case.ensures c.in_ok-traced.ensures.same in
     let To : CaseContents → Traced → Type 0 = λ case each. IsWayTo (basis_by case) c.args.name.now c.args.rtype.0 each in
-    let its = c.requires.ways in (
-      c.args.name.now,
-      subst (To c.case-case.result.now) c.in-Reached.is
-          (subst (λ case. To case c.in_ok-traced.traced) same (c.in_ok-traced.ensures.by_table its.basis its.of)),
-    )
+    let its = c.requires.ways in record {
+      trust = c.trust-trust.ensures.of;
+      hoped = subst (λ (ways : List KeptWay). AreHopedWays c.case-case.result.now ways) (sym c.deref.ensures.value) c.in_ok-keep_hoped-in-Reached.ensures;
+      evidence = c.with_ways-evidence.ensures ∙ c.evidence_of-bare.ensures;
+      kept = subst (With c.case-case.result.now) c.in-Reached.is
+          (subst (λ case. With case c.in_ok-traced.traced) same c.in_ok-traced.ensures.kept);
+      verdict = (
+        c.args.name.now,
+        subst (To c.case-case.result.now) c.in-Reached.is
+            (subst (λ case. To case c.in_ok-traced.traced) same (c.in_ok-traced.ensures.by_table its.basis its.of)),
+      );
+    }
 
 pub stop_derivation_of-requires-clause-trust : goal.stop_derivation_of-requires-clause-trust
 stop_derivation_of-requires-clause-trust c = c.trust-trust.ensures.of

@@ -8,30 +8,22 @@ use Rattle.dnsv_holding.specs.SharedWays.{AreHopedWays}
 use Rattle.dnsv_explain.specs.Explanation.{IsExplanation}
 use Rattle.dnsv_explain.proofs.explanation.explainer.explained.Goals as goal
 
-pub explanation_of-requires-clause-trust : goal.explanation_of-requires-clause-trust
-explanation_of-requires-clause-trust c = c.trust-trust.ensures.of
-
-pub explanation_of-requires-clause-hoped : goal.explanation_of-requires-clause-hoped
-explanation_of-requires-clause-hoped c =
-    subst (λ (each : CaseContents). AreHopedWays each c.hoped_ways-hoped.result.now) (sym c.case-case.ensures) c.hoped_ways-hoped.ensures
-
-pub explanation_of-requires-clause-evidence : goal.explanation_of-requires-clause-evidence
-explanation_of-requires-clause-evidence c =
-    c.evidence-evidence.ensures ∙ ap (λ (each : CaseContents). explained_by each []) (sym c.case-case.ensures)
-
-pub explanation_of-requires-clause-kept : goal.explanation_of-requires-clause-kept
-explanation_of-requires-clause-kept c =
+pub explanation_of-requires : goal.explanation_of-requires
+explanation_of-requires c =
     let judged = c.args.judged.now in
-    subst (λ (each : CaseContents). IsKept each c.args.rtype.0 judged.report.links judged.report.last judged.report.verdict (hashes_in judged) judged.hope)
-    (sym c.case-case.ensures) c.requires.kept
-
-pub explanation_of-requires-clause-verdict : goal.explanation_of-requires-clause-verdict
-explanation_of-requires-clause-verdict c =
-    let report = c.args.judged.now.report in (
-      c.requires.verdict.0,
-      subst (λ (each : CaseContents). IsVerdictOf (basis_by each) c.requires.verdict.0 c.args.rtype.0 report.links report.last report.verdict)
-          (sym c.case-case.ensures) c.requires.verdict.1,
-    )
+    let report = judged.report in
+    let same = sym c.case-case.ensures in record {
+      trust = c.trust-trust.ensures.of;
+      hoped = subst (λ (each : CaseContents). AreHopedWays each c.hoped_ways-hoped.result.now) same c.hoped_ways-hoped.ensures;
+      evidence = c.evidence-evidence.ensures ∙ ap (λ (each : CaseContents). explained_by each []) same;
+      kept = subst (λ (each : CaseContents). IsKept each c.args.rtype.0 report.links report.last report.verdict (hashes_in judged) judged.hope) same
+          c.requires.kept;
+      verdict = (
+        c.requires.verdict.0,
+        subst (λ (each : CaseContents). IsVerdictOf (basis_by each) c.requires.verdict.0 c.args.rtype.0 report.links report.last report.verdict) same
+            c.requires.verdict.1,
+      );
+    }
 
 pub returns : goal.returns
 returns c =
