@@ -12,11 +12,13 @@ ghost use Rattle.dnsv_verdict.specs.Report.{IsReport};
 ghost use Rattle.dnsv_verdict.specs.NoLess.{case_of};
 ghost use Rattle.dnsv_chain.specs.Basis.{Basis, basis_of, with_meaning};
 ghost use Rattle.dnsv_verdict.specs.Verdict.{IsSettledVerdict, IsVerdictAt};
-ghost use Rattle.dnsv_verdict.specs.Way.{IsVerdictOf};
+ghost use Rattle.dnsv_verdict.specs.Way.{IsRefusedFor, IsVerdictOf};
+ghost use Rattle.dnsv_verdict.specs.declared.error.VerdictError.{VerdictError};
 ghost use Rattle.dnsv_verdict.specs.declared.link.Link.{Link};
 ghost use Rattle.dnsv_verdict.specs.declared.report.Report.{Report};
 ghost use Rattle.dnsv_verifier.specs.Table.{table_answer};
 ghost use Rattle.dnsv_verifier.specs.declared.entry.Entry.{Entry};
+ghost use Rattle.dnsv_explain.specs.Aliases.{HaveOneTarget};
 ghost use Rattle.dnsv_explain.specs.Explanation.{IsExplanation, IsExplanationOf};
 ghost use Rattle.dnsv_holding.specs.Holding.{IsUnproved, its_setting, told_kind};
 ghost use Rattle.dnsv_holding.specs.Marked.{AnswersMarked};
@@ -95,6 +97,27 @@ pub fn verdicts_are_no_worse_as_long_as_explanations_hold()
         → Contains links link
         → IsVerdictAt (basis_of explained.rrsets explained.anchors moment better) link.name t other
         → case_of other ≤ case_of (Verdict.SecureAlias link.rrset link.signature) }
+{
+    more_evidence_takes_no_trust_away();
+}
+
+/// Where all CNAME RRsets of a link's name have one target, and the last name owns none or CNAME is asked, the same holds
+/// of the whole question: wherever its aliases then end, its verdict is no worse. It is refused at no moment, whatever
+/// the verifier says.
+pub fn questions_get_no_worse_verdicts_where_aliases_have_one_target()
+    ensures verdict { (explained : Explained) (t : ℕ) (name : Labels) (links : List Link) (last : Labels) (verdict : Verdict)
+        (lines : List Line) (moment : ℕ) (better : Entry → Answer) (its_links : List Link) (its_last : Labels)
+        (other : Verdict)
+        → IsVerdictOf (basis_in explained) name t links last verdict → IsSettledVerdict verdict
+        → IsExplanation explained t links last verdict lines → AreShownValidAt explained.rrsets lines moment
+        → ((entry : Entry) → table_answer explained.table entry ≡ Answer.Valid → better entry ≡ Answer.Valid)
+        → HaveOneTarget explained.rrsets t links last
+        → IsVerdictOf (basis_of explained.rrsets explained.anchors moment better) name t its_links its_last other
+        → case_of other ≤ case_of verdict }
+    ensures refused { (explained : Explained) (t : ℕ) (name : Labels) (links : List Link) (last : Labels) (verdict : Verdict)
+        (moment : ℕ) (better : Entry → Answer) (error : VerdictError)
+        → IsVerdictOf (basis_in explained) name t links last verdict → HaveOneTarget explained.rrsets t links last
+        → ¬ IsRefusedFor (basis_of explained.rrsets explained.anchors moment better) name t error }
 {
     more_evidence_takes_no_trust_away();
 }
