@@ -32,7 +32,7 @@ pub matched_then : (rrsets : List ReceivedRrset) (anchors : List Anchor) (P Q : 
     → IsMatchedBy P rrsets anchors by key → IsMatchedBy Q rrsets anchors by key
 matched_then rrsets anchors P Q then (voucher.KeyAnchor number) key matched = matched
 matched_then rrsets anchors P Q then (voucher.DsAnchor number digest_type) key matched = matched
-matched_then rrsets anchors P Q then (voucher.Ds number digest_type) key (ds, signed) = (ds, then number.rrset signed)
+matched_then rrsets anchors P Q then (voucher.Ds number digest_type) key matched = (matched.0, then number.rrset matched.1)
 
 module _ (setting : Setting) where
   follows_push : (before xs : List Line) (y : Line) → EachFollows setting before xs → Follows setting (before ++ xs) y
