@@ -4,7 +4,7 @@ mod end;
 pub mod explainer;
 mod failure;
 
-ghost use Rattle.std.specs.Prelude.{[], IfOk};
+ghost use Rattle.std.specs.Prelude.{◌≡◌, [], IfOk};
 ghost use Rattle.dnsv_chain.specs.Basis.{basis_of};
 ghost use Rattle.dnsv_verdict.specs.Report.{IsReport, Refuses};
 ghost use Rattle.dnsv_holding.specs.Explained.{explained_by};
