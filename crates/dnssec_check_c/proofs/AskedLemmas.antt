@@ -1,7 +1,7 @@
 -- A request that judges what is asked is the one that a call asks.
 use Rattle.std.proofs.Common.{◌≡◌, ◌<◌, ◌^◌, ℕ, List, subst, sym, string_bytes}
 use Rattle.std.specs.Prelude.{⊤, IsUtf8}
-use Rattle.dnsv_texts.specs.declared.format.Format.{Format}
+use Rattle.dnsv_questions.specs.declared.format.Format.{Format}
 use Rattle.dnsv_commands.specs.declared.request.Asking.{Asking}
 use Rattle.dnsv_commands.specs.declared.request.Asking.TheVariants as asking
 use Rattle.dnsv_commands.specs.declared.request.Known.{Known}

@@ -1,6 +1,6 @@
 //! How a call asks.
 ghost use Rattle.std.specs.Prelude.{◌≡◌, ◌<◌, ◌≤◌, ◌^◌, ◌==◌, ◌&&◌, MatchOption, Bool, false, ℕ};
-ghost use Rattle.dnsv_texts.specs.declared.format.Format.{Format};
+ghost use Rattle.dnsv_questions.specs.declared.format.Format.{Format};
 ghost use Rattle.dnsv_commands.specs.declared.request.Form.{Form};
 ghost use Rattle.dnsv_commands.specs.declared.request.Known.{Known};
 ghost use Rattle.dnsv_commands.specs.declared.request.Listing.{Listing};
@@ -9,7 +9,7 @@ ghost use Rattle.dnssec_check_c.specs.Asked.{IsDetail, IsForm, IsFormat, IsKnown
 use dnsv_files::Moment;
 use dnsv_names::RecordType;
 use dnsv_program::{Form, Known, Listing};
-use dnsv_texts::Format;
+use dnsv_questions::Format;
 use std::alloc::Global;
 
 /// At which moment and by what a capture is judged, and how that is written.

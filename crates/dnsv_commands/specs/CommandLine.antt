@@ -12,7 +12,7 @@ use Rattle.clap.specs.declared.error.kind.ErrorKind.{ErrorKind}
 use Rattle.clap.specs.declared.error.kind.ErrorKind.TheVariants as kind
 use Rattle.std.specs.declared.io.ErrorKind.{ErrorKind as IoErrorKind}
 use Rattle.std.specs.declared.io.ErrorKind.TheVariants as io
-use Rattle.dnsv_texts.specs.Checking.{question_word}
+use Rattle.dnsv_questions.specs.Subcommand.{question_word}
 use Rattle.dnsv_commands.specs.Commands.{program_app}
 use Rattle.dnsv_files.specs.Moment.{last_moment}
 use Rattle.dnsv_commands.specs.declared.command_line.list.When.{When}
@@ -27,8 +27,8 @@ use Rattle.dnsv_commands.specs.declared.request.Listing.{Listing}
 use Rattle.dnsv_commands.specs.declared.request.Listing.TheVariants as listing
 use Rattle.dnsv_commands.specs.declared.request.Request.{Request}
 use Rattle.dnsv_commands.specs.declared.request.Request.TheVariants as request
-use Rattle.dnsv_texts.specs.declared.format.Format.{Format}
-use Rattle.dnsv_texts.specs.declared.format.Format.TheVariants.{Json, Lines}
+use Rattle.dnsv_questions.specs.declared.format.Format.{Format}
+use Rattle.dnsv_questions.specs.declared.format.Format.TheVariants.{Json, Lines}
 use Rattle.dnsv_commands.specs.declared.command_line.CommandLineError.{CommandLineError}
 use Rattle.dnsv_commands.specs.declared.command_line.CommandLineError.TheVariants as line
 

@@ -3,7 +3,7 @@ use Rattle.std.specs.Prelude.{ℕ, Bool, true, false, List, codes, Some}
 use Rattle.clap.specs.Words.{App, Rule, new_app, new_rule, with_rule, with_subcommand}
 use Rattle.clap.specs.declared.builder.action.ArgAction.TheVariants.{SetTrue}
 use Rattle.clap.specs.declared.builder.value_parser.ValueParser.TheVariants as parser
-use Rattle.dnsv_texts.specs.Checking.{question_word}
+use Rattle.dnsv_questions.specs.Subcommand.{question_word}
 use Rattle.dnsv_files.specs.Moment.{last_moment}
 
 -- `--capture FILE`, which has to be there

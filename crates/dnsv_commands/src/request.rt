@@ -5,7 +5,7 @@ ghost use Rattle.dnsv_commands.specs.Paths.{anchors_of, answers_of, capture_of, 
 
 use dnsv_files::Moment;
 use dnsv_names::RecordType;
-use dnsv_texts::Format;
+use dnsv_questions::Format;
 
 /// What is asked about the evidence.
 #[derive(Debug, Drop)]

@@ -9,7 +9,7 @@ use Rattle.dnsv_verdict.specs.declared.error.VerdictError.{VerdictError}
 use Rattle.dnsv_verdict.specs.declared.error.VerdictError.TheVariants.{BadQuestion, OutOfMemory}
 use Rattle.dnsv_verdict.specs.declared.verdict.Verdict.{Verdict}
 use Rattle.dnsv_verdict.specs.declared.verdict.Verdict.TheVariants as verdict
-use Rattle.dnsv_texts.specs.declared.format.Format.{Format}
+use Rattle.dnsv_questions.specs.declared.format.Format.{Format}
 use Rattle.dnsv_timeline.specs.Timeline.{IsTimelineBy}
 use Rattle.dnsv_timeline.specs.declared.stretch.Stretch.{Stretch}
 use Rattle.dnsv_moments.proofs.lemmas.validity.SaidLemmas.{HasNotBoth, HasOneRefusal}

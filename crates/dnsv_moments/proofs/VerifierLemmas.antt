@@ -9,7 +9,7 @@ use Rattle.dnsv_verifier.specs.Table.{TableContents, table_answer}
 use Rattle.dnsv_verifier.specs.Within.{IsAskedWithin, IsTableWithin}
 use Rattle.dnsv_verifier.specs.declared.answer.Answer.{Answer}
 use Rattle.dnsv_verifier.specs.declared.entry.Entry.{Entry}
-use Rattle.dnsv_texts.specs.declared.format.Format.{Format}
+use Rattle.dnsv_questions.specs.declared.format.Format.{Format}
 use Rattle.dnsv_timeline.specs.declared.stretch.Stretch.{Stretch}
 use Rattle.dnsv_moments.specs.validity.Alike.{AreAnsweredAlike}
 use Rattle.dnsv_moments.specs.validity.Said.{IsSaid, IsSaidAt, Said}

@@ -6,7 +6,7 @@ use Rattle.dnsv_verifier.specs.declared.answer.Answer.{Answer}
 use Rattle.dnsv_verifier.specs.declared.entry.Entry.{Entry}
 use Rattle.dnsv_holding.specs.declared.derivation.Outcome.{Outcome}
 use Rattle.dnsv_holding.specs.declared.derivation.Outcome.TheVariants as outcome
-use Rattle.dnsv_texts.specs.declared.format.Format.{Format}
+use Rattle.dnsv_questions.specs.declared.format.Format.{Format}
 use Rattle.dnsv_moments.specs.validity.Said.{IsSaidAt, Said, Told, told_refusal, told_verdict}
 use Rattle.dnsv_moments.specs.Moments.{IsSaidBy, MomentsContents, basis_with}
 

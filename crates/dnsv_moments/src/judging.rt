@@ -14,7 +14,8 @@ use crate::validity::kind::{Kind, kind_of};
 use dnsv_canonical::Rrset;
 use dnsv_holding::{Derivation, Deriver, Outcome};
 use dnsv_names::{Name, RecordType};
-use dnsv_texts::{Format, told_text};
+use dnsv_questions::Format;
+use dnsv_texts::told_text;
 use std::alloc::{AllocError, Global};
 
 /// What is said of the question at the moment, or at the nearest one of the range. Whoever explained at the moment before

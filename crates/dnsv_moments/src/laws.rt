@@ -6,7 +6,7 @@ ghost use Rattle.dnsv_canonical.specs.Rrsets.{IsQuestion};
 ghost use Rattle.dnsv_moments.specs.Moments.{IsSaidBy, MomentsContents};
 ghost use Rattle.dnsv_moments.specs.Question.{IsRefusedFor, IsRefusedThroughout, IsTimelineFor, TellKind};
 ghost use Rattle.dnsv_names.specs.Name.{Labels};
-ghost use Rattle.dnsv_texts.specs.declared.format.Format.{Format};
+ghost use Rattle.dnsv_questions.specs.declared.format.Format.{Format};
 ghost use Rattle.dnsv_timeline.specs.Timeline.{IsTimelineBy};
 ghost use Rattle.dnsv_timeline.specs.declared.stretch.Stretch.{Stretch};
 ghost use Rattle.dnsv_moments.specs.validity.Said.{IsSaidAt, Said};

@@ -13,7 +13,7 @@ use crate::sayer::Sayer;
 use crate::throughout::refused_throughout;
 use dnsv_canonical::is_question;
 use dnsv_names::{Name, RecordType};
-use dnsv_texts::Format;
+use dnsv_questions::Format;
 use dnsv_timeline::{Stretch, timeline_of, times_of_all};
 use dnsv_verdict::{VerdictError, a_question_leads_one_way};
 use std::alloc::{AllocError, Global};

@@ -6,7 +6,7 @@ use crate::moments::Moments;
 use crate::said::Said;
 use dnsv_holding::Deriver;
 use dnsv_names::{Name, RecordType};
-use dnsv_texts::Format;
+use dnsv_questions::Format;
 use dnsv_timeline::Judge;
 use std::alloc::{AllocError, Global};
 use std::marker::Model;

@@ -13,7 +13,7 @@ use Rattle.dnsv_files.specs.declared.status.InputFile.{InputFile}
 use Rattle.dnsv_files.specs.declared.status.InputFile.TheVariants.{Questions}
 use Rattle.dnsv_files.specs.declared.status.Status.{Status}
 use Rattle.dnsv_files.specs.declared.status.Status.TheVariants.{Done}
-use Rattle.dnsv_texts.specs.declared.format.Format.{Format}
+use Rattle.dnsv_questions.specs.declared.format.Format.{Format}
 use Rattle.dnsv_files.specs.Files.Capture.{AnyMessage, IsFaultOfCapture}
 use Rattle.dnsv_canonical.specs.Question.{Asked}
 use Rattle.dnsv_files.specs.Files.Questions.{HasQuestions, IsFaultOfQuestions}

@@ -1,2 +1,3 @@
 pub mod QuestionFile
 pub mod QuestionsError
+pub mod Subcommand

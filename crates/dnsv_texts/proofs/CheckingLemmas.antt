@@ -7,7 +7,7 @@ use Rattle.dnsv_verdict.specs.declared.verdict.Verdict.{Verdict}
 use Rattle.dnsv_verdict.specs.declared.verdict.Verdict.TheVariants as verdict
 use Rattle.dnsv_texts.specs.Checking.{reason_members, reason_text}
 use Rattle.dnsv_lines.specs.Json.{parted}
-use Rattle.dnsv_texts.specs.declared.format.Format.TheVariants.{Json}
+use Rattle.dnsv_questions.specs.declared.format.Format.TheVariants.{Json}
 
 -- what is added in JSON for what carries the verdict are the members for it, behind others
 pub members_are : (rrsets : List ReceivedRrset) (verdict : Verdict) (whole : Bool) → reason_text Json rrsets verdict whole ≡ parted false (reason_members rrsets verdict whole)

@@ -5,8 +5,8 @@ use Rattle.std.proofs.lemmas.List.Concat.{flat_map-append}
 use Rattle.dnsv_lines.specs.Json.{parted, still_first}
 use Rattle.dnsv_lines.proofs.JsonLemmas.{parted-append, still_first-append}
 use Rattle.dnsv_texts.specs.Parts.{part}
-use Rattle.dnsv_texts.specs.declared.format.Format.{Format}
-use Rattle.dnsv_texts.specs.declared.format.Format.TheVariants.{Json, Lines}
+use Rattle.dnsv_questions.specs.declared.format.Format.{Format}
+use Rattle.dnsv_questions.specs.declared.format.Format.TheVariants.{Json, Lines}
 
 -- ---- the text of a part
 

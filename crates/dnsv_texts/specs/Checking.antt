@@ -12,8 +12,9 @@ use Rattle.dnsv_verdict.specs.declared.verdict.Verdict.{Verdict}
 use Rattle.dnsv_verdict.specs.declared.verdict.Verdict.TheVariants as verdict
 use Rattle.dnsv_lines.specs.declared.line.Line.{Line}
 use Rattle.dnsv_lines.specs.Json.{array, member, name_json, object, parted, quoted}
-use Rattle.dnsv_texts.specs.declared.format.Format.{Format}
-use Rattle.dnsv_texts.specs.declared.format.Format.TheVariants.{Json, Lines}
+use Rattle.dnsv_questions.specs.declared.format.Format.{Format}
+use Rattle.dnsv_questions.specs.declared.format.Format.TheVariants.{Json, Lines}
+use Rattle.dnsv_questions.specs.Subcommand.{question_word}
 use Rattle.dnsv_texts.specs.Json.{object_line}
 use Rattle.dnsv_texts.specs.Todo.{todo_json, todo_line}
 use Rattle.dnsv_texts.specs.Why.{why_lines, why_members}
@@ -94,11 +95,6 @@ verdict_text name rtype rrsets links verdict whole =
     verdict_line verdict name rtype ++ flat_map alias_line links ++ reason_lines rrsets verdict whole
 
 -- ---- the object
-
--- the subcommands for a question: that for its verdict, and the one that says besides why it stands
-abbrev pub question_word : Bool → List ℕ
-question_word false = codes "check"
-question_word true = codes "explain"
 
 -- the members for an RRset by its number, and its signature by its own
 abbrev pub signature_members : ℕ → ℕ → List (List ℕ)

@@ -8,8 +8,8 @@ use Rattle.dnsv_compact.specs.declared.key.ListedKey.{ListedKey}
 use Rattle.dnsv_compact.specs.declared.place.Place.{Place}
 use Rattle.dnsv_answers.specs.declared.heading.Moments.{Moments}
 use Rattle.dnsv_lines.specs.Json.{array, member, object, quoted}
-use Rattle.dnsv_texts.specs.declared.format.Format.{Format}
-use Rattle.dnsv_texts.specs.declared.format.Format.TheVariants.{Json, Lines}
+use Rattle.dnsv_questions.specs.declared.format.Format.{Format}
+use Rattle.dnsv_questions.specs.declared.format.Format.TheVariants.{Json, Lines}
 use Rattle.dnsv_texts.specs.Hex.{hex_text}
 use Rattle.dnsv_texts.specs.Json.{object_line, octets_json}
 use Rattle.dnsv_texts.specs.Moments.{moments_members}

@@ -5,8 +5,8 @@ use Rattle.dnsv_names.specs.Name.{Labels}
 use Rattle.dnsv_lines.specs.Json.{member}
 use Rattle.dnsv_texts.specs.Checking.{lower_text, question_members}
 use Rattle.dnsv_texts.specs.Json.{object_line}
-use Rattle.dnsv_texts.specs.declared.format.Format.{Format}
-use Rattle.dnsv_texts.specs.declared.format.Format.TheVariants.{Json, Lines}
+use Rattle.dnsv_questions.specs.declared.format.Format.{Format}
+use Rattle.dnsv_questions.specs.declared.format.Format.TheVariants.{Json, Lines}
 
 -- the number of the refusal, and the name and type that are asked for
 abbrev pub refused_line : ℕ → Labels → ℕ → List ℕ

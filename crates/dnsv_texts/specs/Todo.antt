@@ -4,8 +4,8 @@ use Rattle.std.specs.Fmt.{decimal}
 use Rattle.std.specs.List.{flat_map}
 use Rattle.dnsv_verifier.specs.declared.entry.Entry.{Entry}
 use Rattle.dnsv_answers.specs.declared.heading.Moments.{Moments}
-use Rattle.dnsv_texts.specs.declared.format.Format.{Format}
-use Rattle.dnsv_texts.specs.declared.format.Format.TheVariants.{Json, Lines}
+use Rattle.dnsv_questions.specs.declared.format.Format.{Format}
+use Rattle.dnsv_questions.specs.declared.format.Format.TheVariants.{Json, Lines}
 use Rattle.dnsv_texts.specs.Hex.{hex_text}
 use Rattle.dnsv_lines.specs.Json.{array, member, object, quoted}
 use Rattle.dnsv_texts.specs.Json.{object_line, octets_json}

@@ -2,15 +2,15 @@
 ghost use Rattle.std.specs.Prelude.{◌≡◌, ◌++◌, IfOk, OnOk, Some, flat_map, string_bytes};
 ghost use Rattle.std.specs.Option.{option_map};
 ghost use Rattle.dnsv_texts.specs.Checking as specs;
-ghost use Rattle.dnsv_texts.specs.declared.format.Format.TheVariants.{Lines};
+ghost use Rattle.dnsv_questions.specs.declared.format.Format.TheVariants.{Lines};
 
 use crate::explaining::push_why;
-use crate::format::Format;
 use crate::json::checking::verdict_json;
 use crate::reason::push_reason;
 use dnsv_canonical::{RecordNumber, Rrset, numbered};
 use dnsv_lines::Line;
 use dnsv_names::{Name, RecordType};
+use dnsv_questions::Format;
 use dnsv_verdict::{Link, Report, Verdict};
 use std::alloc::{AllocError, Global};
 
@@ -25,13 +25,6 @@ pub struct Heading<'a> {
     pub moment: u64,
     /// The exit status that goes with the verdict.
     pub status: u8,
-}
-
-/// The subcommand for a question: that for its verdict, or the one that says besides why it stands.
-pub fn question_word(why: bool) -> &'static str
-    ensures { result.now ≡ specs.question_word why }
-{
-    if why { "explain" } else { "check" }
 }
 
 /// The text of a report, and of why its verdict stands, where the lines are given that say it: in lines, or in JSON. The

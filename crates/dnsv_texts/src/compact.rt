@@ -6,12 +6,12 @@ ghost use Rattle.dnsv_compact.specs.CompactList.{IsListedRrset, ListedRrset, Lis
 ghost use Rattle.dnsv_texts.specs.Compact as specs;
 ghost use Rattle.dnsv_texts.specs.Showing.{texts_from};
 
-use crate::format::Format;
 use crate::hex_text::push_hex_text;
 use crate::json::compact as json;
 use dnsv_answers::Moments;
 use dnsv_canonical::{Rrset, canonical_rrset};
 use dnsv_compact::{CompactList, ListedKey, Place, front_of};
+use dnsv_questions::Format;
 use dnsv_records::Rrsig;
 use std::alloc::{AllocError, Global};
 

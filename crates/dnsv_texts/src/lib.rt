@@ -4,9 +4,8 @@
 //! Nothing is decided here: each text is that of the values that are given.
 #![tactic(auto)]
 
-pub use checking::{Heading, check_text, question_word};
+pub use checking::{Heading, check_text};
 pub use compact::compact_text;
-pub use format::Format;
 pub use listing::listing_text;
 pub use refused::refused_text;
 pub use showing::push_message;
@@ -16,7 +15,6 @@ pub use told::told_text;
 mod checking;
 mod compact;
 mod explaining;
-mod format;
 mod hex_text;
 mod json;
 mod listing;

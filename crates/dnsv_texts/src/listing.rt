@@ -2,15 +2,15 @@
 ghost use Rattle.std.specs.Prelude.{◌≡◌, ◌++◌, ◌∷◌, [], List, IfOk, OnOk, false, string_bytes, true};
 ghost use Rattle.std.specs.Option.{option_map};
 ghost use Rattle.dnsv_lines.specs.Json.{parted, still_first};
-ghost use Rattle.dnsv_texts.specs.declared.format.Format.TheVariants.{Json, Lines};
+ghost use Rattle.dnsv_questions.specs.declared.format.Format.TheVariants.{Json, Lines};
 ghost use Rattle.dnsv_texts.specs.Listing.{ListsRrsets, ListsSignatures, SignedOctets};
 ghost use Rattle.dnsv_texts.specs.Listing.{data_json, data_line, listed_part, listing_text, octets_or_null};
 
-use crate::format::Format;
 use crate::hex_text::push_hex;
 use crate::json::push_octets;
 use dnsv_canonical::{Capture, Rrset, signed_data};
 use dnsv_lines::push_comma;
+use dnsv_questions::Format;
 use std::alloc::{AllocError, Global};
 
 /// What each signature of each RRset of the evidence signs (RFC 4034 3.1.8.1): in lines, or in JSON with the moment, in

@@ -2,10 +2,10 @@
 ghost use Rattle.std.specs.Prelude.{◌≡◌, ◌++◌, OnOk, string_bytes};
 ghost use Rattle.dnsv_texts.specs.Checking.{cut_text, entries_text, proof_text, reason_text, signature_text};
 
-use crate::format::Format;
 use crate::{checking, json, todo};
 use dnsv_canonical::{RecordNumber, Rrset};
 use dnsv_names::Name;
+use dnsv_questions::Format;
 use dnsv_verdict::Verdict;
 use dnsv_verifier::Entries;
 use std::alloc::AllocError;

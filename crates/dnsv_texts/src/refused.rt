@@ -3,8 +3,8 @@ ghost use Rattle.std.specs.Prelude.{◌≡◌, ◌++◌, IfOk, string_bytes};
 ghost use Rattle.dnsv_texts.specs.Refused as specs;
 
 use crate::checking::Heading;
-use crate::format::Format;
 use crate::json::refused::refused_json;
+use dnsv_questions::Format;
 use std::alloc::{AllocError, Global};
 
 /// The text for a question that is refused by the number: in lines, or in JSON, with the subcommand that asks why a

@@ -2,10 +2,10 @@
 ghost use Rattle.std.specs.Prelude.{◌≡◌, ◌++◌, IfOk, OnOk, flat_map, string_bytes};
 ghost use Rattle.dnsv_texts.specs.Todo as specs;
 
-use crate::format::Format;
 use crate::hex_text::{push_hex_text, push_signed_text};
 use crate::json::todo::todo_json;
 use dnsv_answers::Moments;
+use dnsv_questions::Format;
 use dnsv_verifier::{Entries, Entry};
 use std::alloc::{AllocError, Global};
 

@@ -1,13 +1,13 @@
 //! What is told of a verdict apart from its question.
 ghost use Rattle.std.specs.Prelude.{◌≡◌, IfOk, string_bytes};
 ghost use Rattle.dnsv_texts.specs.Told as specs;
-ghost use Rattle.dnsv_texts.specs.declared.format.Format.TheVariants.{Json, Lines};
+ghost use Rattle.dnsv_questions.specs.declared.format.Format.TheVariants.{Json, Lines};
 
-use crate::format::Format;
 use crate::json::checking as json;
 use crate::reason::push_reason;
 use crate::words;
 use dnsv_canonical::Rrset;
+use dnsv_questions::Format;
 use dnsv_verdict::{Link, Verdict};
 use std::alloc::{AllocError, Global};
 

@@ -16,7 +16,7 @@ use Rattle.dnsv_files.specs.declared.opening.Opening.TheVariants.{Plain}
 use Rattle.dnsv_files.specs.Files.Capture.{Holds, NewEvidence}
 use Rattle.dnsv_files.specs.Files.{Files, octets_or_none}
 use Rattle.dnsv_files.specs.Files.Statements.{IsMeaningOf}
-use Rattle.dnsv_texts.specs.declared.format.Format.{Format}
+use Rattle.dnsv_questions.specs.declared.format.Format.{Format}
 use Rattle.dnsv_texts.specs.Compact.{compact_text}
 use Rattle.dnsv_texts.specs.Listing.{ListsRrsets, SignedOctets, listing_text}
 use Rattle.dnsv_texts.specs.Todo.{todo_text}

@@ -11,7 +11,8 @@ ghost use Rattle.dnsv_work.specs.Judged.{IsRefusedOne};
 
 use dnsv_files::{Fault, Moment, Place, Refusal, Status};
 use dnsv_names::{Name, RecordType};
-use dnsv_texts::{Format, Heading, refused_text};
+use dnsv_questions::Format;
+use dnsv_texts::{Heading, refused_text};
 use dnsv_verdict::{Verdict, VerdictError};
 use std::alloc::{AllocError, Global};
 

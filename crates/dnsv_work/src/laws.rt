@@ -4,7 +4,7 @@ ghost use Rattle.dnsv_names.specs.Octets.{AreOctets};
 ghost use Rattle.dnsv_message.specs.Streams.Frames.{IsTooLong};
 ghost use Rattle.dnsv_files.specs.Files.Capture.{AnyMessage, IsRefusal, NewEvidence};
 ghost use Rattle.dnsv_files.specs.declared.opening.Opening.TheVariants.{Plain};
-ghost use Rattle.dnsv_texts.specs.declared.format.Format.{Format};
+ghost use Rattle.dnsv_questions.specs.declared.format.Format.{Format};
 ghost use Rattle.dnsv_work.specs.Listing.{IsListing};
 ghost use Rattle.dnsv_work.specs.Showing.{IsShowing};
 ghost use Rattle.dnsv_files.specs.declared.status.Place.{Place};

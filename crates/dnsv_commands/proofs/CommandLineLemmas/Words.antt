@@ -30,7 +30,7 @@ use Rattle.dnsv_commands.proofs.CommandLineLemmas.Rows.{AreRowsIn}
 use Rattle.dnsv_commands.proofs.CommandLineLemmas.Values.{check_values, list_values, program_shape, show_values, sub_shapes, timeline_values}
 use Rattle.dnsv_commands.proofs.CommandLineLemmas.Walks.{AllLeaveValues, level_in}
 use Rattle.clap.proofs.ValueTestLemmas.{accepts-Accepts}
-use Rattle.dnsv_texts.specs.Checking.{question_word}
+use Rattle.dnsv_questions.specs.Subcommand.{question_word}
 use Rattle.dnsv_commands.specs.Commands.{program_app}
 use Rattle.dnsv_commands.specs.CommandLine.{Asks, AsksForAllOfRange, AsksForTwoLists, GoesByBoth, HasCapture, HasCheckValues, HasListValues, HasTimelineValues, IsAccepted, IsFlag, IsRefused, IsUnclear, IsUndated, error_of_kind, flag_said, command_line_error, is_asked, number_said}
 use Rattle.std.specs.Option.{SomeIff}

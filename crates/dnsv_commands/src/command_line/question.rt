@@ -1,7 +1,7 @@
 //! What the words of `check` and `explain` ask for.
 ghost use Rattle.std.specs.Prelude.{◌≡◌, ◌⊎◌, IfErr, IfOk};
 ghost use Rattle.clap.specs.Words.{found_of, rows_of};
-ghost use Rattle.dnsv_texts.specs.Checking.{question_word};
+ghost use Rattle.dnsv_questions.specs.Subcommand.{question_word};
 ghost use Rattle.dnsv_commands.specs.CommandLine.{Asks, AsksFor, GoesByBoth, HasCheckValues, IsUnclear};
 ghost use Rattle.dnsv_commands.specs.declared.command_line.CommandLineError.TheVariants.{BothKnown, OutOfMemory, Unclear};
 

@@ -12,7 +12,7 @@ use crate::request::Known;
 use clap::ArgMatches;
 use dnsv_files::Moment;
 use dnsv_names::RecordType;
-use dnsv_texts::Format;
+use dnsv_questions::Format;
 use std::alloc::{AllocError, Global};
 
 /// By what the matches have it known which signatures are good.

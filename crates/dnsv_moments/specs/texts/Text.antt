@@ -8,8 +8,8 @@ use Rattle.dnsv_canonical.specs.declared.number.SignatureNumber.{SignatureNumber
 use Rattle.dnsv_lines.specs.Json.{array, member, name_json, object, parted, quoted}
 use Rattle.dnsv_texts.specs.Checking.{lower_text, signature_members}
 use Rattle.dnsv_texts.specs.Json.{object_line}
-use Rattle.dnsv_texts.specs.declared.format.Format.{Format}
-use Rattle.dnsv_texts.specs.declared.format.Format.TheVariants.{Json, Lines}
+use Rattle.dnsv_questions.specs.declared.format.Format.{Format}
+use Rattle.dnsv_questions.specs.declared.format.Format.TheVariants.{Json, Lines}
 use Rattle.dnsv_timeline.specs.declared.stretch.Stretch.{Stretch}
 use Rattle.dnsv_moments.specs.validity.Said.{Said}
 use Rattle.dnsv_moments.specs.declared.validity.kind.Kind.{Kind}

@@ -14,7 +14,7 @@ use Rattle.dnsv_verdict.specs.declared.verdict.Verdict.{Verdict}
 use Rattle.dnsv_derivations.specs.intervals.Holding.{signature_shown}
 use Rattle.dnsv_lines.specs.declared.line.Line.{Line}
 use Rattle.dnsv_texts.specs.Told.{told_text}
-use Rattle.dnsv_texts.specs.declared.format.Format.{Format}
+use Rattle.dnsv_questions.specs.declared.format.Format.{Format}
 use Rattle.dnsv_holding.specs.Derived.{AreLinksDerived, IsDerivationOf, alias_of}
 use Rattle.dnsv_moments.specs.validity.Kinds.{verdict_kind}
 use Rattle.dnsv_moments.specs.validity.SameValid.{at_moment}

@@ -2,7 +2,7 @@
 ghost use Rattle.std.specs.Prelude.{◌≡◌, ◌++◌, ◌∷◌, [], codes, false, map, true, IfOk, OnOk, string_bytes};
 ghost use Rattle.std.specs.List.{flat_map};
 ghost use Rattle.dnsv_lines.specs.Json.{parted, still_first};
-ghost use Rattle.dnsv_texts.specs.declared.format.Format.TheVariants.{Json};
+ghost use Rattle.dnsv_questions.specs.declared.format.Format.TheVariants.{Json};
 ghost use Rattle.dnsv_moments.specs.texts.Shown.{border_json};
 ghost use Rattle.dnsv_moments.specs.texts.Text as specs;
 

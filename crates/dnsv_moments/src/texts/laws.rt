@@ -4,7 +4,7 @@
 ghost use Rattle.std.specs.Prelude.{◌≡◌, Bool, List, ℕ};
 ghost use Rattle.dnsv_canonical.specs.Rrsets.{ReceivedRrset};
 ghost use Rattle.dnsv_names.specs.Name.{Labels};
-ghost use Rattle.dnsv_texts.specs.declared.format.Format.{Format};
+ghost use Rattle.dnsv_questions.specs.declared.format.Format.{Format};
 ghost use Rattle.dnsv_timeline.specs.declared.stretch.Stretch.{Stretch};
 ghost use Rattle.dnsv_moments.specs.validity.Said.{Said};
 ghost use Rattle.dnsv_moments.specs.texts.Text.{IsTimelineText};

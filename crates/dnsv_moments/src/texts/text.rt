@@ -8,7 +8,7 @@ use crate::texts::lines::timeline_lines;
 use crate::texts::pieces::{Piece, pieces_of};
 use dnsv_canonical::Capture;
 use dnsv_names::{Name, RecordType};
-use dnsv_texts::Format;
+use dnsv_questions::Format;
 use dnsv_timeline::{Range, Stretch};
 use std::alloc::{AllocError, Global};
 

@@ -8,7 +8,7 @@ ghost use Rattle.dnsv_timeline.specs.Dates.{AreTimesOf};
 ghost use Rattle.dnsv_timeline.specs.Timeline.{AreSameValid, DependsOn, IsTimelineBy};
 ghost use Rattle.dnsv_timeline.specs.declared.stretch.Stretch.{Stretch};
 ghost use Rattle.dnsv_timeline.specs.declared.times.Times.{Times};
-ghost use Rattle.dnsv_texts.specs.declared.format.Format.{Format};
+ghost use Rattle.dnsv_questions.specs.declared.format.Format.{Format};
 ghost use Rattle.dnsv_lines.specs.declared.line.Line.{Line};
 ghost use Rattle.dnsv_holding.specs.Derived.{AreLinksDerived, IsDerivationOf};
 ghost use Rattle.dnsv_moments.specs.validity.Said.{IsSaid, IsSaidAt, Said};

@@ -10,7 +10,7 @@ use Rattle.std.specs.Prelude.{Contains}
 use Rattle.dnsv_canonical.specs.Question.{Asked}
 use Rattle.dnsv_message.specs.Streams.Counted.{AppendsBeginning}
 use Rattle.dnsv_chain.specs.Basis.{Basis}
-use Rattle.dnsv_texts.specs.declared.format.Format.{Format}
+use Rattle.dnsv_questions.specs.declared.format.Format.{Format}
 use Rattle.dnsv_files.specs.Status.{status_code}
 use Rattle.dnsv_program.specs.Work.Asking.{Answered, AreAnswers, EachAnswered, IsAnswer, IsGreatest}
 use Rattle.dnsv_files.specs.declared.status.Status.{Status}

@@ -28,7 +28,7 @@ use Rattle.dnsv_commands.specs.declared.request.Form.TheVariants.{Compact, Whole
 use Rattle.dnsv_files.specs.declared.opening.Opening.{Opening}
 use Rattle.dnsv_files.specs.declared.opening.Opening.TheVariants.{Plain, Signed}
 use Rattle.dnsv_files.specs.declared.status.Status.{Status}
-use Rattle.dnsv_texts.specs.declared.format.Format.{Format}
+use Rattle.dnsv_questions.specs.declared.format.Format.{Format}
 use Rattle.dnsv_files.specs.Files.Capture.{NewEvidence, Holds}
 use Rattle.dnsv_texts.specs.Checking.{check_text}
 use Rattle.dnsv_texts.specs.Compact.{compact_text}

@@ -12,7 +12,7 @@ use Rattle.dnsv_work.specs.Known.{Ground}
 use Rattle.dnsv_work.specs.declared.given.Said.{Said}
 use Rattle.dnsv_files.specs.Files.{Files}
 use Rattle.dnsv_work.specs.declared.judged.Outcome.{Outcome}
-use Rattle.dnsv_texts.specs.declared.format.Format.{Format}
+use Rattle.dnsv_questions.specs.declared.format.Format.{Format}
 use Rattle.dnsv_files.specs.declared.status.Fault.{Fault}
 use Rattle.dnsv_work.proofs.WorkLemmas.InOrder.{all_given}
 

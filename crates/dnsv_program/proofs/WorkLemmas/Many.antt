@@ -1,7 +1,7 @@
 -- What is so of many questions, said of the request that asks them.
 use Rattle.std.proofs.Common.{◌⊎◌, ℕ, Bool, List, Option, inl, inr}
 use Rattle.std.specs.Io.KnownBytes.{Appends}
-use Rattle.dnsv_texts.specs.declared.format.Format.{Format}
+use Rattle.dnsv_questions.specs.declared.format.Format.{Format}
 use Rattle.dnsv_files.specs.Files.{Files}
 use Rattle.dnsv_program.specs.Run.{AsksMany, AsksRefused, IsFirstFault, IsFirstFaultOfEach, IsManyAsked, IsReached, IsReachedByEach, IsTextAskedFor, IsTextOfFewer, IsTextOfFirst}
 use Rattle.dnsv_program.specs.Work.Asking.{AreAnswered, AreFewerAnswered, AreFirstAnswered}

@@ -5,7 +5,7 @@ use Rattle.dnsv_answers.specs.declared.heading.Moments.TheVariants.{At}
 use Rattle.dnsv_canonical.specs.Question.{Asked}
 use Rattle.dnsv_canonical.specs.Rrsets.{IsQuestion}
 use Rattle.dnsv_chain.specs.Basis.{Basis}
-use Rattle.dnsv_texts.specs.declared.format.Format.{Format}
+use Rattle.dnsv_questions.specs.declared.format.Format.{Format}
 use Rattle.dnsv_files.specs.Files.{Files, octets_or_none}
 use Rattle.dnsv_files.specs.Files.Questions.{HasQuestions}
 use Rattle.dnsv_files.specs.Status.{status_code}

@@ -10,7 +10,7 @@ use Rattle.dnsv_explain.specs.Explanation.{IsExplanationOf}
 use Rattle.dnsv_lines.specs.declared.line.Line.{Line}
 use Rattle.dnsv_files.specs.Files.{Files}
 use Rattle.dnsv_files.specs.Status.{status_code}
-use Rattle.dnsv_texts.specs.declared.format.Format.{Format}
+use Rattle.dnsv_questions.specs.declared.format.Format.{Format}
 use Rattle.dnsv_texts.specs.Checking.{check_text}
 use Rattle.dnsv_files.specs.declared.status.Fault.{Fault}
 use Rattle.dnsv_files.specs.declared.status.Status.{Status}

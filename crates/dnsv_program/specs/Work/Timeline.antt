@@ -6,7 +6,7 @@ use Rattle.dnsv_timeline.specs.declared.stretch.Stretch.{Stretch}
 use Rattle.dnsv_answers.specs.declared.heading.Moments.TheVariants.{Between}
 use Rattle.dnsv_chain.specs.Basis.{Basis}
 use Rattle.dnsv_verdict.specs.declared.error.VerdictError.{VerdictError}
-use Rattle.dnsv_texts.specs.declared.format.Format.{Format}
+use Rattle.dnsv_questions.specs.declared.format.Format.{Format}
 use Rattle.dnsv_moments.specs.validity.Said.{IsSaidAt, Said}
 use Rattle.dnsv_moments.specs.Question.{IsRefusedThroughout}
 use Rattle.dnsv_moments.specs.texts.Text.{IsTimelineText}

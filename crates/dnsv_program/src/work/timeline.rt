@@ -22,7 +22,7 @@ use bumpalo::Bump;
 use dnsv_files::{Fault, Inputs, Moment};
 use dnsv_moments::{Moments, Question, timeline_of_question, timeline_text};
 use dnsv_names::{Count, RecordType};
-use dnsv_texts::Format;
+use dnsv_questions::Format;
 use dnsv_timeline::Range;
 use dnsv_work::{
     Given, Said, Span, given_in, question_name, range_between, table_of, verdict_fault,

@@ -4,14 +4,14 @@ ghost use Rattle.std.specs.Option.{option_map};
 ghost use Rattle.dnsv_lines.specs.Json.{array, parted, still_first};
 ghost use Rattle.dnsv_texts.specs.Checking as specs;
 
-use crate::checking::{Heading, question_word, verdict_word};
-use crate::format::Format;
+use crate::checking::{Heading, verdict_word};
 use crate::json::explaining::push_why;
 use crate::json::todo::push_entries;
 use crate::reason::push_reason;
 use dnsv_canonical::{RecordNumber, Rrset, numbered};
 use dnsv_lines::{Line, push_comma, push_name};
 use dnsv_names::Name;
+use dnsv_questions::{Format, question_word};
 use dnsv_verdict::{Link, Report, Verdict};
 use dnsv_verifier::Entries;
 use std::alloc::{AllocError, Global};

@@ -6,16 +6,16 @@ ghost use Rattle.dnsv_compact.specs.CompactList.{IsListedRrset, ListedRrset, Lis
 ghost use Rattle.dnsv_lines.specs.Json.{array, parted};
 ghost use Rattle.dnsv_texts.specs.Compact as specs;
 ghost use Rattle.dnsv_texts.specs.Json.{octets_json};
-ghost use Rattle.dnsv_texts.specs.declared.format.Format.TheVariants.{Json};
+ghost use Rattle.dnsv_questions.specs.declared.format.Format.TheVariants.{Json};
 
 use crate::compact::{push_rrsets, push_signatures};
-use crate::format::Format;
 use crate::json::moments::push_list_of;
 use crate::json::push_octets;
 use dnsv_answers::Moments;
 use dnsv_canonical::{Rrset, canonical_rrset};
 use dnsv_compact::{CompactList, ListedKey, Place, front_of};
 use dnsv_lines::push_comma;
+use dnsv_questions::Format;
 use dnsv_records::Rrsig;
 use std::alloc::{AllocError, Global};
 

@@ -1,7 +1,7 @@
 //! The JSON for a question that has no verdict, where it is one of many.
 ghost use Rattle.std.specs.Prelude.{◌≡◌, IfOk, string_bytes};
 ghost use Rattle.dnsv_texts.specs.Refused as specs;
-ghost use Rattle.dnsv_texts.specs.declared.format.Format.TheVariants.{Json};
+ghost use Rattle.dnsv_questions.specs.declared.format.Format.TheVariants.{Json};
 
 use crate::checking::Heading;
 use crate::json::checking::push_question;

@@ -2,7 +2,7 @@
 ghost use Rattle.std.specs.Prelude.{◌≡◌, ◌++◌, ◌∷◌, [], false, true, map, IfOk, OnOk, string_bytes};
 ghost use Rattle.dnsv_lines.specs.Json.{array, parted};
 ghost use Rattle.dnsv_texts.specs.Todo as specs;
-ghost use Rattle.dnsv_texts.specs.declared.format.Format.TheVariants.{Json};
+ghost use Rattle.dnsv_questions.specs.declared.format.Format.TheVariants.{Json};
 
 use crate::json::moments::push_list_of;
 use crate::json::{push_octets, push_signed};

@@ -2,7 +2,7 @@ use Rattle.std.proofs.Common.{◌≡◌, ap, map, ◌∙◌, codes, true, rules,
 use Rattle.std.proofs.lemmas.Slice.Eq.{bytes_eq-Decides}
 use Rattle.std.specs.Str.{bytes_eq}
 use Rattle.clap.specs.Words.{app_of, found_of, rows_of}
-use Rattle.dnsv_texts.specs.Checking.{question_word}
+use Rattle.dnsv_questions.specs.Subcommand.{question_word}
 use Rattle.dnsv_commands.proofs.CommandLineLemmas.Words.{Sees, asked_as, is_list, is_question, is_show, is_timeline, no_list_as, no_timeline_as, passed_up, sees, unclear_as}
 use Rattle.dnsv_commands.proofs.command_line.read_command_line.Goals as goal
 

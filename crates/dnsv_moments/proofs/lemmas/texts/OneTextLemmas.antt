@@ -9,7 +9,7 @@ use Rattle.dnsv_timeline.specs.Borders.{borders_of}
 use Rattle.dnsv_timeline.specs.declared.borders.Border.{Border}
 use Rattle.dnsv_timeline.specs.declared.borders.DatedSignature.{DatedSignature}
 use Rattle.dnsv_timeline.specs.declared.stretch.Stretch.{Stretch}
-use Rattle.dnsv_texts.specs.declared.format.Format.{Format}
+use Rattle.dnsv_questions.specs.declared.format.Format.{Format}
 use Rattle.dnsv_derivations.proofs.lemmas.one.TrustedLemmas.{one_signature_at}
 use Rattle.dnsv_holding.proofs.lemmas.keys.OneListLemmas.{IsOneList, one_of_each}
 use Rattle.dnsv_holding.specs.Listing.{AreOfEach}

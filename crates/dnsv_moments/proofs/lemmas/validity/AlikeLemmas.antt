@@ -14,7 +14,7 @@ use Rattle.dnsv_verdict.specs.declared.error.VerdictError.{VerdictError}
 use Rattle.dnsv_verdict.specs.declared.link.Link.{Link}
 use Rattle.dnsv_verdict.specs.declared.verdict.Verdict.{Verdict}
 use Rattle.dnsv_verdict.specs.declared.verdict.Verdict.TheVariants.{SecureAlias, Pending, Bogus, Indeterminate}
-use Rattle.dnsv_texts.specs.declared.format.Format.{Format}
+use Rattle.dnsv_questions.specs.declared.format.Format.{Format}
 use Rattle.dnsv_holding.proofs.lemmas.marks.HopedLemmas.{DependsOnAsked}
 use Rattle.dnsv_moments.proofs.lemmas.validity.WithinLemmas.{table_alike}
 use Rattle.dnsv_moments.specs.validity.Alike.{AreAnsweredAlike}

@@ -28,7 +28,7 @@ use Rattle.dnsv_holding.proofs.lemmas.one.DerivationLemmas.{one_derivation, one_
 use Rattle.dnsv_holding.specs.Derived.{AreLinksDerived, IsDerivationOf, alias_of}
 use Rattle.dnsv_moments.specs.validity.Said.IsSaid.{a_refusal, a_verdict}
 use Rattle.dnsv_moments.specs.validity.SameValid.{AreSignaturesSameValid, HaveTimes, at_moment}
-use Rattle.dnsv_texts.specs.declared.format.Format.{Format}
+use Rattle.dnsv_questions.specs.declared.format.Format.{Format}
 
 module _ (basis : Basis) (other : ℕ) (same : AreSignaturesSameValid basis.rrsets basis.moment other) (name : Labels) (t : ℕ) where
   verdict_said : (format : Format) (said : Said) → IsVerdictSaid format basis name t said → IsVerdictSaid format (at_moment basis other) name t said

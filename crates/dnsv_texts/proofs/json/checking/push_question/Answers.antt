@@ -1,6 +1,6 @@
 use Rattle.std.proofs.Common.{rules, ◌≡◌, ◌++◌, ◌∙◌, ℕ, List, ap, codes, string_bytes}
 use Rattle.std.specs.Fmt.{decimal}
-use Rattle.dnsv_texts.specs.Checking.{question_word}
+use Rattle.dnsv_questions.specs.Subcommand.{question_word}
 use Rattle.dnsv_lines.specs.Json.{name_json}
 use Rattle.dnsv_texts.proofs.ObjectLemmas.{question_begun}
 use Rattle.dnsv_texts.proofs.json.checking.push_question.Goals as goal

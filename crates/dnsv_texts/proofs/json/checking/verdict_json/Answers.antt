@@ -2,7 +2,7 @@ use Rattle.std.proofs.Common.{rules, ◌≡◌, [], ◌∷◌, ◌++◌, ◌∙�
 use Rattle.std.specs.Fmt.{decimal}
 use Rattle.std.specs.Option.{option_map}
 use Rattle.std.specs.Prelude.{is_none, is_some}
-use Rattle.dnsv_texts.specs.Checking.{question_word}
+use Rattle.dnsv_questions.specs.Subcommand.{question_word}
 use Rattle.dnsv_texts.specs.Checking.{alias_json, reason_members, verdict_members, verdict_word}
 use Rattle.dnsv_lines.specs.Json.{AddsMembers, array, member, name_json, parted, quoted}
 use Rattle.dnsv_texts.specs.Why.{why_members}
