@@ -71,7 +71,7 @@ impl<'a> Hashes<'a> {
     }
 
     /// The name whose question asks for them.
-    pub(crate) fn name(&self) -> &Name
+    pub fn name(&self) -> &Name
         ensures { result.now ≡ self.now.name }
     {
         &self.name

@@ -44,6 +44,7 @@ use std::alloc::{AllocError, Global};
 use std::marker::Model;
 use std::rc::Rc;
 
+mod evidence;
 mod shown;
 
 /// The secured NSEC and NSEC3 records of a capture that can speak of a question's name: those of the zones at or above

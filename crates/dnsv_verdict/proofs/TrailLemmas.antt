@@ -24,17 +24,20 @@ settled_without_hope case Secured rrsets name t verdict hope is none = none
 
 -- ---- one name
 
-pub one_name : (case : CaseContents) (name : Labels) (t : ℕ) (verdict : Verdict) (question : HashedQuestion) (before between after : Trail)
-    → question ≡ hashed_in case.rrsets name → KeepsHope case name t verdict before between
+pub one_name : (case : CaseContents) (name : Labels) (t : ℕ) (verdict : Verdict) (lent question : HashedQuestion) (before between after : Trail)
+    → lent ≡ question → question ≡ hashed_in case.rrsets name → KeepsHope case lent.name t verdict before between
     → AddsHashes question between after → Trails case name t verdict before after
-one_name case name t verdict question before between after is kept adds = record {
-  keeps = adds.keeps ∙ kept.keeps;
-  hashes = λ keeps. adds.hashes (subst (λ keeps. IsTrue keeps) (sym kept.keeps) keeps)
-      ∙ ap (λ (earlier : List HashedQuestion). earlier ++ question ∷ []) kept.hashes
-      ∙ ap (λ (each : HashedQuestion). kept_hashes before ++ each ∷ []) is;
-  hope = λ keeps none. subst (λ (hope : Option Hope). HasHope case name t verdict hope) (sym adds.hope) (kept.hope keeps none);
-  unkept = λ not. adds.unkept (subst (λ keeps. IsFalse keeps) (sym kept.keeps) not) ∙ kept.unkept not;
-}
+one_name case name t verdict lent question before between after same is told adds =
+    let named : lent.name ≡ name = ap (λ (each : HashedQuestion). each.name) (same ∙ is) in
+    let kept : KeepsHope case name t verdict before between =
+    subst (λ (each : Labels). KeepsHope case each t verdict before between) named told in record {
+      keeps = adds.keeps ∙ kept.keeps;
+      hashes = λ keeps. adds.hashes (subst (λ keeps. IsTrue keeps) (sym kept.keeps) keeps)
+          ∙ ap (λ (earlier : List HashedQuestion). earlier ++ question ∷ []) kept.hashes
+          ∙ ap (λ (each : HashedQuestion). kept_hashes before ++ each ∷ []) is;
+      hope = λ keeps none. subst (λ (hope : Option Hope). HasHope case name t verdict hope) (sym adds.hope) (kept.hope keeps none);
+      unkept = λ not. adds.unkept (subst (λ keeps. IsFalse keeps) (sym kept.keeps) not) ∙ kept.unkept not;
+    }
 
 -- ---- names one after another
 

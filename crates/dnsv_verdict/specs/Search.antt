@@ -7,7 +7,6 @@ use Rattle.dnsv_canonical.specs.Rrsets.{IsNumbered, ReceivedRrset}
 use Rattle.dnsv_verdict.specs.Insecure.{IsOptOutWildcard}
 use Rattle.dnsv_verdict.specs.Secure.{IsSecuredAt}
 use Rattle.dnsv_verdict.specs.declared.search.Found.{Found}
-use Rattle.dnsv_verdict.specs.declared.settled.AtName.{AtName}
 
 -- the signature with the number is one of the numbers, and it and the RRset are such
 pub record IsFound (Such : ReceivedRrset → Rrsig → Type 0) (rrset : ReceivedRrset) (numbers : List ℕ) (s : ℕ)
@@ -39,7 +38,3 @@ abbrev pub IsOptOutSetOf : (ℕ → ℕ → Type 0) → List ReceivedRrset → L
 IsOptOutSetOf Secured rrsets name t =
     IsSecuredAt Secured rrsets name
     (λ rrset rrsig. (rrset.rtype ≡ t) × IsOptOutWildcard Secured rrsets name rrset rrsig)
-
--- the view is of the name, over the same evidence and trust
-abbrev pub IsAtName : AtName → Type 0
-IsAtName at = at.view.now ≡ record { rrsets = at.capture.now.rrsets; trust = at.trust.now; name = at.name.now }

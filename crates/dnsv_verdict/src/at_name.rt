@@ -60,7 +60,7 @@ pub fn verdict_at<'a>(
     ensures shared { IsSharedOf case.now shared.new }
 {
     let hashes = shared.hashes_for(alloc, case, name, hashed)?;
-    let verdict = verdict_by(alloc, case, shared, hashes.as_ref(), name, rtype, trail)?;
+    let verdict = verdict_by(alloc, case, shared, hashes.as_ref(), rtype, trail)?;
     trail.add(hashes)?;
     Ok(verdict)
 }
@@ -71,34 +71,32 @@ fn verdict_by<'a>(
     case: &Case<'a>,
     shared: &mut Shared<'a>,
     hashes: &Hashes<'a>,
-    name: &Name,
     rtype: RecordType,
     trail: &mut Trail<'a>,
 ) -> Result<Verdict<'a>, AllocError>
     requires shared { IsSharedOf case.now shared.now }
     requires rrsets { hashes.now.rrsets ≡ case.now.rrsets }
-    requires name { hashes.now.name ≡ name.now }
     ensures value { (meaning : Entry → Answer) (moment : ℕ)
         → IsTableOf meaning moment case.now.rrsets case.now.table
         → IfOk result (IsVerdictAt (basis_of case.now.rrsets case.now.anchors moment meaning)
-        name.now rtype.0) }
-    ensures kept { IfOk result (λ verdict. KeepsHope case.now name.now rtype.0 verdict trail.old trail.new) }
+        hashes.now.name rtype.0) }
+    ensures kept { IfOk result (λ verdict. KeepsHope case.now hashes.now.name rtype.0 verdict trail.old trail.new) }
     ensures shared { IsSharedOf case.now shared.new }
 {
     a_table_is_its_verifier();
     trust_depends_on_what_is_asked();
     // What is true of every case.
     let _trust = case.trust();
-    if let Some(verdict) = settled_on(alloc, case, hashes, name, rtype)? {
+    if let Some(verdict) = settled_on(alloc, case, hashes, rtype)? {
         return Ok(verdict);
     }
-    if let Some(hope) = hope_for(alloc, case, shared, hashes, name, rtype)? {
+    if let Some(hope) = hope_for(alloc, case, shared, hashes, rtype)? {
         // Where nothing is kept it goes before memory is asked for.
         trail.set_hope(hope);
         let unknown = case.table().unknown(alloc)?;
         return Ok(Verdict::Pending(unknown));
     }
-    if has_anchor(case.anchors(), name) {
+    if has_anchor(case.anchors(), hashes.name()) {
         return Ok(Verdict::Bogus);
     }
     Ok(Verdict::Indeterminate)
@@ -110,19 +108,17 @@ fn settled_on<'a>(
     alloc: Global,
     case: &Case<'a>,
     hashes: &Hashes<'a>,
-    name: &Name,
     rtype: RecordType,
 ) -> Result<Option<Verdict<'a>>, AllocError>
-    requires rrsets { hashes.now.rrsets ≡ case.now.rrsets }
-    requires name { hashes.now.name ≡ name.now }
+    requires { hashes.now.rrsets ≡ case.now.rrsets }
     ensures { IfOk result (λ found. MatchOption found
-        (¬ IsSettled (SecuredIn case.now.trust) case.now.rrsets name.now rtype.0)
-        (IsSettledAs (SecuredIn case.now.trust) case.now.rrsets name.now rtype.0)) }
+        (¬ IsSettled (SecuredIn case.now.trust) case.now.rrsets hashes.now.name rtype.0)
+        (IsSettledAs (SecuredIn case.now.trust) case.now.rrsets hashes.now.name rtype.0)) }
 {
     let capture = case.capture();
     let trust = case.trust();
     let view = View::through(alloc, capture, trust, case.denials(), hashes)?;
-    Ok(settled(capture, trust, name, rtype, &view))
+    Ok(settled(&view, rtype))
 }
 
 /// What the evidence, which doesn't settle the question, would settle if each of the entries that the verifier doesn't
@@ -132,21 +128,19 @@ fn hope_for<'a>(
     case: &Case<'a>,
     shared: &mut Shared<'a>,
     hashes: &Hashes<'a>,
-    name: &Name,
     rtype: RecordType,
 ) -> Result<Option<Hope<'a>>, AllocError>
     requires shared { IsSharedOf case.now shared.now }
     requires rrsets { hashes.now.rrsets ≡ case.now.rrsets }
-    requires name { hashes.now.name ≡ name.now }
     ensures may { (meaning : Entry → Answer) (moment : ℕ)
         → IsTableOf meaning moment case.now.rrsets case.now.table
-        → ¬ IsSettledBy (basis_of case.now.rrsets case.now.anchors moment meaning) name.now
+        → ¬ IsSettledBy (basis_of case.now.rrsets case.now.anchors moment meaning) hashes.now.name
         rtype.0
         → IfOk result (λ found. MatchOption found (¬ MayBeSettledBy (basis_of case.now.rrsets
-        case.now.anchors moment meaning) name.now rtype.0)
+        case.now.anchors moment meaning) hashes.now.name rtype.0)
         (λ hope. MayBeSettledBy (basis_of case.now.rrsets case.now.anchors moment meaning)
-        name.now rtype.0)) }
-    ensures hope { IfOk result (λ found. IfSome found (IsHope case.now name.now rtype.0)) }
+        hashes.now.name rtype.0)) }
+    ensures hope { IfOk result (λ found. IfSome found (IsHope case.now hashes.now.name rtype.0)) }
     ensures shared { IsSharedOf case.now shared.new }
 {
     a_table_is_its_verifier();
@@ -157,7 +151,7 @@ fn hope_for<'a>(
         return Ok(None);
     }
     let hoped = shared.hopeful_of(alloc, case)?;
-    let Some(verdict) = settled_on(alloc, hoped.as_ref(), hashes, name, rtype)? else {
+    let Some(verdict) = settled_on(alloc, hoped.as_ref(), hashes, rtype)? else {
         return Ok(None);
     };
     Ok(Some(Hope {

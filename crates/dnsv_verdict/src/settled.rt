@@ -3,53 +3,30 @@ ghost use Rattle.std.specs.Prelude.{◌≡◌, ◌≢◌, ℕ, MatchOption};
 ghost use Rattle.dnsv_zones.specs.zones.TypeNumbers.{cname};
 ghost use Rattle.dnsv_chain.specs.Trust.{SecuredIn};
 ghost use Rattle.dnsv_verdict.specs.Insecure.{IsOptOutWildcardCut, IsOptOutWildcardSet};
-ghost use Rattle.dnsv_verdict.specs.Search.{IsAtName, IsOptOutSetOf};
+ghost use Rattle.dnsv_verdict.specs.Search.{IsOptOutSetOf};
 ghost use Rattle.dnsv_verdict.specs.Secure.{IsFirstSuch, IsSecureSet};
 ghost use Rattle.dnsv_verdict.specs.Settled.{HasAlias, IsSettled, IsSettledAs};
 
 use crate::search::{Found, Test, earlier, first_such};
 use crate::verdict::Verdict;
-use dnsv_canonical::{Capture, Rrset, is_expanded};
-use dnsv_chain::Trust;
+use dnsv_canonical::{Rrset, is_expanded};
 use dnsv_denial::View;
 use dnsv_names::{Name, RecordType};
 use dnsv_records::Rrsig;
 
-/// A name, with the evidence, its trust, and what they show of the name.
-#[derive(Drop)]
-struct AtName<'e, 'v, 'c, 't> {
-    capture: &'e Capture<'e>,
-    trust: &'v Trust<'v>,
-    name: &'v Name,
-    view: &'v View<'c, 't>,
-}
-
 /// What the evidence settles: the first that holds of a secure answer, a secure alias, no such name, no data, and a
 /// name that may be unsigned. `None` where it settles nothing.
-pub fn settled<'a>(
-    capture: &'a Capture<'a>,
-    trust: &Trust<'_>,
-    name: &Name,
-    rtype: RecordType,
-    view: &View<'_, '_>,
-) -> Option<Verdict<'a>>
-    requires { view.now ≡ record { rrsets = capture.now.rrsets; trust = trust.now; name = name.now } }
-    ensures { MatchOption result (¬ IsSettled (SecuredIn trust.now) capture.now.rrsets name.now rtype.0)
-        (IsSettledAs (SecuredIn trust.now) capture.now.rrsets name.now rtype.0) }
+pub fn settled<'a>(view: &View<'a, '_>, rtype: RecordType) -> Option<Verdict<'a>>
+    ensures { MatchOption result (¬ IsSettled (SecuredIn view.now.trust) view.now.rrsets view.now.name rtype.0)
+        (IsSettledAs (SecuredIn view.now.trust) view.now.rrsets view.now.name rtype.0) }
 {
-    let at = AtName {
-        capture,
-        trust,
-        name,
-        view,
-    };
-    if let Some(answer) = secure_set(&at, rtype) {
+    if let Some(answer) = secure_set(view, rtype) {
         return Some(Verdict::SecureAnswer {
             rrset: answer.rrset,
             signature: answer.signature,
         });
     }
-    if let Some(alias) = secure_alias(&at, rtype) {
+    if let Some(alias) = secure_alias(view, rtype) {
         return Some(Verdict::SecureAlias {
             rrset: alias.rrset,
             signature: alias.signature,
@@ -64,37 +41,34 @@ pub fn settled<'a>(
     if let Some(cut) = view.unsigned_cut() {
         return Some(Verdict::Insecure(cut));
     }
-    if let Some(cut) = opt_out_wildcard_cut(&at, rtype) {
+    if let Some(cut) = opt_out_wildcard_cut(view, rtype) {
         return Some(Verdict::Insecure(cut));
     }
     None
 }
 
 /// The first RRset of the name and type that holds for the name, and the first signature by which it does.
-fn secure_set<'e>(at: &AtName<'e, '_, '_, '_>, rtype: RecordType) -> Option<Found<'e>>
-    requires { IsAtName at.now }
+fn secure_set<'e>(view: &View<'e, '_>, rtype: RecordType) -> Option<Found<'e>>
     ensures { MatchOption result
-        ((k s : ℕ) → ¬ IsSecureSet (SecuredIn at.now.trust.now) at.now.capture.now.rrsets at.now.name.now rtype.0 k s)
-        (λ found. (is : IsFirstSuch (IsSecureSet (SecuredIn at.now.trust.now) at.now.capture.now.rrsets at.now.name.now
+        ((k s : ℕ) → ¬ IsSecureSet (SecuredIn view.now.trust) view.now.rrsets view.now.name rtype.0 k s)
+        (λ found. (is : IsFirstSuch (IsSecureSet (SecuredIn view.now.trust) view.now.rrsets view.now.name
         rtype.0) found.rrset found.signature) × (is.such.rrsig ≡ found.rrsig.now)) }
 {
-    let view = at.view;
     let test = HoldsForName { view, rtype };
-    first_such(at.capture, at.trust, at.name, rtype, &test)
+    first_such(view.capture(), view.trust(), view.name(), rtype, &test)
 }
 
 /// The same for CNAME, where another type is asked.
-fn secure_alias<'e>(at: &AtName<'e, '_, '_, '_>, rtype: RecordType) -> Option<Found<'e>>
-    requires { IsAtName at.now }
+fn secure_alias<'e>(view: &View<'e, '_>, rtype: RecordType) -> Option<Found<'e>>
     ensures { MatchOption result
-        (¬ HasAlias (SecuredIn at.now.trust.now) at.now.capture.now.rrsets at.now.name.now rtype.0)
-        (λ found. (rtype.0 ≢ cname) × IsFirstSuch (IsSecureSet (SecuredIn at.now.trust.now) at.now.capture.now.rrsets
-        at.now.name.now cname) found.rrset found.signature) }
+        (¬ HasAlias (SecuredIn view.now.trust) view.now.rrsets view.now.name rtype.0)
+        (λ found. (rtype.0 ≢ cname) × IsFirstSuch (IsSecureSet (SecuredIn view.now.trust) view.now.rrsets
+        view.now.name cname) found.rrset found.signature) }
 {
     if rtype == RecordType::CNAME {
         return None;
     }
-    let Some(found) = secure_set(at, RecordType::CNAME) else {
+    let Some(found) = secure_set(view, RecordType::CNAME) else {
         return None;
     };
     Some(found)
@@ -102,55 +76,39 @@ fn secure_alias<'e>(at: &AtName<'e, '_, '_, '_>, rtype: RecordType) -> Option<Fo
 
 /// The next closer name for the first RRset and signature of the name, and of the type or CNAME, that an unsigned
 /// delegation may stand against (RFC 5155 8.8).
-fn opt_out_wildcard_cut(at: &AtName<'_, '_, '_, '_>, rtype: RecordType) -> Option<Name>
-    requires { IsAtName at.now }
+fn opt_out_wildcard_cut(view: &View<'_, '_>, rtype: RecordType) -> Option<Name>
     ensures { MatchOption result
-        ((k s : ℕ) → ¬ IsOptOutWildcardSet (SecuredIn at.now.trust.now) at.now.capture.now.rrsets at.now.name.now rtype.0 k s)
-        (IsOptOutWildcardCut (SecuredIn at.now.trust.now) at.now.capture.now.rrsets at.now.name.now rtype.0) }
+        ((k s : ℕ) → ¬ IsOptOutWildcardSet (SecuredIn view.now.trust) view.now.rrsets view.now.name rtype.0 k s)
+        (IsOptOutWildcardCut (SecuredIn view.now.trust) view.now.rrsets view.now.name rtype.0) }
 {
-    let Some(found) = opt_out_wildcard(at.capture, at.trust, at.name, rtype, at.view) else {
+    let Some(found) = opt_out_wildcard(view, rtype) else {
         return None;
     };
-    Some(at.name.suffix(found.rrsig.labels as usize + 1))
+    Some(view.name().suffix(found.rrsig.labels as usize + 1))
 }
 
 /// The first RRset of the name, and of the type or CNAME, and its first signature, that come from a wildcard and against
-/// which an unsigned delegation may stand (RFC 5155 8.8). The view is of the name, over the same evidence and trust.
-pub fn opt_out_wildcard<'a>(
-    capture: &'a Capture<'a>,
-    trust: &Trust<'_>,
-    name: &Name,
-    rtype: RecordType,
-    view: &View<'_, '_>,
-) -> Option<Found<'a>>
-    requires { view.now ≡ record { rrsets = capture.now.rrsets; trust = trust.now; name = name.now } }
+/// which an unsigned delegation may stand (RFC 5155 8.8).
+pub fn opt_out_wildcard<'a>(view: &View<'a, '_>, rtype: RecordType) -> Option<Found<'a>>
     ensures { MatchOption result
-        ((k s : ℕ) → ¬ IsOptOutWildcardSet (SecuredIn trust.now) capture.now.rrsets name.now rtype.0 k s)
-        (λ found. (is : IsFirstSuch (IsOptOutWildcardSet (SecuredIn trust.now) capture.now.rrsets name.now rtype.0)
+        ((k s : ℕ) → ¬ IsOptOutWildcardSet (SecuredIn view.now.trust) view.now.rrsets view.now.name rtype.0 k s)
+        (λ found. (is : IsFirstSuch (IsOptOutWildcardSet (SecuredIn view.now.trust) view.now.rrsets view.now.name rtype.0)
         found.rrset found.signature) × (is.such.rrsig ≡ found.rrsig.now)) }
 {
-    let at = AtName {
-        capture,
-        trust,
-        name,
-        view,
-    };
-    let of_type = opt_out_wildcard_set(&at, rtype);
-    let alias = opt_out_wildcard_set(&at, RecordType::CNAME);
+    let of_type = opt_out_wildcard_set(view, rtype);
+    let alias = opt_out_wildcard_set(view, RecordType::CNAME);
     earlier(of_type, alias)
 }
 
 /// The first such RRset and signature of the name and of just this type.
-fn opt_out_wildcard_set<'e>(at: &AtName<'e, '_, '_, '_>, rtype: RecordType) -> Option<Found<'e>>
-    requires { IsAtName at.now }
+fn opt_out_wildcard_set<'e>(view: &View<'e, '_>, rtype: RecordType) -> Option<Found<'e>>
     ensures { MatchOption result
-        ((k s : ℕ) → ¬ IsOptOutSetOf (SecuredIn at.now.trust.now) at.now.capture.now.rrsets at.now.name.now rtype.0 k s)
-        (λ found. (is : IsFirstSuch (IsOptOutSetOf (SecuredIn at.now.trust.now) at.now.capture.now.rrsets at.now.name.now
+        ((k s : ℕ) → ¬ IsOptOutSetOf (SecuredIn view.now.trust) view.now.rrsets view.now.name rtype.0 k s)
+        (λ found. (is : IsFirstSuch (IsOptOutSetOf (SecuredIn view.now.trust) view.now.rrsets view.now.name
         rtype.0) found.rrset found.signature) × (is.such.rrsig ≡ found.rrsig.now)) }
 {
-    let view = at.view;
     let test = IsOptOutWildcard { view, rtype };
-    first_such(at.capture, at.trust, at.name, rtype, &test)
+    first_such(view.capture(), view.trust(), view.name(), rtype, &test)
 }
 
 /// That an RRset of the type holds for the view's name by the signature: no wildcard is behind it, or there is a proof

@@ -184,30 +184,29 @@ module _ (its_case : CaseContents) (explained : Explained) (same : explained ≡
 
   -- what may be unsigned, and not by records of the zones above it, is so by an answer from a wildcard
   pub open_there : (t : ℕ) → ¬ HasUnsignedCut (SecuredIn view.trust) view.rrsets view.name → IsUnsigned (GoodIn Its) explained.rrsets name t
-      → ((k s : ℕ) → ¬ IsOptOutWildcardSet (SecuredIn its_case.trust) its_case.rrsets name t k s) → ⊥
+      → ((k s : ℕ) → ¬ IsOptOutWildcardSet (SecuredIn view.trust) view.rrsets view.name t k s) → ⊥
   open_there t none unsigned never =
-      let In : List ReceivedRrset → Type 0 = λ all. (k s : ℕ) → ¬ IsOptOutWildcardSet (SecuredIn its_case.trust) all name t k s in
+      let In : Viewed → Type 0 = λ each. (k s : ℕ) → ¬ IsOptOutWildcardSet (SecuredIn each.trust) each.rrsets each.name t k s in
       let kept_unsigned : IsUnsigned (SecuredIn its_case.trust) explained.rrsets name t =
       unsigned_to (GoodIn Its) (SecuredIn its_case.trust) kept explained.rrsets explained.rrsets stays name t unsigned in
       ⊎_elim (λ (cut : HasUnsignedCut (SecuredIn its_case.trust) explained.rrsets name). its_none none cut)
       (λ (found : (k : ℕ) × (s : ℕ) × IsOptOutWildcardSet (SecuredIn its_case.trust) explained.rrsets name t k s).
-      subst In (sym (ap (λ (each : Explained). each.rrsets) same)) never found.0 found.1 found.2) kept_unsigned
+      subst In viewed never found.0 found.1 found.2) kept_unsigned
 
-  module _ (t : ℕ) (k s : ℕ) (first : IsFirstSuch (IsOptOutWildcardSet (SecuredIn its_case.trust) its_case.rrsets name t) k s)
+  module _ (t : ℕ) (k s : ℕ) (first : IsFirstSuch (IsOptOutWildcardSet (SecuredIn view.trust) view.rrsets view.name t) k s)
       (rrsig : Rrsig) (is : first.such.rrsig ≡ rrsig) where
     -- the next closer name is covered with the Opt-Out flag
     pub covered_there : HasOptedOutNextCloser (SecuredIn view.trust) view.rrsets view.name rrsig.labels rrsig.signer
     covered_there =
-        let Of : Rrsig → Type 0 = λ each. HasOptedOutNextCloser (SecuredIn its_case.trust) its_case.rrsets name each.labels each.signer in
-        subst (λ (each : Viewed). HasOptedOutNextCloser (SecuredIn each.trust) each.rrsets each.name rrsig.labels rrsig.signer)
-        (sym is_view)
-        (subst Of is first.such.such.1.1)
+        let Of : Rrsig → Type 0 = λ each. HasOptedOutNextCloser (SecuredIn view.trust) view.rrsets view.name each.labels each.signer in
+        subst Of is first.such.such.1.1
 
-    abbrev ItsFirst : List ReceivedRrset → Type 0
-    ItsFirst all = (its : IsFirstSuch (IsOptOutWildcardSet (SecuredIn its_case.trust) all name t) k s) × (its.such.rrsig ≡ rrsig)
+    abbrev FirstIn : Viewed → Type 0
+    FirstIn each =
+        (its : IsFirstSuch (IsOptOutWildcardSet (SecuredIn each.trust) each.rrsets each.name t) k s) × (its.such.rrsig ≡ rrsig)
 
-    its_first : ItsFirst explained.rrsets
-    its_first = subst ItsFirst (sym (ap (λ (each : Explained). each.rrsets) same)) (first, is)
+    its_first : FirstIn (record { rrsets = explained.rrsets; trust = its_case.trust; name = name })
+    its_first = subst FirstIn viewed (first, is)
 
     pub its_secured : GoodIn Its k s
     its_secured = kept_good Its its_case.trust good k s its_first.0.such.secured

@@ -15,15 +15,15 @@ use Rattle.dnsv_chain.specs.Basis.{CaseContents, Basis, basis_of}
 use Rattle.dnsv_verdict.specs.Settled.{IsSettled, IsSettledAs}
 use Rattle.dnsv_verdict.proofs.at_name.hope_for.Goals as goal
 
-pub settled_on-requires-clause-rrsets : goal.settled_on-requires-clause-rrsets
-settled_on-requires-clause-rrsets c =
+pub settled_on-requires : goal.settled_on-requires
+settled_on-requires c =
     c.requires.rrsets ∙ sym (ap (λ (each : CaseContents). each.rrsets) c.as_ref.ensures ∙ c.in_ok-hoped.ensures.hopeful.rrsets)
 
 pub returns-then-knows_all-clause-may : goal.returns-then-knows_all-clause-may
 returns-then-knows_all-clause-may c = λ meaning moment table unsettled.
     let case = c.args.case.now in
     let judged : Basis = basis_of case.rrsets case.anchors moment meaning in
-    λ may. unsettled (nothing_to_hope c.trust_depends_on_what_is_asked.ensures.numbers judged c.args.name.now c.args.rtype.0
+    λ may. unsettled (nothing_to_hope c.trust_depends_on_what_is_asked.ensures.numbers judged c.args.hashes.now.name c.args.rtype.0
     (none_unknown judged case.table table (ap unknown_entries (sym c.table-table.ensures) ∙ c.knows_all.ensures.0 c.if-knows_all.true)) may)
 
 pub returns-in_err-verdict-clause-may : goal.returns-in_err-verdict-clause-may
@@ -40,9 +40,9 @@ returns-clause-may c = λ meaning moment table unsettled.
     let is = hoped_table hoped moment case.rrsets its_own.table (c.unknown_entries_may_turn_out_valid.ensures.hoped meaning moment case.rrsets case.table table) in
     settled_from_trust hoped moment case.rrsets case.anchors its.table its.trust is.of_moment
     (c.a_table_is_its_verifier.ensures.answer hoped moment case.rrsets its.table is)
-    c.trust_depends_on_what_is_asked.ensures.numbers (trust_alike case its its_own.rrsets its_own.anchors its_own.trust) c.args.name.now c.args.rtype.0
-    (settled_stands (SecuredIn its.trust) case.rrsets c.args.name.now c.args.rtype.0 c.in-Some.verdict
-    (subst (λ all. IsSettledAs (SecuredIn its.trust) all c.args.name.now c.args.rtype.0 c.in-Some.verdict) its_own.rrsets
+    c.trust_depends_on_what_is_asked.ensures.numbers (trust_alike case its its_own.rrsets its_own.anchors its_own.trust) c.args.hashes.now.name c.args.rtype.0
+    (settled_stands (SecuredIn its.trust) case.rrsets c.args.hashes.now.name c.args.rtype.0 c.in-Some.verdict
+    (subst (λ all. IsSettledAs (SecuredIn its.trust) all c.args.hashes.now.name c.args.rtype.0 c.in-Some.verdict) its_own.rrsets
     (MatchOption-at_some _ _ c.in-Some.verdict c.in-Some.is (rw c.as_ref.ensures at c.in_ok-verdict.ensures))))
 
 pub returns-clause-hope : goal.returns-clause-hope
@@ -55,7 +55,7 @@ returns-clause-hope c =
       table = its_own.table;
       trust = its_own.trust;
       verdict = settled_as_by_trust (table_answer its.table) its.table.moment its.rrsets its.anchors its.table its.trust refl
-          (λ entry asked. refl) c.trust_depends_on_what_is_asked.ensures.numbers its_own.trust c.args.name.now c.args.rtype.0 c.in-Some.verdict
+          (λ entry asked. refl) c.trust_depends_on_what_is_asked.ensures.numbers its_own.trust c.args.hashes.now.name c.args.rtype.0 c.in-Some.verdict
           (MatchOption-at_some _ _ c.in-Some.verdict c.in-Some.is (rw c.as_ref.ensures at c.in_ok-verdict.ensures));
     }
 
@@ -66,8 +66,8 @@ returns-in_default-clause-may c = λ meaning moment table unsettled.
     let its_own = c.in_ok-hoped.ensures.hopeful in
     let hoped : Entry → Answer = λ entry. hoped_answer (meaning entry) in
     let is = hoped_table hoped moment case.rrsets its_own.table (c.unknown_entries_may_turn_out_valid.ensures.hoped meaning moment case.rrsets case.table table) in
-    λ may. subst (λ all. ¬ IsSettled (SecuredIn its.trust) all c.args.name.now c.args.rtype.0) its_own.rrsets
+    λ may. subst (λ all. ¬ IsSettled (SecuredIn its.trust) all c.args.hashes.now.name c.args.rtype.0) its_own.rrsets
     (MatchOption-at_none _ _ c.in_default.is (rw c.as_ref.ensures at c.in_ok-verdict.ensures))
     (settled_by_trust hoped moment case.rrsets case.anchors its.table its.trust is.of_moment
     (c.a_table_is_its_verifier.ensures.answer hoped moment case.rrsets its.table is)
-    c.trust_depends_on_what_is_asked.ensures.numbers (trust_alike case its its_own.rrsets its_own.anchors its_own.trust) c.args.name.now c.args.rtype.0 may)
+    c.trust_depends_on_what_is_asked.ensures.numbers (trust_alike case its its_own.rrsets its_own.anchors its_own.trust) c.args.hashes.now.name c.args.rtype.0 may)

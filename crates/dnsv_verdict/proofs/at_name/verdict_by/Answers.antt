@@ -13,10 +13,10 @@ pub returns-in-Some-clause-value : goal.returns-in-Some-clause-value
 returns-in-Some-clause-value c = λ meaning moment table.
     let case = c.args.case.now in
     settled_is_verdict (basis_of case.rrsets case.anchors moment meaning)
-    c.args.name.now c.args.rtype.0 c.in-Some.verdict
+    c.args.hashes.now.name c.args.rtype.0 c.in-Some.verdict
     (settled_as_by_trust meaning moment case.rrsets case.anchors case.table case.trust table.of_moment
     (c.a_table_is_its_verifier.ensures.answer meaning moment case.rrsets case.table table)
-    c.trust_depends_on_what_is_asked.ensures.numbers c.trust-trust.ensures.of c.args.name.now c.args.rtype.0 c.in-Some.verdict
+    c.trust_depends_on_what_is_asked.ensures.numbers c.trust-trust.ensures.of c.args.hashes.now.name c.args.rtype.0 c.in-Some.verdict
     (MatchOption-at_some _ _ c.in-Some.verdict c.in-Some.is c.in_ok-verdict.ensures))
 
 pub returns-in-Some-clause-kept : goal.returns-in-Some-clause-kept
@@ -25,7 +25,7 @@ returns-in-Some-clause-kept c =
     record {
       keeps = refl;
       hashes = refl;
-      hope = λ keeps none. settled_without_hope case (SecuredIn case.trust) case.rrsets c.args.name.now c.args.rtype.0 c.in-Some.verdict _
+      hope = λ keeps none. settled_without_hope case (SecuredIn case.trust) case.rrsets c.args.hashes.now.name c.args.rtype.0 c.in-Some.verdict _
           (MatchOption-at_some _ _ c.in-Some.verdict c.in-Some.is c.in_ok-verdict.ensures) none;
       unkept = λ not. refl;
     }
@@ -35,7 +35,7 @@ returns-in-Some-2-clause-value c = λ meaning moment table.
     let case = c.args.case.now in
     let judged : Basis = basis_of case.rrsets case.anchors moment meaning in
     let never = unsettled_on case meaning moment table (c.a_table_is_its_verifier.ensures.answer meaning moment case.rrsets case.table table)
-    c.trust_depends_on_what_is_asked.ensures.numbers c.trust-trust.ensures.of c.args.name.now c.args.rtype.0 (MatchOption-at_none _ _ c.in_default.is c.in_ok-verdict.ensures) in (
+    c.trust_depends_on_what_is_asked.ensures.numbers c.trust-trust.ensures.of c.args.hashes.now.name c.args.rtype.0 (MatchOption-at_none _ _ c.in_default.is c.in_ok-verdict.ensures) in (
       never,
       MatchOption-at_some _ _ c.in-Some-2.hope c.in-Some-2.is (c.in_ok-hope.ensures.may meaning moment table never),
       table_unknown judged case.table table c.in_ok-unknown.unknown
@@ -46,18 +46,19 @@ pub returns-then-has_anchor-clause-value : goal.returns-then-has_anchor-clause-v
 returns-then-has_anchor-clause-value c = λ meaning moment table.
     let case = c.args.case.now in
     let never = unsettled_on case meaning moment table (c.a_table_is_its_verifier.ensures.answer meaning moment case.rrsets case.table table)
-    c.trust_depends_on_what_is_asked.ensures.numbers c.trust-trust.ensures.of c.args.name.now c.args.rtype.0 (MatchOption-at_none _ _ c.in_default.is c.in_ok-verdict.ensures) in (
+    c.trust_depends_on_what_is_asked.ensures.numbers c.trust-trust.ensures.of c.args.hashes.now.name c.args.rtype.0 (MatchOption-at_none _ _ c.in_default.is c.in_ok-verdict.ensures) in (
       never,
       MatchOption-at_none _ _ c.in_default-2.is (c.in_ok-hope.ensures.may meaning moment table never),
-      subst (λ anchors. HasAnchor anchors c.args.name.now) c.anchors.ensures (c.has_anchor.ensures.0 c.if-has_anchor.true),
+      subst (λ name. HasAnchor case.anchors name) c.name.ensures
+          (subst (λ anchors. HasAnchor anchors c.name.result.now) c.anchors.ensures (c.has_anchor.ensures.0 c.if-has_anchor.true)),
     )
 
 pub returns-clause-value : goal.returns-clause-value
 returns-clause-value c = λ meaning moment table.
     let case = c.args.case.now in
     let never = unsettled_on case meaning moment table (c.a_table_is_its_verifier.ensures.answer meaning moment case.rrsets case.table table)
-    c.trust_depends_on_what_is_asked.ensures.numbers c.trust-trust.ensures.of c.args.name.now c.args.rtype.0 (MatchOption-at_none _ _ c.in_default.is c.in_ok-verdict.ensures) in (
+    c.trust_depends_on_what_is_asked.ensures.numbers c.trust-trust.ensures.of c.args.hashes.now.name c.args.rtype.0 (MatchOption-at_none _ _ c.in_default.is c.in_ok-verdict.ensures) in (
       never,
       MatchOption-at_none _ _ c.in_default-2.is (c.in_ok-hope.ensures.may meaning moment table never),
-      λ has. (let holds = c.has_anchor.ensures.1 (subst (λ anchors. HasAnchor anchors c.args.name.now) (sym c.anchors.ensures) has) in let fails = c.if-has_anchor.false in cc),
+      λ has. (let holds = c.has_anchor.ensures.1 (subst (λ anchors. HasAnchor anchors c.name.result.now) (sym c.anchors.ensures) (subst (λ name. HasAnchor case.anchors name) (sym c.name.ensures) has)) in let fails = c.if-has_anchor.false in cc),
     )

@@ -5,5 +5,5 @@ use Rattle.dnsv_verdict.proofs.settled.opt_out_wildcard.Goals as goal
 
 pub returns : goal.returns
 returns c =
-    of_both (SecuredIn c.args.trust.now) c.args.capture.now.rrsets c.args.name.now c.args.rtype.0 c.opt_out_wildcard_set-of_type.result c.opt_out_wildcard_set-alias.result
+    of_both (SecuredIn c.args.view.now.trust) c.args.view.now.rrsets c.args.view.now.name c.args.rtype.0 c.opt_out_wildcard_set-of_type.result c.opt_out_wildcard_set-alias.result
     c.earlier.result c.opt_out_wildcard_set-of_type.ensures c.opt_out_wildcard_set-alias.ensures c.earlier.ensures

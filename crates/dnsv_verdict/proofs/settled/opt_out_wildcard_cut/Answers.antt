@@ -1,5 +1,5 @@
 use Rattle.std.proofs.Common.{◌+◌, ap, sym, ◌∙◌}
-use Rattle.dnsv_names.specs.Name.{rightmost}
+use Rattle.dnsv_names.specs.Name.{Labels, rightmost}
 use Rattle.dnsv_verdict.proofs.settled.opt_out_wildcard_cut.Goals as goal
 
 pub returns : goal.returns
@@ -9,5 +9,7 @@ returns c =
       k = found.rrset;
       s = found.signature;
       earliest = at.0;
-      next_closer = c.suffix.ensures.labels ∙ ap (λ rrsig. rightmost c.args.at.now.name.now (rrsig.labels + 1)) (sym at.1);
+      next_closer = c.suffix.ensures.labels
+          ∙ ap (λ (name : Labels). rightmost name (found.rrsig.now.labels + 1)) c.name.ensures
+          ∙ ap (λ rrsig. rightmost c.args.view.now.name (rrsig.labels + 1)) (sym at.1);
     }
