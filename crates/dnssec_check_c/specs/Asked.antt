@@ -2,7 +2,7 @@
 use Rattle.std.specs.Prelude.{◌≡◌, ◌≤◌, ◌<◌, ◌^◌, ◌==◌, ◌&&◌, ⊤, Bool, true, false, ℕ, List, IsUtf8, string_bytes, Option, Some, None}
 use Rattle.dnsv_questions.specs.declared.format.Format.{Format}
 use Rattle.dnsv_questions.specs.declared.format.Format.TheVariants as format
-use Rattle.dnsv_files.specs.Moment.{IsMoment}
+use Rattle.dnsv_questions.specs.Moment.{IsMoment}
 use Rattle.dnsv_files.specs.Files.{Files}
 use Rattle.dnsv_commands.specs.declared.request.Asking.{Asking}
 use Rattle.dnsv_commands.specs.declared.request.Asking.TheVariants as asking

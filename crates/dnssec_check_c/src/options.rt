@@ -6,10 +6,9 @@ ghost use Rattle.dnsv_commands.specs.declared.request.Known.{Known};
 ghost use Rattle.dnsv_commands.specs.declared.request.Listing.{Listing};
 ghost use Rattle.dnssec_check_c.specs.Asked.{IsDetail, IsForm, IsFormat, IsKnown, IsListing, IsManner, IsSpan};
 
-use dnsv_files::Moment;
 use dnsv_names::RecordType;
 use dnsv_program::{Form, Known, Listing};
-use dnsv_questions::Format;
+use dnsv_questions::{Format, Moment};
 use std::alloc::Global;
 
 /// At which moment and by what a capture is judged, and how that is written.

@@ -14,7 +14,7 @@ use Rattle.std.specs.declared.io.ErrorKind.{ErrorKind as IoErrorKind}
 use Rattle.std.specs.declared.io.ErrorKind.TheVariants as io
 use Rattle.dnsv_questions.specs.Subcommand.{question_word}
 use Rattle.dnsv_commands.specs.Commands.{program_app}
-use Rattle.dnsv_files.specs.Moment.{last_moment}
+use Rattle.dnsv_questions.specs.Moment.{last_moment}
 use Rattle.dnsv_commands.specs.declared.command_line.list.When.{When}
 use Rattle.dnsv_commands.specs.declared.command_line.list.When.TheVariants as when
 use Rattle.dnsv_commands.specs.declared.request.Asking.{Asking}

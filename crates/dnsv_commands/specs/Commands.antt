@@ -4,7 +4,7 @@ use Rattle.clap.specs.Words.{App, Rule, new_app, new_rule, with_rule, with_subco
 use Rattle.clap.specs.declared.builder.action.ArgAction.TheVariants.{SetTrue}
 use Rattle.clap.specs.declared.builder.value_parser.ValueParser.TheVariants as parser
 use Rattle.dnsv_questions.specs.Subcommand.{question_word}
-use Rattle.dnsv_files.specs.Moment.{last_moment}
+use Rattle.dnsv_questions.specs.Moment.{last_moment}
 
 -- `--capture FILE`, which has to be there
 abbrev pub capture_rule : Rule

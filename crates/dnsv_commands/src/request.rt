@@ -3,9 +3,8 @@ ghost use Rattle.std.specs.Prelude.{◌≡◌};
 ghost use Rattle.std.specs.Option.{option_map};
 ghost use Rattle.dnsv_commands.specs.Paths.{anchors_of, answers_of, capture_of, keys_of, macs_of, questions_of, statements_of};
 
-use dnsv_files::Moment;
 use dnsv_names::RecordType;
-use dnsv_questions::Format;
+use dnsv_questions::{Format, Moment};
 
 /// What is asked about the evidence.
 #[derive(Debug, Drop)]

@@ -1,5 +1,5 @@
+pub mod Bounds
 pub mod Files
-pub mod Moment
 pub mod Opening
 pub mod Status
 pub mod Told

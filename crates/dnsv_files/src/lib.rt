@@ -8,7 +8,6 @@ pub use files::capture::{FramedEvidence, evidence_in, framed_evidence_in, frames
 pub use files::text::{FromText, text_in};
 pub use inputs::Inputs;
 pub use laws::one_list_of_macs_or_fault;
-pub use moment::Moment;
 pub use opening::{Opening, RequestMacs, opening_in};
 pub use status::{Fault, InputFile, Place, Refusal, Status};
 
@@ -16,6 +15,5 @@ mod fault_line;
 mod files;
 mod inputs;
 mod laws;
-mod moment;
 mod opening;
 mod status;

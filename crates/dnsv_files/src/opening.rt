@@ -11,10 +11,10 @@ pub mod keys;
 pub mod macs;
 
 use crate::files::text::given_text_in;
-use crate::moment::Moment;
 use crate::opening::macs::RequestMac;
 use crate::status::{Fault, InputFile};
 use dnsv_message::Counted;
+use dnsv_questions::Moment;
 use dnsv_tsig::KeyRing;
 use std::alloc::Global;
 use std::io::Read;

@@ -6,8 +6,8 @@ use Rattle.dnsv_records.specs.Rrsig.{IsRrsig}
 use Rattle.dnsv_records.specs.declared.rrsig.Rrsig.{Rrsig}
 use Rattle.dnsv_canonical.specs.Rrsets.{IsNumbered, ReceivedRrset}
 use Rattle.dnsv_canonical.specs.declared.number.SignatureNumber.{SignatureNumber}
-use Rattle.dnsv_timeline.specs.Dates.{times_of}
-use Rattle.dnsv_timeline.specs.declared.borders.DatedSignature.{DatedSignature}
+use Rattle.dnsv_moments.specs.Dates.{times_of}
+use Rattle.dnsv_moments.specs.declared.dated.DatedSignature.{DatedSignature}
 use Rattle.dnsv_derivations.proofs.lemmas.intervals.ShownLemmas.{no_times, some_times}
 use Rattle.dnsv_derivations.proofs.lemmas.one.TrustedLemmas.{one_signature_at}
 use Rattle.dnsv_holding.proofs.lemmas.keys.OneListLemmas.{IsOneList, one_of_each}

@@ -1,3 +1,4 @@
+pub mod DateLemmas
 pub mod DatedLemmas
 pub mod NumberLemmas
 pub mod QuestionLemmas

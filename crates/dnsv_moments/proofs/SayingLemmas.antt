@@ -13,7 +13,7 @@ use Rattle.dnsv_verifier.specs.Within.{IsTableWithin}
 use Rattle.dnsv_verifier.specs.declared.answer.Answer.{Answer}
 use Rattle.dnsv_verifier.specs.declared.entry.Entry.{Entry}
 use Rattle.dnsv_questions.specs.declared.format.Format.{Format}
-use Rattle.dnsv_timeline.specs.Dates.{AreTimesOf}
+use Rattle.dnsv_moments.specs.Dates.{AreTimesOf}
 use Rattle.dnsv_timeline.specs.Timeline.{DependsOnWithin, IsTimelineBy}
 use Rattle.dnsv_timeline.specs.declared.stretch.Stretch.{Stretch}
 use Rattle.dnsv_timeline.specs.declared.times.Times.{Times}

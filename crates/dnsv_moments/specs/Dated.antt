@@ -4,8 +4,8 @@ use Rattle.dnsv_records.specs.Rrsig.{IsRrsig}
 use Rattle.dnsv_records.specs.declared.rrsig.Rrsig.{Rrsig}
 use Rattle.dnsv_canonical.specs.Rrsets.{IsNumbered, ReceivedRrset}
 use Rattle.dnsv_canonical.specs.declared.number.SignatureNumber.{SignatureNumber}
-use Rattle.dnsv_timeline.specs.Dates.{times_of}
-use Rattle.dnsv_timeline.specs.declared.borders.DatedSignature.{DatedSignature}
+use Rattle.dnsv_moments.specs.Dates.{times_of}
+use Rattle.dnsv_moments.specs.declared.dated.DatedSignature.{DatedSignature}
 use Rattle.dnsv_holding.specs.Listing.{AreOfEach}
 
 -- the signature with the number has these times

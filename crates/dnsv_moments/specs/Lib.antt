@@ -1,4 +1,5 @@
 pub mod Dated
+pub mod Dates
 pub mod Kinds
 pub mod Moments
 pub mod Question

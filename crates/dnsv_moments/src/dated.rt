@@ -1,11 +1,18 @@
 //! The times of signatures by their numbers.
 ghost use Rattle.std.specs.Prelude.{IfOk, MatchOption, OnOk};
 ghost use Rattle.dnsv_moments.specs.Dated.{AddsDated, AreDated, IsDated};
-ghost use Rattle.dnsv_timeline.specs.declared.borders.DatedSignature.{DatedSignature};
+ghost use Rattle.dnsv_moments.specs.declared.dated.DatedSignature.{DatedSignature};
 
 use dnsv_canonical::{Capture, Rrset, SignatureNumber, numbered};
-use dnsv_timeline::{DatedSignature, Times};
+use dnsv_timeline::Times;
 use std::alloc::{AllocError, Global};
+
+/// A signature of the evidence, with its times.
+#[derive(Clone, Copy, Debug)]
+pub struct DatedSignature {
+    pub number: SignatureNumber,
+    pub times: Times,
+}
 
 /// The signatures of the evidence with the numbers, in their order, with their times. A number that no signature has is
 /// passed over.

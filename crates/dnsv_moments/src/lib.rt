@@ -5,7 +5,7 @@
 //! begins to be valid or is valid no more, and nowhere else.
 #![tactic(auto)]
 
-pub use dated::dated_signatures;
+pub use dated::{DatedSignature, dated_signatures};
 pub use kind::kind_word;
 pub use laws::{a_question_has_one_timeline, what_is_refused_throughout};
 pub use moments::Moments;
@@ -22,6 +22,7 @@ pub use validity::laws::{
 };
 
 mod dated;
+mod dates;
 mod judging;
 mod kind;
 mod laws;

@@ -7,6 +7,7 @@ ghost use Rattle.dnsv_verdict.specs.declared.error.VerdictError.{VerdictError};
 ghost use Rattle.dnsv_verifier.specs.declared.answer.Answer.{Answer};
 ghost use Rattle.dnsv_verifier.specs.declared.entry.Entry.{Entry};
 
+use crate::dates::times_of_all;
 use crate::moments::Moments;
 use crate::said::Said;
 use crate::sayer::Sayer;
@@ -14,7 +15,7 @@ use crate::throughout::refused_throughout;
 use dnsv_canonical::is_question;
 use dnsv_names::{Name, RecordType};
 use dnsv_questions::Format;
-use dnsv_timeline::{Stretch, timeline_of, times_of_all};
+use dnsv_timeline::{Stretch, timeline_of};
 use dnsv_verdict::{VerdictError, a_question_leads_one_way};
 use std::alloc::{AllocError, Global};
 

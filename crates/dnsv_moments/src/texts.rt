@@ -1,5 +1,6 @@
 //! The text of a question's timeline: its intervals, and between them the signatures that end and begin.
 
+pub mod borders;
 pub mod json;
 pub mod laws;
 pub mod lines;

@@ -1,3 +1,4 @@
+pub mod Moment
 pub mod QuestionFile
 pub mod QuestionsError
 pub mod Subcommand

@@ -1,6 +1,5 @@
 pub mod CircleLemmas
 pub mod CoarserLemmas
-pub mod DateLemmas
 pub mod ExampleLemmas
 pub mod JoinLemmas
 pub mod LawLemmas

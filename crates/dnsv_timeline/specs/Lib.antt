@@ -1,5 +1,3 @@
-pub mod Borders
-pub mod Dates
 pub mod Examples
 pub mod Joined
 pub mod Points

@@ -4,8 +4,6 @@
 //! of the range and at each moment at which a signature begins to be valid or is valid no more.
 #![tactic(auto)]
 
-pub use borders::{Border, DatedSignature, Edge, borders_between};
-pub use dates::times_of_all;
 pub use judge::Judge;
 pub use laws::{
     kinds_begin_where_stretches_do, nothing_changes_between_points, points_of_worked_examples,
@@ -18,8 +16,6 @@ pub use timeline::timeline_of;
 pub use times::Times;
 pub use within::is_valid_within;
 
-mod borders;
-mod dates;
 mod judge;
 mod laws;
 mod points;

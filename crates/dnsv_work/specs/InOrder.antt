@@ -14,7 +14,7 @@ use Rattle.dnsv_files.specs.Files.Capture.{Holds, NewEvidence}
 use Rattle.dnsv_files.specs.Files.{Files, octets_or_none}
 use Rattle.dnsv_work.specs.Known.{IsKnownBy, IsSaidBy}
 use Rattle.dnsv_work.specs.Opening.{IsOpeningAt}
-use Rattle.dnsv_files.specs.Moment.{begin_of}
+use Rattle.dnsv_files.specs.Bounds.{begin_of}
 use Rattle.dnsv_work.specs.declared.given.Said.{Said}
 
 -- The files are in order: the capture holds messages, in frames that the keys open at the moment where keys are given,

@@ -11,7 +11,7 @@ use Rattle.dnsv_verifier.specs.Within.{IsTableWithin}
 use Rattle.dnsv_answers.specs.declared.heading.Moments.{Moments}
 use Rattle.dnsv_commands.specs.declared.request.Form.{Form}
 use Rattle.dnsv_commands.specs.declared.request.Form.TheVariants.{Compact, Whole}
-use Rattle.dnsv_files.specs.Moment.{begin_of, end_of}
+use Rattle.dnsv_files.specs.Bounds.{begin_of, end_of}
 use Rattle.dnsv_files.specs.declared.opening.Opening.TheVariants.{Plain}
 use Rattle.dnsv_files.specs.Files.Capture.{Holds, NewEvidence}
 use Rattle.dnsv_files.specs.Files.{Files, octets_or_none}

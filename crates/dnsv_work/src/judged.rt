@@ -9,9 +9,9 @@ ghost use Rattle.dnsv_files.specs.Status.{fault_number};
 ghost use Rattle.dnsv_work.specs.Judged as specs;
 ghost use Rattle.dnsv_work.specs.Judged.{IsRefusedOne};
 
-use dnsv_files::{Fault, Moment, Place, Refusal, Status};
+use dnsv_files::{Fault, Place, Refusal, Status};
 use dnsv_names::{Name, RecordType};
-use dnsv_questions::Format;
+use dnsv_questions::{Format, Moment};
 use dnsv_texts::{Heading, refused_text};
 use dnsv_verdict::{Verdict, VerdictError};
 use std::alloc::{AllocError, Global};

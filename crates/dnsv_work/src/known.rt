@@ -4,7 +4,7 @@ ghost use Rattle.std.specs.Option.{option_map};
 ghost use Rattle.dnsv_answers.specs.AnswerFile.{answers_in};
 ghost use Rattle.dnsv_answers.specs.Answered.{IsAnsweredTableWithin};
 ghost use Rattle.dnsv_files.specs.Files.Answers.{AreTooManyOrFew};
-ghost use Rattle.dnsv_files.specs.Moment.{begin_of, end_of};
+ghost use Rattle.dnsv_files.specs.Bounds.{begin_of, end_of};
 ghost use Rattle.dnsv_files.specs.Told.{IsFaultOf};
 ghost use Rattle.dnsv_work.specs.Known.{numbers_said, open_numbers};
 ghost use Rattle.dnsv_work.specs.Span.{moments_of};

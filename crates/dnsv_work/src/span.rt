@@ -2,11 +2,12 @@
 ghost use Rattle.std.specs.Prelude.{◌≡◌, Err, IfErr, IfOk};
 ghost use Rattle.dnsv_work.specs.Faults.{IsFaultOfRange};
 ghost use Rattle.dnsv_timeline.specs.Range.{IsRange};
-ghost use Rattle.dnsv_files.specs.Moment.{begin_of, end_of};
+ghost use Rattle.dnsv_files.specs.Bounds.{begin_of, end_of};
 ghost use Rattle.dnsv_work.specs.Span as specs;
 
 use dnsv_answers::Moments;
-use dnsv_files::{Fault, Moment, Place, Refusal};
+use dnsv_files::{Fault, Place, Refusal};
+use dnsv_questions::Moment;
 use dnsv_timeline::Range;
 
 /// One moment, or those of a range.

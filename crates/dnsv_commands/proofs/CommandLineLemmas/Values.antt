@@ -18,7 +18,7 @@ use Rattle.dnsv_commands.proofs.CommandLineLemmas.Rows.{AreRowsIn, IsIn, IsRowIn
 use Rattle.clap.specs.declared.builder.ArgAction.TheVariants.{SetTrue}
 use Rattle.dnsv_commands.specs.Commands.{anchors_rule, capture_rule, list_app, moment_rule, name_rule, needed, program_app, question_app, show_app, timeline_app, type_rule}
 use Rattle.dnsv_commands.specs.CommandLine.{HasCapture, HasCheckValues, HasListValues, HasNumber, HasTimelineValues, HasValue, IsFlag, MayHaveNumber}
-use Rattle.dnsv_files.specs.Moment.{last_moment}
+use Rattle.dnsv_questions.specs.Moment.{last_moment}
 
 -- what building makes of the program and of its subcommands
 abbrev pub program_shape : Shape

@@ -34,7 +34,7 @@ use Rattle.dnsv_questions.specs.Subcommand.{question_word}
 use Rattle.dnsv_commands.specs.Commands.{program_app}
 use Rattle.dnsv_commands.specs.CommandLine.{Asks, AsksForAllOfRange, AsksForTwoLists, GoesByBoth, HasCapture, HasCheckValues, HasListValues, HasTimelineValues, IsAccepted, IsFlag, IsRefused, IsUnclear, IsUndated, error_of_kind, flag_said, command_line_error, is_asked, number_said}
 use Rattle.std.specs.Option.{SomeIff}
-use Rattle.dnsv_files.specs.Moment.{IsMoment}
+use Rattle.dnsv_questions.specs.Moment.{IsMoment}
 
 -- a text that passed the bounds of a number reads as the number that it says
 pub number_reads : (last : ℕ) (E : Type 0) (G : List ℕ → Result ℕ E → Type 0) (text : Text) (r : Option ℕ) → ReadsOne G text r

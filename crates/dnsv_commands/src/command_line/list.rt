@@ -9,7 +9,7 @@ use crate::command_line::CommandLineError;
 use crate::command_line::values::{flag, format_asked, given_moment, given_value, value};
 use crate::request::{Form, Listing, Request};
 use clap::ArgMatches;
-use dnsv_files::Moment;
+use dnsv_questions::Moment;
 use std::alloc::Global;
 
 /// The moments that a list is of.

@@ -2,7 +2,7 @@
 ghost use Rattle.std.specs.Prelude.{◌≡◌, ◌⊎◌, ◌≤◌, IfErr, IfOk, IfSome, Some, codes, is_some, option_and_then, string_bytes};
 ghost use Rattle.std.specs.Option.{option_map};
 ghost use Rattle.clap.specs.Words.{first_of, found_of, one_of, rows_of};
-ghost use Rattle.dnsv_files.specs.Moment.{last_moment};
+ghost use Rattle.dnsv_questions.specs.Moment.{last_moment};
 ghost use Rattle.dnsv_commands.specs.CommandLine.{GoesBy, GoesByBoth, HasNumber, HasValue, IsFlag, MayHaveNumber};
 ghost use Rattle.dnsv_commands.specs.CommandLine.{flag_said, format_said, number_said};
 ghost use Rattle.dnsv_commands.specs.declared.command_line.CommandLineError.TheVariants.{BothKnown, OutOfMemory};
@@ -10,9 +10,8 @@ ghost use Rattle.dnsv_commands.specs.declared.command_line.CommandLineError.TheV
 use crate::command_line::CommandLineError;
 use crate::request::Known;
 use clap::ArgMatches;
-use dnsv_files::Moment;
 use dnsv_names::RecordType;
-use dnsv_questions::Format;
+use dnsv_questions::{Format, Moment};
 use std::alloc::{AllocError, Global};
 
 /// By what the matches have it known which signatures are good.

@@ -6,7 +6,7 @@ ghost use Rattle.dnsv_commands.specs.Commands.{all_rule, answers_rule, capture_r
 ghost use Rattle.dnsv_commands.specs.Commands.{anchors_rule, name_rule, questions_rule, type_rule};
 
 use clap::{Arg, ArgAction, value_parser};
-use dnsv_files::Moment;
+use dnsv_questions::Moment;
 use std::alloc::Global;
 
 /// `--capture FILE`

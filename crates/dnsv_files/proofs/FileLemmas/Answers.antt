@@ -23,7 +23,7 @@ use Rattle.dnsv_files.specs.declared.status.Place.{Place}
 use Rattle.dnsv_files.specs.declared.status.Refusal.{Refusal}
 use Rattle.dnsv_files.specs.declared.status.Refusal.TheVariants as refusal
 use Rattle.dnsv_files.specs.Files.Answers.{AreAnswersRefused, AreFor, AreForOther, AreRefusedBeforeCount, AreRefusedFor, AreSaidFor, AreTooManyOrFew, HasAnswers, IsAtSomeLine, IsFaultBeforeCount, IsFaultOfAnswers, TellsAnswersError}
-use Rattle.dnsv_files.specs.Moment.{begin_of, end_of}
+use Rattle.dnsv_files.specs.Bounds.{begin_of, end_of}
 use Rattle.dnsv_files.specs.Files.Faults.{IsAbout, IsTextFault, OfFailedRead, OfOctets}
 use Rattle.dnsv_files.specs.Told.{IsAnswersFault, IsFaultOf as IsFaultFor, IsRefusalOf, TellsRefusals}
 use Rattle.dnsv_files.proofs.FileLemmas.Text.{every_told, no_text_fault, one_text_fault, told_by_one}

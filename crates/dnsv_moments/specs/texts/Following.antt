@@ -1,7 +1,7 @@
 -- How an interval goes on, or ends, and what is added to those so far. No public clause cites this module.
 use Rattle.std.specs.Prelude.{◌≡◌, ◌⊎◌, Bool, List, [], ◌∷◌, ◌++◌}
 use Rattle.dnsv_canonical.specs.Rrsets.{ReceivedRrset}
-use Rattle.dnsv_timeline.specs.declared.borders.Border.{Border}
+use Rattle.dnsv_moments.specs.declared.texts.borders.Border.{Border}
 use Rattle.dnsv_timeline.specs.declared.stretch.Stretch.{Stretch}
 use Rattle.dnsv_moments.specs.validity.Said.{Said}
 use Rattle.dnsv_moments.specs.texts.Pieces.{AreJoined, Piece, begun, longer}

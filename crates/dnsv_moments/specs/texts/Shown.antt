@@ -7,11 +7,11 @@ use Rattle.dnsv_canonical.specs.declared.number.SignatureNumber.{SignatureNumber
 use Rattle.dnsv_lines.specs.Rows.{shown_fields}
 use Rattle.dnsv_lines.specs.Sentence.{Number, SaidSentence, json_under, plain, plain_sentence, text_of_sentence, under}
 use Rattle.dnsv_lines.specs.declared.line.fault.signature.ShownSignature.{ShownSignature}
-use Rattle.dnsv_timeline.specs.Borders.{borders_of}
-use Rattle.dnsv_timeline.specs.declared.borders.Border.{Border}
-use Rattle.dnsv_timeline.specs.declared.borders.DatedSignature.{DatedSignature}
-use Rattle.dnsv_timeline.specs.declared.borders.Edge.{Edge}
-use Rattle.dnsv_timeline.specs.declared.borders.Edge.TheVariants.{Begins, Ends}
+use Rattle.dnsv_moments.specs.texts.Borders.{borders_of}
+use Rattle.dnsv_moments.specs.declared.texts.borders.Border.{Border}
+use Rattle.dnsv_moments.specs.declared.dated.DatedSignature.{DatedSignature}
+use Rattle.dnsv_moments.specs.declared.texts.borders.Edge.{Edge}
+use Rattle.dnsv_moments.specs.declared.texts.borders.Edge.TheVariants.{Begins, Ends}
 use Rattle.dnsv_holding.specs.Listing.{AreOfEach}
 use Rattle.dnsv_moments.specs.Dated.{AreDated}
 use Rattle.dnsv_moments.specs.declared.texts.shown.ShownBorder.{ShownBorder}

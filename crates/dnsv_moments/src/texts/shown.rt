@@ -8,10 +8,10 @@ ghost use Rattle.dnsv_moments.specs.texts.Shown as specs;
 ghost use Rattle.dnsv_moments.specs.declared.texts.shown.ShownBorder.{ShownBorder};
 
 use crate::dated::dated_signatures;
+use crate::texts::borders::{Border, Edge, borders_between};
 use dnsv_canonical::{Capture, Rrset, SignatureNumber, numbered};
 use dnsv_lines::{Field, KeyName, Sentence, ShownSignature, Value};
 use dnsv_records::Rrsig;
-use dnsv_timeline::{Border, Edge, borders_between};
 use std::alloc::{AllocError, Global};
 
 /// A signature that ends or begins at a border, with what the evidence says of it.

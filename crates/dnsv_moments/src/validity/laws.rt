@@ -4,7 +4,7 @@
 ghost use Rattle.std.specs.Prelude.{◌≡◌, ◌↔◌, ◌≤◌, ℕ, List};
 ghost use Rattle.dnsv_canonical.specs.Rrsets.{ReceivedRrset};
 ghost use Rattle.dnsv_names.specs.Name.{Labels};
-ghost use Rattle.dnsv_timeline.specs.Dates.{AreTimesOf};
+ghost use Rattle.dnsv_moments.specs.Dates.{AreTimesOf};
 ghost use Rattle.dnsv_timeline.specs.Timeline.{AreSameValid, DependsOn, IsTimelineBy};
 ghost use Rattle.dnsv_timeline.specs.declared.stretch.Stretch.{Stretch};
 ghost use Rattle.dnsv_timeline.specs.declared.times.Times.{Times};

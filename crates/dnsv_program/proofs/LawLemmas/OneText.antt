@@ -36,7 +36,7 @@ use Rattle.dnsv_work.specs.InOrder.{AreInOrder, basis_in}
 use Rattle.dnsv_program.specs.Work.Checking.{IsCheck, IsJudged, IsWhy}
 use Rattle.dnsv_work.specs.Judged.{verdict_status}
 use Rattle.dnsv_files.specs.Opening.Given.{IsOpeningOf}
-use Rattle.dnsv_files.specs.Moment.{begin_of, end_of}
+use Rattle.dnsv_files.specs.Bounds.{begin_of, end_of}
 use Rattle.dnsv_work.specs.Opening.{IsOpeningAt}
 use Rattle.dnsv_files.specs.Files.{Files, octets_or_none}
 use Rattle.dnsv_files.specs.Opening.Keys.{MayHaveKeys}

@@ -13,7 +13,8 @@ use bumpalo::Bump;
 use dnsv_answers::Answers;
 use dnsv_canonical::Capture;
 use dnsv_chain::Anchors;
-use dnsv_files::{Fault, Moment};
+use dnsv_files::Fault;
+use dnsv_questions::Moment;
 use dnsv_work::{Said, Span, table_of};
 use std::alloc::Global;
 

@@ -19,10 +19,10 @@ ghost use Rattle.dnsv_verifier.specs.declared.answer.Answer.{Answer};
 ghost use Rattle.dnsv_verifier.specs.declared.entry.Entry.{Entry};
 
 use bumpalo::Bump;
-use dnsv_files::{Fault, Inputs, Moment};
+use dnsv_files::{Fault, Inputs};
 use dnsv_moments::{Moments, Question, timeline_of_question, timeline_text};
 use dnsv_names::{Count, RecordType};
-use dnsv_questions::Format;
+use dnsv_questions::{Format, Moment};
 use dnsv_timeline::Range;
 use dnsv_work::{
     Given, Said, Span, given_in, question_name, range_between, table_of, verdict_fault,

@@ -13,7 +13,7 @@ use Rattle.dnsv_answers.proofs.AnswerLaws.{AreAnswersOf-only}
 use Rattle.dnsv_answers.proofs.AnsweredLaws.{answered_count_within, one_answered_within}
 use Rattle.dnsv_files.specs.declared.status.Fault.{Fault}
 use Rattle.dnsv_files.specs.Files.{octets_or_none}
-use Rattle.dnsv_files.specs.Moment.{begin_of, end_of}
+use Rattle.dnsv_files.specs.Bounds.{begin_of, end_of}
 use Rattle.dnsv_work.specs.Known.{AreMeant, IsFaultOfKnown, IsKnownBy}
 use Rattle.dnsv_files.proofs.FileLemmas.Answers.{no_answers_fault, one_answers_fault}
 use Rattle.dnsv_files.proofs.FileLemmas.Statements.{no_statements_fault, one_meaning, one_statements_fault}

@@ -14,7 +14,7 @@ use Rattle.dnsv_files.specs.Files.Anchors.{HasAnchors}
 use Rattle.dnsv_files.specs.declared.opening.Opening.{Opening}
 use Rattle.dnsv_files.specs.Files.Capture.{Holds, NewEvidence}
 use Rattle.dnsv_work.specs.Opening.{IsOpeningAt}
-use Rattle.dnsv_files.specs.Moment.{begin_of}
+use Rattle.dnsv_files.specs.Bounds.{begin_of}
 use Rattle.dnsv_answers.specs.declared.heading.Moments.{Moments}
 use Rattle.dnsv_work.specs.Faults.{IsFirstFaultOfFiles}
 use Rattle.dnsv_work.specs.InOrder.{AreGivenBy, AreReadFrom}

@@ -19,7 +19,7 @@ use Rattle.dnsv_files.specs.Told.{IsFaultOf}
 use Rattle.dnsv_work.specs.Known.{AreMeant, AreMiscountedIn, IsFaultBeforeKnown, IsKnown, IsSaidBy, numbers_said, open_numbers}
 use Rattle.dnsv_files.specs.declared.status.Fault.{Fault}
 use Rattle.dnsv_files.specs.declared.status.Fault.TheVariants as fault
-use Rattle.dnsv_files.specs.Moment.{begin_of, end_of}
+use Rattle.dnsv_files.specs.Bounds.{begin_of, end_of}
 use Rattle.dnsv_work.specs.declared.given.Said.{Said}
 use Rattle.dnsv_work.specs.declared.given.Said.TheVariants as said
 

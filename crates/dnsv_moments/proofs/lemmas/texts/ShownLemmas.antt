@@ -7,8 +7,8 @@ use Rattle.dnsv_records.specs.declared.rrsig.Rrsig.{Rrsig}
 use Rattle.dnsv_canonical.specs.Rrsets.{IsNumbered, ReceivedRrset}
 use Rattle.dnsv_canonical.specs.declared.number.SignatureNumber.{SignatureNumber}
 use Rattle.dnsv_lines.specs.declared.line.fault.signature.ShownSignature.{ShownSignature}
-use Rattle.dnsv_timeline.specs.Dates.{times_of}
-use Rattle.dnsv_timeline.specs.declared.borders.Border.{Border}
+use Rattle.dnsv_moments.specs.Dates.{times_of}
+use Rattle.dnsv_moments.specs.declared.texts.borders.Border.{Border}
 use Rattle.dnsv_derivations.proofs.lemmas.intervals.ShownLemmas.{rdata_at}
 use Rattle.dnsv_holding.specs.Listing.{AreOfEach}
 use Rattle.dnsv_moments.proofs.DatedLemmas.{none_dated}

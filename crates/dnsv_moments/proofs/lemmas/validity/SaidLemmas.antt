@@ -16,7 +16,7 @@ use Rattle.dnsv_verdict.specs.Way.{IsRefusedFor, IsStoppedAt, IsVerdictOf}
 use Rattle.dnsv_verdict.specs.declared.error.VerdictError.{VerdictError}
 use Rattle.dnsv_verdict.specs.declared.link.Link.{Link}
 use Rattle.dnsv_verdict.specs.declared.verdict.Verdict.{Verdict}
-use Rattle.dnsv_timeline.specs.Dates.{AreTimesOf, times_of}
+use Rattle.dnsv_moments.specs.Dates.{AreTimesOf, times_of}
 use Rattle.dnsv_timeline.proofs.OneTimeline.{one_by}
 use Rattle.dnsv_timeline.specs.Timeline.{AreSameValid, DependsOn, IsTimelineBy}
 use Rattle.dnsv_timeline.specs.declared.stretch.Stretch.{Stretch}

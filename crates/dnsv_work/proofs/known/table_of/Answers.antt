@@ -2,7 +2,7 @@ use Rattle.std.proofs.Common.{ℕ}
 use Rattle.dnsv_answers.specs.AnswerFile.{AreMiscounted}
 use Rattle.dnsv_answers.specs.Answered.{IsNumberAskedWithin}
 use Rattle.dnsv_files.proofs.FileLemmas.Answers.{refused_for}
-use Rattle.dnsv_files.specs.Moment.{begin_of, end_of}
+use Rattle.dnsv_files.specs.Bounds.{begin_of, end_of}
 use Rattle.dnsv_work.specs.Span.{moments_of}
 use Rattle.dnsv_work.proofs.known.table_of.Goals as goal
 

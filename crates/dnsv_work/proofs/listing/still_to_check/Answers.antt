@@ -1,5 +1,5 @@
 use Rattle.std.proofs.Common.{subst, sym}
-use Rattle.dnsv_files.specs.Moment.{begin_of, end_of}
+use Rattle.dnsv_files.specs.Bounds.{begin_of, end_of}
 use Rattle.dnsv_work.specs.Span.{moments_of}
 use Rattle.dnsv_work.proofs.WorkLemmas.Listing.{unknown_asked}
 use Rattle.dnsv_work.proofs.listing.still_to_check.Goals as goal

@@ -4,7 +4,7 @@ use Rattle.clap.specs.Words.{NarrowsTo, Rule, new_rule, rule_of}
 use Rattle.clap.specs.declared.builder.ValueParser.{ValueParser}
 use Rattle.clap.specs.declared.builder.ValueParser.TheVariants as parser
 use Rattle.dnsv_commands.proofs.CommandLineLemmas.Numbers.{narrowed_to, read_by}
-use Rattle.dnsv_files.specs.Moment.{last_moment}
+use Rattle.dnsv_questions.specs.Moment.{last_moment}
 use Rattle.dnsv_commands.proofs.commands.options.moment_option.Goals as goal
 
 abbrev named : List ℕ → Rule

@@ -1,7 +1,7 @@
 //! The moment at which signatures are judged.
 ghost use Rattle.std.specs.Prelude.{◌≡◌, ◌≤◌, ℕ};
 ghost use Rattle.std.specs.Option.{SomeIff};
-ghost use Rattle.dnsv_files.specs.Moment.{IsMoment};
+ghost use Rattle.dnsv_questions.specs.Moment.{IsMoment};
 
 use std::marker::Model;
 

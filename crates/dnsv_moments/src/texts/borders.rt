@@ -1,18 +1,11 @@
 //! Border lines: which signatures end or begin where one stretch is over and the next begins.
 ghost use Rattle.std.specs.Prelude.{◌≡◌, ◌++◌, ◌-◌, ◌<◌, IfOk, OnOk, map};
-ghost use Rattle.dnsv_timeline.specs.Borders.{begins_at, borders_of, ends_before, is_valid_at, not_valid_at};
+ghost use Rattle.dnsv_moments.specs.texts.Borders.{begins_at, borders_of, ends_before, is_valid_at, not_valid_at};
 
-use crate::times::Times;
-use dnsv_canonical::SignatureNumber;
+use crate::dated::DatedSignature;
 use dnsv_records::time_valid;
+use dnsv_timeline::Times;
 use std::alloc::{AllocError, Global};
-
-/// A signature of the evidence, with its times.
-#[derive(Clone, Copy, Debug)]
-pub struct DatedSignature {
-    pub number: SignatureNumber,
-    pub times: Times,
-}
 
 /// What a signature does at a border.
 #[derive(Clone, Copy, Debug, PartialEq, Eq)]

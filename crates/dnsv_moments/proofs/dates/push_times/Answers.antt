@@ -1,5 +1,5 @@
-use Rattle.dnsv_timeline.proofs.DateLemmas.{read_all, read_more, read_none}
-use Rattle.dnsv_timeline.proofs.dates.push_times.Goals as goal
+use Rattle.dnsv_moments.proofs.DateLemmas.{read_all, read_more, read_none}
+use Rattle.dnsv_moments.proofs.dates.push_times.Goals as goal
 
 pub loop-rrsig-init : goal.loop-rrsig-init
 loop-rrsig-init c = read_none c.signatures-rrsig-items.result.now _

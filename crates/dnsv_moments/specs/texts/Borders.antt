@@ -2,9 +2,9 @@
 use Rattle.std.specs.Prelude.{ℕ, ◌-◌, ◌^◌, Bool, nat_lt, not, ◌&&◌, List, ◌++◌, map}
 use Rattle.std.specs.List.{filter}
 use Rattle.dnsv_records.specs.Rrsig.Time.{seconds_on}
-use Rattle.dnsv_timeline.specs.declared.borders.Border.{Border}
-use Rattle.dnsv_timeline.specs.declared.borders.DatedSignature.{DatedSignature}
-use Rattle.dnsv_timeline.specs.declared.borders.Edge.TheVariants.{Begins, Ends}
+use Rattle.dnsv_moments.specs.declared.texts.borders.Border.{Border}
+use Rattle.dnsv_moments.specs.declared.dated.DatedSignature.{DatedSignature}
+use Rattle.dnsv_moments.specs.declared.texts.borders.Edge.TheVariants.{Begins, Ends}
 use Rattle.dnsv_timeline.specs.declared.times.Times.{Times}
 
 -- whether the moment is less than 2^31 seconds behind the inception, and the expiration as few behind it (RFC 4034 3.1.5)

@@ -1,6 +1,6 @@
 use Rattle.std.proofs.Common.{◌≡◌, ◌++◌, map, take}
-use Rattle.dnsv_timeline.specs.Borders.{ends_before, not_valid_at}
-use Rattle.dnsv_timeline.proofs.borders.push_ends.Given as goal
+use Rattle.dnsv_moments.specs.texts.Borders.{ends_before, not_valid_at}
+use Rattle.dnsv_moments.proofs.texts.borders.push_ends.Given as goal
 
 abbrev pub invariant-loop-signature : goal.invariant-loop-signature
 invariant-loop-signature l =

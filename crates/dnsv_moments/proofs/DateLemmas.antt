@@ -7,7 +7,7 @@ use Rattle.dnsv_records.proofs.OneRecord.{one_rrsig}
 use Rattle.dnsv_records.specs.Rrsig.{IsRrsig}
 use Rattle.dnsv_records.specs.declared.rrsig.Rrsig.{Rrsig}
 use Rattle.dnsv_canonical.specs.Rrsets.{ReceivedRrset}
-use Rattle.dnsv_timeline.specs.Dates.{AddsTimes, AreTimesOf, IsTimesOf, times_of}
+use Rattle.dnsv_moments.specs.Dates.{AddsTimes, AreTimesOf, IsTimesOf, times_of}
 use Rattle.dnsv_timeline.specs.declared.times.Times.{Times}
 
 none_in : {X : Type 0} (x : X) → Contains [] x → ⊥

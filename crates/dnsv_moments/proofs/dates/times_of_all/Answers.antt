@@ -1,8 +1,8 @@
 use Rattle.std.proofs.Common.{List, subst}
 use Rattle.dnsv_canonical.specs.Rrsets.{ReceivedRrset}
-use Rattle.dnsv_timeline.specs.Dates.{AreTimesOf}
-use Rattle.dnsv_timeline.proofs.DateLemmas.{dates_all, dates_more, dates_none}
-use Rattle.dnsv_timeline.proofs.dates.times_of_all.Goals as goal
+use Rattle.dnsv_moments.specs.Dates.{AreTimesOf}
+use Rattle.dnsv_moments.proofs.DateLemmas.{dates_all, dates_more, dates_none}
+use Rattle.dnsv_moments.proofs.dates.times_of_all.Goals as goal
 
 pub loop-rrset-init : goal.loop-rrset-init
 loop-rrset-init c = dates_none c.rrsets-rrset-items.result.now _ c.new-all.ensures.items

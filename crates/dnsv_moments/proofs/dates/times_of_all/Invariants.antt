@@ -1,6 +1,6 @@
 use Rattle.std.proofs.Common.{take}
-use Rattle.dnsv_timeline.specs.Dates.{AreTimesOf}
-use Rattle.dnsv_timeline.proofs.dates.times_of_all.Given as goal
+use Rattle.dnsv_moments.specs.Dates.{AreTimesOf}
+use Rattle.dnsv_moments.proofs.dates.times_of_all.Given as goal
 
 -- those of the RRsets so far
 abbrev pub invariant-loop-rrset : goal.invariant-loop-rrset

@@ -1,6 +1,6 @@
 use Rattle.std.proofs.Common.{take}
-use Rattle.dnsv_timeline.proofs.DateLemmas.{AddsRead}
-use Rattle.dnsv_timeline.proofs.dates.push_times.Given as goal
+use Rattle.dnsv_moments.proofs.DateLemmas.{AddsRead}
+use Rattle.dnsv_moments.proofs.dates.push_times.Given as goal
 
 -- those of the signatures so far
 abbrev pub invariant-loop-rrsig : goal.invariant-loop-rrsig

@@ -1,9 +1,9 @@
 //! The times of the signatures of a capture.
 ghost use Rattle.std.specs.Prelude.{IfOk, OnOk};
-ghost use Rattle.dnsv_timeline.specs.Dates.{AddsTimes, AreTimesOf};
+ghost use Rattle.dnsv_moments.specs.Dates.{AddsTimes, AreTimesOf};
 
-use crate::times::Times;
 use dnsv_canonical::{Capture, Rrset};
+use dnsv_timeline::Times;
 use std::alloc::{AllocError, Global};
 
 /// The times of each signature of the capture: what is said of it changes where these do.
