@@ -9,7 +9,7 @@ ghost use Rattle.dnsv_denial.specs.words.EvidenceWords.{Chain};
 ghost use Rattle.dnsv_derivations.specs.Explained.{Explained, Setting};
 ghost use Rattle.dnsv_holding.specs.Explained.{basis_in};
 ghost use Rattle.dnsv_verdict.specs.Report.{IsReport};
-ghost use Rattle.dnsv_verdict.specs.NoLess.{case_of};
+ghost use Rattle.dnsv_verdict.specs.Settled.NoLess.{case_of};
 ghost use Rattle.dnsv_chain.specs.Basis.{Basis, basis_of, with_meaning};
 ghost use Rattle.dnsv_verdict.specs.Verdict.{IsSettledVerdict, IsVerdictAt};
 ghost use Rattle.dnsv_verdict.specs.Way.{IsRefusedFor, IsVerdictOf};

@@ -1,4 +1,5 @@
 -- What a report says, and what is refused in its place.
+pub mod HashedLemmas
 use Rattle.std.proofs.Common.{◌≡◌, ◌⊎◌, ℕ, List, [], ◌∷◌, Ok, Err, map, refl, sym, ap, ◌∙◌, subst, inl, inr, ⊎_elim, length}
 use Rattle.std.specs.Prelude.{Result}
 use Rattle.std.proofs.lemmas.List.{length-map}

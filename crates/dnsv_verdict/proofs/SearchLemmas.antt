@@ -17,7 +17,7 @@ use Rattle.dnsv_canonical.specs.Rrsets.{IsNumbered, ReceivedRrset}
 use Rattle.dnsv_canonical.proofs.NumberLemmas.{IsOneAt}
 use Rattle.dnsv_verdict.specs.Secure.{IsFirstSuch, IsSecuredAt}
 use Rattle.dnsv_chain.specs.Trust.{KeptTrust, SecuredIn, signed_of}
-use Rattle.dnsv_verdict.specs.Search.{IsFirstFound, IsFound}
+use Rattle.dnsv_verdict.specs.Secure.Search.{IsFirstFound, IsFound}
 use Rattle.dnsv_chain.proofs.NumberedLemmas.{AreNumbersAt, rdata_at, rrsig_at, within}
 
 -- ---- the first signature

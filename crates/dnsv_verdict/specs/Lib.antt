@@ -1,12 +1,8 @@
 pub mod Complete
-pub mod End
-pub mod Hashed
 pub mod Hope
 pub mod Insecure
 pub mod Meaning
-pub mod NoLess
 pub mod Report
-pub mod Search
 pub mod Secure
 pub mod Settled
 pub mod Shared

@@ -1,4 +1,5 @@
 -- What is told of a question, what it is refused for, and what is kept with it.
+pub mod Hashed
 use Rattle.std.specs.Prelude.{◌≡◌, ◌⊎◌, ℕ, List, IfErr, IsErrOf, Option, Result, map}
 use Rattle.dnsv_names.specs.Name.{Labels}
 use Rattle.dnsv_canonical.specs.Rrsets.{IsQuestion, ReceivedRrset}
@@ -7,7 +8,7 @@ use Rattle.dnsv_denial.specs.QuestionHashes.{HashedQuestion}
 use Rattle.dnsv_verifier.specs.Asked.{IsNumberAsked}
 use Rattle.dnsv_verdict.specs.Complete.{TellsWholeChains}
 use Rattle.dnsv_verdict.specs.Hope.{HasHope}
-use Rattle.dnsv_verdict.specs.Hashed.{IsFewHashedOn, IsNumberHashedOn}
+use Rattle.dnsv_verdict.specs.Report.Hashed.{IsFewHashedOn, IsNumberHashedOn}
 use Rattle.dnsv_verdict.specs.Meaning.{AreOwnOrFromWildcards, IsTrueOfZones}
 use Rattle.dnsv_chain.specs.Basis.{Basis, CaseContents}
 use Rattle.dnsv_verdict.specs.Way.{IsRefusal, IsVerdictOf, names_on}

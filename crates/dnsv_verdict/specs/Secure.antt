@@ -2,6 +2,7 @@
 --
 -- The evidence is its RRsets, and which of their signatures are secured: `Secured k s` says that signature s of RRset
 -- k is good under a trusted key of its signer. Both are numbered from 1 on.
+pub mod Search
 use Rattle.std.specs.Prelude.{◌≡◌, ◌⊎◌, ◌<◌, ◌≤◌, ℕ, List}
 use Rattle.dnsv_names.specs.Name.{Labels, SameName}
 use Rattle.dnsv_records.specs.Rrsig.{IsRrsig}

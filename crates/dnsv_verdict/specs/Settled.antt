@@ -1,4 +1,5 @@
 -- What the evidence can settle about a question, in five cases of which the first that holds counts.
+pub mod NoLess
 use Rattle.std.specs.Prelude.{◌≢◌, ◌⊎◌, ℕ, List}
 use Rattle.dnsv_names.specs.Name.{Labels}
 use Rattle.dnsv_zones.specs.zones.TypeNumbers.{cname}

@@ -1,5 +1,6 @@
 -- The way over secure aliases from the name of a question to the last one, and the verdict on the question, which is
 -- that at the last name (RFC 1034 3.6.2, 4.3.2, RFC 4035 5.3).
+pub mod End
 use Rattle.std.specs.Prelude.{◌≡◌, ◌⊎◌, ◌<◌, ◌≤◌, ℕ, List, [], ◌∷◌, ◌++◌, length, map}
 use Rattle.dnsv_names.specs.Name.{Labels, IsName, SameName, wire}
 use Rattle.dnsv_canonical.specs.Canonical.{IsCanonical}

@@ -1,4 +1,8 @@
 //! The verdict at one name, and what is hoped for it.
+
+pub mod search;
+pub mod settling;
+
 ghost use Rattle.std.specs.Prelude.{◌≡◌, ◌↔◌, ℕ, List, IfOk, IfSome, IsTrue, MatchOption};
 ghost use Rattle.dnsv_names.specs.Count.{counted};
 ghost use Rattle.dnsv_records.specs.declared.nsec3.Nsec3Parameters.{Nsec3Parameters};
@@ -15,9 +19,9 @@ ghost use Rattle.dnsv_verdict.specs.Trail.{KeepsHope, Trails};
 ghost use Rattle.dnsv_chain.specs.Basis.{HasAnchor, basis_of};
 ghost use Rattle.dnsv_verdict.specs.Verdict.{IsSettledBy, IsVerdictAt, MayBeSettledBy};
 
+use crate::at_name::settling::settled;
 use crate::case::Case;
 use crate::case::shared::Shared;
-use crate::settled::settled;
 use crate::trail::Trail;
 use crate::verdict::Verdict;
 use dnsv_chain::{Anchors, trust_depends_on_what_is_asked};

@@ -1,6 +1,10 @@
 //! Laws of verdicts.
 //!
 //! Each is a function that does nothing and ensures the law, which its caller learns.
+
+pub mod complete;
+pub mod ways;
+
 ghost use Rattle.std.specs.Prelude.{◌≡◌, ◌↔◌, ◌≤◌, ◌++◌, ℕ, List, [], Contains};
 ghost use Rattle.dnsv_message.specs.Message.{Contents};
 ghost use Rattle.dnsv_names.specs.Name.{Labels};
@@ -8,7 +12,7 @@ ghost use Rattle.dnsv_verifier.specs.declared.answer.Answer.{Answer};
 ghost use Rattle.dnsv_verifier.specs.declared.answer.Answer.TheVariants.{Valid};
 ghost use Rattle.dnsv_verifier.specs.declared.entry.Entry.{Entry};
 ghost use Rattle.dnsv_chain.specs.declared.anchor.Anchor.{Anchor};
-ghost use Rattle.dnsv_verdict.specs.NoLess.{AnswersNoLess, IsNoLess, basis_of_messages, case_of};
+ghost use Rattle.dnsv_verdict.specs.Settled.NoLess.{AnswersNoLess, IsNoLess, basis_of_messages, case_of};
 ghost use Rattle.dnsv_chain.specs.Basis.{Basis, HasAnchor, with_meaning};
 ghost use Rattle.dnsv_verdict.specs.Verdict.{IsSettledVerdict, IsVerdictAt, IsSettledBy};
 

@@ -7,9 +7,9 @@ use Rattle.dnsv_records.specs.declared.rrsig.Rrsig.{Rrsig}
 use Rattle.dnsv_zones.specs.zones.TypeNumbers.{cname}
 use Rattle.dnsv_canonical.specs.Rrsets.{ReceivedRrset}
 use Rattle.dnsv_verdict.specs.Insecure.{IsOptOutWildcardSet}
-use Rattle.dnsv_verdict.specs.Search.{IsEarlier, IsOptOutSetOf}
+use Rattle.dnsv_verdict.specs.Secure.Search.{IsEarlier, IsOptOutSetOf}
 use Rattle.dnsv_verdict.specs.Secure.{IsFirstSuch, IsSecuredAt}
-use Rattle.dnsv_verdict.specs.declared.search.Found.{Found}
+use Rattle.dnsv_verdict.specs.declared.at_name.search.Found.{Found}
 
 -- the two numbers, where they are such in another way
 pub such_too : (Secured : ℕ → ℕ → Type 0) (rrsets : List ReceivedRrset) (name : Labels) (Such Other : ReceivedRrset → Rrsig → Type 0)

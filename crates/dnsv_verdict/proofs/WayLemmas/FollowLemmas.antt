@@ -12,9 +12,9 @@ use Rattle.dnsv_verifier.specs.declared.answer.Answer.{Answer}
 use Rattle.dnsv_verifier.specs.declared.entry.Entry.{Entry}
 use Rattle.dnsv_chain.specs.declared.anchor.Anchor.{Anchor}
 use Rattle.dnsv_zones.specs.chains.HashedNames.{hashes_for}
-use Rattle.dnsv_verdict.proofs.HashedLemmas.{hashes_more}
+use Rattle.dnsv_verdict.proofs.ReportLemmas.HashedLemmas.{hashes_more}
 use Rattle.dnsv_verdict.proofs.WayLemmas.{names_behind, way_more}
-use Rattle.dnsv_verdict.specs.Hashed.{hashes_on}
+use Rattle.dnsv_verdict.specs.Report.Hashed.{hashes_on}
 use Rattle.dnsv_chain.specs.Basis.{Basis, basis_of}
 use Rattle.dnsv_verdict.specs.Verdict.{IsVerdictAt}
 use Rattle.dnsv_verdict.specs.Way.{IsAlias, IsAmong, IsStoppedAt, IsTarget, IsVerdictOf, IsWay, Stops, most_links, names_on}

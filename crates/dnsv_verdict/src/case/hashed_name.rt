@@ -24,7 +24,7 @@ pub struct HashedName<'a> {
 impl<'a> Model for HashedName<'a> {
     ghost use Rattle.std.specs.Prelude.{◌≡◌};
     ghost use Rattle.dnsv_denial.specs.QuestionHashes.{HashedQuestion};
-    ghost use Rattle.dnsv_verdict.specs.Hashed.{AreDigestsFor};
+    ghost use Rattle.dnsv_verdict.specs.Report.Hashed.{AreDigestsFor};
 
     ghost Value = { HashedQuestion };
 

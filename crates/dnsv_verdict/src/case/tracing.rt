@@ -8,15 +8,15 @@ ghost use Rattle.dnsv_canonical.specs.Evidence.{AreParameters, nsec3_rdata};
 ghost use Rattle.dnsv_canonical.specs.Rrsets.{IsQuestion};
 ghost use Rattle.dnsv_chain.specs.Basis.{IsCaseOf, basis_by, Basis};
 ghost use Rattle.dnsv_verdict.specs.Shared.{IsSharedOf};
-ghost use Rattle.dnsv_verdict.specs.Hashed.{IsFewHashedOn, IsNumberHashedOn, hashes_on};
+ghost use Rattle.dnsv_verdict.specs.Report.Hashed.{IsFewHashedOn, IsNumberHashedOn, hashes_on};
 ghost use Rattle.dnsv_verdict.specs.Traced.{IsBare, IsKeptWith, IsTrace, IsWayTo};
 ghost use Rattle.dnsv_verdict.specs.Way.{names_on};
 ghost use Rattle.dnsv_verdict.specs.declared.error.VerdictError.{VerdictError};
 
 use crate::case::Case;
 use crate::case::shared::Shared;
-use crate::complete::a_whole_chain_is_told_by_the_verdict;
 use crate::error::VerdictError;
+use crate::laws::complete::a_whole_chain_is_told_by_the_verdict;
 use crate::link::Link;
 use crate::report::{Judged, Report};
 use crate::traced::{StoppedWay, Traced};

@@ -16,7 +16,7 @@ use Rattle.dnsv_chain.specs.Trusted.{IsSecured}
 use Rattle.dnsv_chain.specs.declared.anchor.Anchor.{Anchor}
 use Rattle.dnsv_verdict.proofs.SettledLemmas.{settled_as_to}
 use Rattle.dnsv_verdict.proofs.SettledLemmas.NoLessLemmas.{HoldsCase, no_later, no_worse}
-use Rattle.dnsv_verdict.specs.NoLess.{IsNoLess, case_of}
+use Rattle.dnsv_verdict.specs.Settled.NoLess.{IsNoLess, case_of}
 use Rattle.dnsv_verdict.specs.Report.{IsReport}
 use Rattle.dnsv_verdict.specs.Verdict.{AreUnknown, IsSettledAsBy, IsVerdictAt}
 use Rattle.dnsv_chain.specs.Basis.{Basis, basis_of, with_meaning}

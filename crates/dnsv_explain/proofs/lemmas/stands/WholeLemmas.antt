@@ -12,7 +12,7 @@ use Rattle.dnsv_verifier.specs.declared.entry.Entry.{Entry}
 use Rattle.dnsv_chain.specs.Trusted.{IsSecured}
 use Rattle.dnsv_chain.specs.declared.anchor.Anchor.{Anchor}
 use Rattle.dnsv_verdict.proofs.SettledLemmas.NoLessLemmas.{HoldsCase, no_later}
-use Rattle.dnsv_verdict.specs.NoLess.{case_of}
+use Rattle.dnsv_verdict.specs.Settled.NoLess.{case_of}
 use Rattle.dnsv_verdict.specs.Settled.{IsSettledAs}
 use Rattle.dnsv_verdict.specs.Verdict.{IsSettledAsBy, IsSettledVerdict, IsVerdictAt}
 use Rattle.dnsv_chain.specs.Basis.{basis_of}

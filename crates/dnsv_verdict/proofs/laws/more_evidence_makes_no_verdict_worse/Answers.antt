@@ -2,7 +2,7 @@ use Rattle.std.proofs.Common.{◌++◌, refl}
 use Rattle.std.specs.Prelude.{suc, length}
 use Rattle.dnsv_canonical.specs.Rrsets.{rrsets_from}
 use Rattle.dnsv_verdict.proofs.SettledLemmas.NoLessLemmas.{no_worse}
-use Rattle.dnsv_verdict.specs.NoLess.{basis_of_messages}
+use Rattle.dnsv_verdict.specs.Settled.NoLess.{basis_of_messages}
 use Rattle.dnsv_verdict.proofs.laws.more_evidence_makes_no_verdict_worse.Goals as goal
 
 pub returns-clause-bases : goal.returns-clause-bases

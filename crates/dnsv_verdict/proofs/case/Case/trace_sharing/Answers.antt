@@ -5,7 +5,7 @@ use Rattle.dnsv_verdict.proofs.MeaningLemmas.{aliases_mean, verdict_means}
 use Rattle.dnsv_verdict.proofs.OfCase.{of_case, table_by}
 use Rattle.dnsv_verdict.proofs.ReportLemmas.{number_asked}
 use Rattle.dnsv_verdict.proofs.WayLemmas.{last_is_question}
-use Rattle.dnsv_verdict.specs.End.{IsEndOf}
+use Rattle.dnsv_verdict.specs.Way.End.{IsEndOf}
 use Rattle.dnsv_verdict.specs.Report.{IsReport}
 use Rattle.dnsv_chain.specs.Basis.{Basis, basis_of}
 use Rattle.dnsv_verdict.specs.Way.{IsStoppedAt, IsVerdictOf}

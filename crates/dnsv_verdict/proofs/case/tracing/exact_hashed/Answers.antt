@@ -1,7 +1,7 @@
 use Rattle.std.proofs.Common.{◌∙◌, List, subst}
 use Rattle.dnsv_canonical.specs.Evidence.{AreParameters, AreParametersAmong, AtMost, nsec3_rdata}
 use Rattle.dnsv_canonical.specs.Rrsets.{ReceivedRrset}
-use Rattle.dnsv_verdict.proofs.HashedLemmas.{counted_exactly, few_hashed_on}
+use Rattle.dnsv_verdict.proofs.ReportLemmas.HashedLemmas.{counted_exactly, few_hashed_on}
 use Rattle.dnsv_verdict.proofs.WayLemmas.{few_names}
 use Rattle.dnsv_verdict.specs.Way.{names_on}
 use Rattle.dnsv_verdict.proofs.case.tracing.exact_hashed.Goals as goal
