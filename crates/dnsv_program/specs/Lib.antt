@@ -1,4 +1,3 @@
-pub mod Layers
 pub mod Program
 pub mod Run
 pub mod Work

@@ -7,10 +7,8 @@ pub use dnsv_commands::{
 pub use dnsv_work::{
     Host, Machine, every_file_is_listed_or_refused, every_file_is_shown_or_refused,
 };
-pub use laws::{no_fault_of_a_text, one_first_fault, one_text};
 pub use program::{exit_status, exit_status_on};
 pub use work::run;
 
-mod laws;
 mod program;
 mod work;

@@ -2,7 +2,7 @@
 ghost use Rattle.std.specs.Prelude.{◌≡◌, List, ℕ};
 ghost use Rattle.dnsv_names.specs.Octets.{AreOctets};
 ghost use Rattle.dnsv_files.specs.Files.{Files};
-ghost use Rattle.dnsv_program.specs.Layers.{LayerLaws};
+ghost use Rattle.dnsv_program_laws.specs.Layers.{LayerLaws};
 ghost use Rattle.dnsv_program.specs.Run.{IsFirstFault, IsTextAskedFor};
 ghost use Rattle.dnsv_files.specs.declared.status.Status.{Status};
 ghost use Rattle.dnsv_files.specs.declared.status.Fault.{Fault};

@@ -15,7 +15,7 @@ use Rattle.dnsv_compact.proofs.KeyLemmas.{key_Equal, key_cmp_total}
 use Rattle.dnsv_compact.specs.CompactList.{AreInPlaces, AreKeysOf, ComesFirst, IsCompactList, IsListedIf, IsListedRrset, IsPlaceOf, IsRrsetListedIf, ListContents, ListedRrset, ListedSignature, ListsRrsets, ListsSignatures, key_cmp, key_of_entry, listed_signature, names_rrset, names_signature}
 use Rattle.dnsv_compact.specs.declared.key.ListedKey.{ListedKey}
 use Rattle.dnsv_compact.specs.declared.place.Place.{Place}
-use Rattle.dnsv_program.specs.Layers.{LayerLaws}
+use Rattle.dnsv_program_laws.specs.Layers.{LayerLaws}
 
 -- ---- keys
 

@@ -13,7 +13,7 @@ use Rattle.dnsv_verdict.specs.declared.error.VerdictError.{VerdictError}
 use Rattle.dnsv_texts.specs.Refused.{refused_text}
 use Rattle.dnsv_questions.specs.declared.format.Format.{Format}
 use Rattle.dnsv_files.specs.Files.{Files, octets_or_none}
-use Rattle.dnsv_program.specs.Layers.{LayerLaws}
+use Rattle.dnsv_program_laws.specs.Layers.{LayerLaws}
 use Rattle.dnsv_files.specs.Status.{status_code}
 use Rattle.dnsv_program.specs.Work.Asking.{Answered, AreAnswered, AreAnswers, EachAnswered, IsAnswer, IsGreatest}
 use Rattle.dnsv_program.specs.Work.Checking.{IsJudged}
@@ -21,7 +21,7 @@ use Rattle.dnsv_work.specs.InOrder.{basis_in}
 use Rattle.dnsv_files.specs.declared.status.Status.{Status}
 use Rattle.dnsv_files.specs.declared.status.Status.TheVariants.{Bogus, Done, Indeterminate, Insecure, Pending, Refused}
 use Rattle.dnsv_files.proofs.FileLemmas.Questions.{one_list_of_questions}
-use Rattle.dnsv_program.proofs.LawLemmas.OneText.{one_basis, one_judged, one_numbering}
+use Rattle.dnsv_program_laws.proofs.LawLemmas.OneText.{one_basis, one_judged, one_numbering}
 
 -- ---- the greatest end
 

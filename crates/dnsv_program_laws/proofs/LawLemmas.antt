@@ -1,5 +1,6 @@
 -- Files have one text or one first fault.
 pub mod Held
+pub mod OneAnswer
 pub mod OneCapture
 pub mod OneCompact
 pub mod OneFault

@@ -39,7 +39,7 @@ use Rattle.dnsv_moments.specs.Question.{IsRefusedThroughout}
 use Rattle.dnsv_timeline.specs.Range.{IsRange}
 use Rattle.dnsv_files.specs.Files.{Files, octets_or_none}
 use Rattle.dnsv_files.specs.Opening.Keys.{IsFaultOfKeys, MayHaveKeys}
-use Rattle.dnsv_program.specs.Layers.{LayerLaws}
+use Rattle.dnsv_program_laws.specs.Layers.{LayerLaws}
 use Rattle.dnsv_work.specs.Question.{IsNameRefused, IsQuestionRefused, Spells}
 use Rattle.dnsv_program.specs.Run.{IsAnswered, IsFirstFault, IsFirstFaultOfCheck, IsFirstFaultOfName, IsTextAskedFor, IsFirstFaultOfTimeline, IsFirstFaultThroughout, IsTimelineAsked}
 use Rattle.dnsv_work.specs.Faults.{IsFaultOfQuestion, IsFirstFaultBehind, IsFirstFaultOfEvidence, IsFirstFaultOfFiles, IsFirstFaultOfTodo, IsFirstFaultOfAsked, IsFirstFaultOfRange}
@@ -47,10 +47,10 @@ use Rattle.dnsv_work.specs.Listing.{IsTodo}
 use Rattle.dnsv_files.proofs.FileLemmas.Anchors.{no_anchors_fault, one_anchors_fault}
 use Rattle.dnsv_files.proofs.OpeningLemmas.Keys.{no_keys_fault, one_keys_fault}
 use Rattle.dnsv_files.proofs.OpeningLemmas.Macs.{no_fault_of_macs, one_macs_fault}
-use Rattle.dnsv_program.proofs.LawLemmas.OneCapture.{no_capture_fault, one_capture_fault, one_holding}
+use Rattle.dnsv_program_laws.proofs.LawLemmas.OneCapture.{no_capture_fault, one_capture_fault, one_holding}
 use Rattle.dnsv_work.proofs.PlaceLemmas.{same_nowhere}
 use Rattle.dnsv_work.proofs.LawLemmas.OneKnown.{known_stands, one_known_fault}
-use Rattle.dnsv_program.proofs.LawLemmas.OneText.{one_basis, one_opening, one_opening_at, one_question}
+use Rattle.dnsv_program_laws.proofs.LawLemmas.OneText.{one_basis, one_opening, one_opening_at, one_question}
 use Rattle.dnsv_files.proofs.FileLemmas.Questions.{no_questions_fault, one_questions_fault}
 use Rattle.dnsv_files.proofs.FileLemmas.Statements.{no_statements_fault, one_statements_fault}
 

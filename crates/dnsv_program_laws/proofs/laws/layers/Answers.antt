@@ -1,4 +1,4 @@
-use Rattle.dnsv_program.proofs.laws.layers.Goals as goal
+use Rattle.dnsv_program_laws.proofs.laws.layers.Goals as goal
 
 pub returns : goal.returns
 returns c = record {

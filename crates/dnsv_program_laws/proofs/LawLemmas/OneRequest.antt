@@ -12,13 +12,13 @@ use Rattle.dnsv_commands.specs.declared.request.Request.TheVariants as request
 use Rattle.dnsv_files.specs.declared.status.Status.{Status}
 use Rattle.dnsv_files.specs.Files.Capture.{AnyMessage, NewEvidence}
 use Rattle.dnsv_files.specs.Files.{Files}
-use Rattle.dnsv_program.specs.Layers.{LayerLaws}
+use Rattle.dnsv_program_laws.specs.Layers.{LayerLaws}
 use Rattle.dnsv_program.specs.Run.{IsTextAskedFor}
 use Rattle.dnsv_texts.specs.Listing.{ListsRrsets, listing_text}
 use Rattle.dnsv_texts.specs.Showing.{message_text, texts_from}
-use Rattle.dnsv_program.proofs.AskingLemmas.One.{one_answered}
-use Rattle.dnsv_program.proofs.LawLemmas.OneCapture.{one_holding}
-use Rattle.dnsv_program.proofs.LawLemmas.OneText.{one_answer, one_list, one_timeline_asked, one_todo}
+use Rattle.dnsv_program_laws.proofs.LawLemmas.OneAnswer.{one_answered}
+use Rattle.dnsv_program_laws.proofs.LawLemmas.OneCapture.{one_holding}
+use Rattle.dnsv_program_laws.proofs.LawLemmas.OneText.{one_answer, one_list, one_timeline_asked, one_todo}
 
 module _ (laws : LayerLaws) where
   -- a request has one text and end for its files

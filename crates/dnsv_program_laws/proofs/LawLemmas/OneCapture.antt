@@ -16,9 +16,9 @@ use Rattle.dnsv_files.specs.declared.status.Place.{Place}
 use Rattle.dnsv_files.specs.declared.status.Refusal.{Refusal}
 use Rattle.dnsv_files.specs.Files.Capture.{AreFramesRefused, Demand, AnyMessage, NewEvidence, Meets, Fails, AllTaken, Holds, FrameRefused, FirstRefused, IsFaultOfCapture, IsRefusal}
 use Rattle.dnsv_files.specs.Opening.{HasItsMacs, IsInFrame}
-use Rattle.dnsv_program.specs.Layers.{LayerLaws}
+use Rattle.dnsv_program_laws.specs.Layers.{LayerLaws}
 use Rattle.dnsv_files.specs.Status.{TellsCaptureError}
-use Rattle.dnsv_program.proofs.LawLemmas.Held.{in_frame_stands, no_message_once, one_in_frame}
+use Rattle.dnsv_program_laws.proofs.LawLemmas.Held.{in_frame_stands, no_message_once, one_in_frame}
 use Rattle.dnsv_files.proofs.FileLemmas.Text.{too_many}
 use Rattle.dnsv_work.proofs.PlaceLemmas.{same_nowhere, same_place}
 

@@ -19,7 +19,7 @@ use Rattle.dnsv_files.specs.declared.opening.Opening.{Opening}
 use Rattle.dnsv_files.specs.declared.opening.Opening.TheVariants.{Plain, Signed}
 use Rattle.dnsv_files.specs.declared.status.Refusal.{Refusal}
 use Rattle.dnsv_files.specs.Opening.{HoldsNoMessage, IsInFrame, IsUnreadable, request_mac}
-use Rattle.dnsv_program.specs.Layers.{LayerLaws}
+use Rattle.dnsv_program_laws.specs.Layers.{LayerLaws}
 use Rattle.dnsv_files.specs.Status.{TellsMessageError, TellsTsigError}
 
 -- ---- what a frame opens to

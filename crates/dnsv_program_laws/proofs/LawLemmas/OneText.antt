@@ -40,7 +40,7 @@ use Rattle.dnsv_files.specs.Bounds.{begin_of, end_of}
 use Rattle.dnsv_work.specs.Opening.{IsOpeningAt}
 use Rattle.dnsv_files.specs.Files.{Files, octets_or_none}
 use Rattle.dnsv_files.specs.Opening.Keys.{MayHaveKeys}
-use Rattle.dnsv_program.specs.Layers.{LayerLaws}
+use Rattle.dnsv_program_laws.specs.Layers.{LayerLaws}
 use Rattle.dnsv_texts.specs.Listing.{ListsRrsets, ListsSignatures, SignedOctets}
 use Rattle.dnsv_work.specs.Question.{Spells}
 use Rattle.dnsv_files.specs.Status.{status_code}
@@ -52,8 +52,8 @@ use Rattle.dnsv_moments.specs.texts.Text.{IsTimelineText}
 use Rattle.dnsv_work.specs.Listing.{IsTodo, ListsEntries}
 use Rattle.dnsv_files.proofs.OpeningLemmas.Keys.{same_keys}
 use Rattle.dnsv_files.proofs.OpeningLemmas.Macs.{same_macs}
-use Rattle.dnsv_program.proofs.LawLemmas.OneCapture.{one_holding}
-use Rattle.dnsv_program.proofs.LawLemmas.OneCompact.{one_compact_list}
+use Rattle.dnsv_program_laws.proofs.LawLemmas.OneCapture.{one_holding}
+use Rattle.dnsv_program_laws.proofs.LawLemmas.OneCompact.{one_compact_list}
 use Rattle.dnsv_files.proofs.FileLemmas.Statements.{one_meaning}
 use Rattle.dnsv_work.proofs.LawLemmas.OneKnown.{one_known}
 use Rattle.dnsv_work.specs.Known.{IsKnownBy}

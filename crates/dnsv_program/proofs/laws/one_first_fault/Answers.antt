@@ -1,5 +1,0 @@
-use Rattle.dnsv_program.proofs.LawLemmas.OneFault.{one_first_fault}
-use Rattle.dnsv_program.proofs.laws.one_first_fault.Goals as goal
-
-pub returns : goal.returns
-returns c = one_first_fault c.layers.ensures

@@ -1,5 +1,0 @@
-use Rattle.dnsv_program.proofs.LawLemmas.OneRequest.{one_text}
-use Rattle.dnsv_program.proofs.laws.one_text.Goals as goal
-
-pub returns : goal.returns
-returns c = one_text c.layers.ensures
