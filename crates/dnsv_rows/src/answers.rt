@@ -1,9 +1,10 @@
 //! What is printed for a line of the input.
 
+use crate::canonical::again;
+use crate::message::signed;
 use crate::row::{Row, RowError};
 use crate::{
-    again, canonical, chain, denial, digest, message, names, questions, records, tsig, verdict,
-    verifier,
+    canonical, chain, denial, digest, message, names, questions, records, verdict, verifier,
 };
 use std::alloc::AllocError;
 
@@ -48,7 +49,7 @@ fn answer(row: &Row) -> Result<Option<String>, RowError> {
     if let Some(text) = digest::answer(row)? {
         return Ok(Some(text));
     }
-    if let Some(text) = tsig::answer(row)? {
+    if let Some(text) = signed::answer(row)? {
         return Ok(Some(text));
     }
     if let Some(text) = records::answer(row)? {

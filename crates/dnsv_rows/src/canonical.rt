@@ -4,6 +4,7 @@ use crate::row::{Row, RowError, printed};
 use dnsv_canonical::{Question, forms_rrsets, is_question, signed_label_count};
 use dnsv_names::RecordType;
 
+pub mod again;
 mod records;
 pub mod rrsets;
 mod signing;

@@ -1,7 +1,6 @@
 //! `dnsv_rows`: worked examples of the libraries, a row each, and what the libraries answer.
 #![tactic(auto)]
 
-mod again;
 mod answers;
 mod canonical;
 mod chain;
@@ -13,7 +12,6 @@ mod names;
 mod questions;
 mod records;
 mod row;
-mod tsig;
 mod verdict;
 mod verifier;
 

@@ -5,6 +5,7 @@ use dnsv_message::{DecodeError, Message, Record, Section};
 use std::alloc::{AllocError, Global};
 
 mod names;
+pub mod signed;
 mod streams;
 
 /// What the library answers, where it has the call.
