@@ -1,4 +1,2 @@
-mod AskingLemmas
-mod JudgedLemmas
 pub mod ProgramLemmas
 pub mod WorkLemmas

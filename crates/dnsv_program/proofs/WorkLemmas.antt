@@ -1,4 +1,3 @@
 -- What the work of requests comes to.
-pub mod Checking
 pub mod Many
 pub mod Timeline

@@ -1,3 +1,3 @@
 pub mod Program
 pub mod Run
-pub mod Work
+pub mod Timeline

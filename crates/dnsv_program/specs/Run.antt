@@ -3,36 +3,28 @@ use Rattle.std.specs.Prelude.{◌≡◌, ◌⊎◌, ⊤, ℕ, Bool, List, string
 use Rattle.dnsv_names.specs.Name.{Labels}
 use Rattle.dnsv_canonical.specs.Rrsets.{IsQuestion}
 use Rattle.dnsv_timeline.specs.Range.{IsRange}
-use Rattle.dnsv_answers.specs.declared.heading.Moments.TheVariants.{At, Between}
+use Rattle.dnsv_answers.specs.declared.heading.Moments.TheVariants.{Between}
 use Rattle.dnsv_files.specs.declared.opening.Opening.TheVariants.{Plain}
 use Rattle.dnsv_commands.specs.declared.request.Asking.TheVariants as asking
 use Rattle.dnsv_commands.specs.declared.request.Request.{Request}
 use Rattle.dnsv_commands.specs.declared.request.Request.TheVariants as request
 use Rattle.dnsv_files.specs.declared.status.Fault.{Fault}
 use Rattle.dnsv_files.specs.declared.status.InputFile.{InputFile}
-use Rattle.dnsv_files.specs.declared.status.InputFile.TheVariants.{Questions}
 use Rattle.dnsv_files.specs.declared.status.Status.{Status}
 use Rattle.dnsv_files.specs.declared.status.Status.TheVariants.{Done}
 use Rattle.dnsv_questions.specs.declared.format.Format.{Format}
 use Rattle.dnsv_files.specs.Files.Capture.{AnyMessage, IsFaultOfCapture}
-use Rattle.dnsv_canonical.specs.Question.{Asked}
-use Rattle.dnsv_files.specs.Files.Questions.{HasQuestions, IsFaultOfQuestions}
-use Rattle.dnsv_program.specs.Work.Asking.{AreAnswered, AreFewerAnswered, AreFirstAnswered}
-use Rattle.dnsv_program.specs.Work.Checking.{IsCheck, IsStopped}
-use Rattle.dnsv_files.specs.Files.{Files, IsGiven, octets_or_none}
+use Rattle.dnsv_asking.specs.Asking.{AreAnswered, AreFewerAnswered, AreFirstAnswered, IsFirstFaultOfEach, IsReachedByEach}
+use Rattle.dnsv_asking.specs.Checking.{IsAnswered, IsFirstFaultOfCheck, IsReachedByCheck}
+use Rattle.dnsv_files.specs.Files.{Files}
 use Rattle.dnsv_work.specs.Listing.{IsTodo, IsListed}
 use Rattle.dnsv_work.specs.Question.{Spells}
 use Rattle.dnsv_work.specs.Showing.{IsShowing}
 use Rattle.dnsv_work.specs.Faults.{IsFaultOfRange, IsFaultOfQuestion, IsFirstFaultOfAsked, IsFirstFaultOfFiles, IsFirstFaultOfList, IsFirstFaultOfRange, IsFirstFaultOfTodo, IsTimelineRefused}
-use Rattle.dnsv_program.specs.Work.Timeline.{IsStoppedThroughout, IsTimeline}
+use Rattle.dnsv_program.specs.Timeline.{IsStoppedThroughout, IsTimeline}
 use Rattle.dnsv_work.specs.Reached.{IsCaptureReached, IsReachedByList, IsReachedByTodo, IsReachedOfFiles}
 
 -- ---- the text
-
--- the question is one that can be asked, and the end and the text are those of its check
-abbrev pub IsAnswered : Format → Bool → List ℕ → ℕ → ℕ → Files → Status → List ℕ → Type 0
-IsAnswered format why asked rtype moment files end text =
-    (name : Labels) × Spells asked name × IsQuestion name rtype × IsCheck format why name rtype moment files end text
 
 -- the question is one that can be asked, the range is one, and the text is that of its timeline
 abbrev pub IsTimelineAsked : Format → Bool → List ℕ → ℕ → ℕ → ℕ → Files → List ℕ → Type 0
@@ -118,16 +110,6 @@ AsksRefused (request.Check capture anchors moment (asking.One asked rtype) known
     IsFaultOfQuestion (string_bytes asked) rtype.0 fault
 AsksRefused (request.Check capture anchors moment (asking.Each questions) known keys macs format why) fault = ⊥
 
--- the first of the files that is at fault has this fault; or none is, and an alias can't be followed
-abbrev pub IsFirstFaultOfName : Labels → ℕ → ℕ → Files → Fault → Type 0
-IsFirstFaultOfName name rtype moment files fault =
-    IsFirstFaultOfFiles (At moment) files fault ⊎ IsStopped name rtype moment files fault
-
--- the question is refused, and else this is the first fault of the files and of the way from its name
-abbrev pub IsFirstFaultOfCheck : List ℕ → ℕ → ℕ → Files → Fault → Type 0
-IsFirstFaultOfCheck asked rtype moment files =
-    IsFirstFaultOfAsked asked rtype (λ name. IsFirstFaultOfName name rtype moment files)
-
 -- the first of the files that is at fault has this fault; or none is, and the question is refused throughout the range
 abbrev pub IsFirstFaultThroughout : Labels → ℕ → ℕ → ℕ → Files → Fault → Type 0
 IsFirstFaultThroughout name rtype from to files fault =
@@ -137,13 +119,6 @@ IsFirstFaultThroughout name rtype from to files fault =
 abbrev pub IsFirstFaultOfTimeline : List ℕ → ℕ → ℕ → ℕ → Files → Fault → Type 0
 IsFirstFaultOfTimeline asked rtype from to files =
     IsFirstFaultOfAsked asked rtype (λ name. IsFirstFaultOfRange from to (IsFirstFaultThroughout name rtype from to files))
-
--- the first fault is in the questions, and then in the files that they are judged by
-abbrev pub IsFirstFaultOfEach : ℕ → Files → Fault → Type 0
-IsFirstFaultOfEach moment files fault =
-    IsFaultOfQuestions (octets_or_none files.questions) fault
-    ⊎ (((asked : List Asked) × HasQuestions (octets_or_none files.questions) asked)
-    × IsFirstFaultOfFiles (At moment) files fault)
 
 -- the first fault, in the order of the work
 abbrev pub IsFirstFault : Request → Files → Fault → Type 0
@@ -160,22 +135,11 @@ IsFirstFault (request.Check capture anchors moment (asking.Each questions) known
 
 -- ---- what a failed read comes behind
 
--- the question can be asked, and the files before this one are in order
-abbrev pub IsReachedByCheck : List ℕ → ℕ → ℕ → Files → InputFile → Type 0
-IsReachedByCheck asked rtype moment files file =
-    ((name : Labels) × Spells asked name × IsQuestion name rtype) × IsReachedOfFiles (At moment) files file
-
 -- the question can be asked, the range is one, and the files before this one are in order
 abbrev pub IsReachedByTimeline : List ℕ → ℕ → ℕ → ℕ → Files → InputFile → Type 0
 IsReachedByTimeline asked rtype from to files file =
     ((name : Labels) × Spells asked name × IsQuestion name rtype) × IsRange from to
     × IsReachedOfFiles (Between from to) files file
-
--- the questions are read first, and then the files that they are judged by
-abbrev pub IsReachedByEach : ℕ → Files → InputFile → Type 0
-IsReachedByEach moment files Questions = IsGiven files.questions
-IsReachedByEach moment files file =
-    ((asked : List Asked) × HasQuestions (octets_or_none files.questions) asked) × IsReachedOfFiles (At moment) files file
 
 -- The request reads the file, which is given, and what comes before it in the order of the work is in order.
 abbrev pub IsReached : Request → Files → InputFile → Type 0

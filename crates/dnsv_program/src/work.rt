@@ -7,16 +7,11 @@ ghost use Rattle.dnsv_files.specs.Files.{AreTold, Files};
 ghost use Rattle.dnsv_program.specs.Run.{AsksMany, AsksRefused, EndsAsDone, IsFirstFault, IsManyAsked, IsReached, IsTextAskedFor, IsTextOfFewer, IsTextOfFirst};
 ghost use Rattle.dnsv_files.specs.declared.status.Status.{Status};
 
-pub mod asking;
-pub mod checking;
-pub mod judging;
-pub mod known;
 pub mod timeline;
 
-use crate::work::asking::check_each;
-use crate::work::checking::check;
 use crate::work::timeline::{Ends, Showing, timeline};
 use bumpalo::Bump;
+use dnsv_asking::{check, check_each};
 use dnsv_commands::{Asking, Request};
 use dnsv_files::{Fault, Inputs, Status};
 use dnsv_message::Counted;

@@ -3,8 +3,8 @@ use Rattle.std.proofs.Common.{◌⊎◌, ℕ, Bool, List, Option, inl, inr}
 use Rattle.std.specs.Io.KnownBytes.{Appends}
 use Rattle.dnsv_questions.specs.declared.format.Format.{Format}
 use Rattle.dnsv_files.specs.Files.{Files}
-use Rattle.dnsv_program.specs.Run.{AsksMany, AsksRefused, IsFirstFault, IsFirstFaultOfEach, IsManyAsked, IsReached, IsReachedByEach, IsTextAskedFor, IsTextOfFewer, IsTextOfFirst}
-use Rattle.dnsv_program.specs.Work.Asking.{AreAnswered, AreFewerAnswered, AreFirstAnswered}
+use Rattle.dnsv_program.specs.Run.{AsksMany, AsksRefused, IsFirstFault, IsManyAsked, IsReached, IsTextAskedFor, IsTextOfFewer, IsTextOfFirst}
+use Rattle.dnsv_asking.specs.Asking.{AreAnswered, AreFewerAnswered, AreFirstAnswered, IsFirstFaultOfEach, IsReachedByEach}
 use Rattle.dnsv_commands.specs.declared.request.Asking.TheVariants as asking
 use Rattle.dnsv_commands.specs.declared.request.Request.{Request}
 use Rattle.dnsv_commands.specs.declared.request.Request.TheVariants as request

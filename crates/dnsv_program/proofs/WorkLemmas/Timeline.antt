@@ -25,7 +25,7 @@ use Rattle.dnsv_files.specs.Told.{IsFaultOf}
 use Rattle.dnsv_work.specs.InOrder.{AreReadFrom}
 use Rattle.dnsv_work.specs.Judged.{verdict_fault}
 use Rattle.dnsv_work.specs.Known.{Ground}
-use Rattle.dnsv_program.specs.Work.Timeline.{IsStoppedThroughout, IsTimeline, IsTimelineBehind}
+use Rattle.dnsv_program.specs.Timeline.{IsStoppedThroughout, IsTimeline, IsTimelineBehind}
 use Rattle.dnsv_work.specs.declared.given.Said as given
 use Rattle.dnsv_work.proofs.WorkLemmas.InOrder.{all_given}
 

@@ -12,7 +12,7 @@ ghost use Rattle.dnsv_work.specs.Reached.{IsReachedOfFiles};
 ghost use Rattle.dnsv_work.specs.Faults.{IsTimelineRefused};
 ghost use Rattle.dnsv_work.specs.Judged.{verdict_fault};
 ghost use Rattle.dnsv_work.specs.Known.{AreMiscountedIn, Ground, IsKnown, numbers_said};
-ghost use Rattle.dnsv_program.specs.Work.Timeline.{IsTimeline, IsTimelineBehind};
+ghost use Rattle.dnsv_program.specs.Timeline.{IsTimeline, IsTimelineBehind};
 ghost use Rattle.dnsv_chain.specs.Basis.{basis_of};
 ghost use Rattle.dnsv_verdict.specs.declared.error.VerdictError.{VerdictError};
 ghost use Rattle.dnsv_verifier.specs.declared.answer.Answer.{Answer};

@@ -15,8 +15,8 @@ use Rattle.dnsv_questions.specs.declared.format.Format.{Format}
 use Rattle.dnsv_files.specs.Files.{Files, octets_or_none}
 use Rattle.dnsv_program_laws.specs.Layers.{LayerLaws}
 use Rattle.dnsv_files.specs.Status.{status_code}
-use Rattle.dnsv_program.specs.Work.Asking.{Answered, AreAnswered, AreAnswers, EachAnswered, IsAnswer, IsGreatest}
-use Rattle.dnsv_program.specs.Work.Checking.{IsJudged}
+use Rattle.dnsv_asking.specs.Asking.{Answered, AreAnswered, AreAnswers, EachAnswered, IsAnswer, IsGreatest}
+use Rattle.dnsv_asking.specs.Checking.{IsJudged}
 use Rattle.dnsv_work.specs.InOrder.{basis_in}
 use Rattle.dnsv_files.specs.declared.status.Status.{Status}
 use Rattle.dnsv_files.specs.declared.status.Status.TheVariants.{Bogus, Done, Indeterminate, Insecure, Pending, Refused}

@@ -30,18 +30,18 @@ use Rattle.dnsv_files.specs.Files.Anchors.{HasAnchors, IsFaultOfAnchors}
 use Rattle.dnsv_questions.specs.declared.format.Format.{Format}
 use Rattle.dnsv_files.specs.Files.Capture.{AnyMessage, NewEvidence, Holds, IsFaultOfCapture}
 use Rattle.dnsv_work.specs.InOrder.{AreInOrder, basis_in}
-use Rattle.dnsv_program.specs.Work.Checking.{IsCheck, IsStopped}
+use Rattle.dnsv_asking.specs.Checking.{IsAnswered, IsCheck, IsFirstFaultOfCheck, IsFirstFaultOfName, IsStopped}
 use Rattle.dnsv_work.specs.Judged.{verdict_fault}
 use Rattle.dnsv_files.specs.Opening.Given.{IsOpeningOf, IsFaultOfOpening}
 use Rattle.dnsv_work.specs.Opening.{IsFaultOfOpeningAt, IsOpeningAt}
-use Rattle.dnsv_program.specs.Work.Timeline.{IsStoppedThroughout}
+use Rattle.dnsv_program.specs.Timeline.{IsStoppedThroughout}
 use Rattle.dnsv_moments.specs.Question.{IsRefusedThroughout}
 use Rattle.dnsv_timeline.specs.Range.{IsRange}
 use Rattle.dnsv_files.specs.Files.{Files, octets_or_none}
 use Rattle.dnsv_files.specs.Opening.Keys.{IsFaultOfKeys, MayHaveKeys}
 use Rattle.dnsv_program_laws.specs.Layers.{LayerLaws}
 use Rattle.dnsv_work.specs.Question.{IsNameRefused, IsQuestionRefused, Spells}
-use Rattle.dnsv_program.specs.Run.{IsAnswered, IsFirstFault, IsFirstFaultOfCheck, IsFirstFaultOfName, IsTextAskedFor, IsFirstFaultOfTimeline, IsFirstFaultThroughout, IsTimelineAsked}
+use Rattle.dnsv_program.specs.Run.{IsFirstFault, IsTextAskedFor, IsFirstFaultOfTimeline, IsFirstFaultThroughout, IsTimelineAsked}
 use Rattle.dnsv_work.specs.Faults.{IsFaultOfQuestion, IsFirstFaultBehind, IsFirstFaultOfEvidence, IsFirstFaultOfFiles, IsFirstFaultOfTodo, IsFirstFaultOfAsked, IsFirstFaultOfRange}
 use Rattle.dnsv_work.specs.Listing.{IsTodo}
 use Rattle.dnsv_files.proofs.FileLemmas.Anchors.{no_anchors_fault, one_anchors_fault}

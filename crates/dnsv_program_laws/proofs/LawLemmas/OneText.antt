@@ -33,7 +33,7 @@ use Rattle.dnsv_files.specs.Files.Capture.{NewEvidence, Holds}
 use Rattle.dnsv_texts.specs.Checking.{check_text}
 use Rattle.dnsv_texts.specs.Compact.{compact_text}
 use Rattle.dnsv_work.specs.InOrder.{AreInOrder, basis_in}
-use Rattle.dnsv_program.specs.Work.Checking.{IsCheck, IsJudged, IsWhy}
+use Rattle.dnsv_asking.specs.Checking.{IsAnswered, IsCheck, IsJudged, IsWhy}
 use Rattle.dnsv_work.specs.Judged.{verdict_status}
 use Rattle.dnsv_files.specs.Opening.Given.{IsOpeningOf}
 use Rattle.dnsv_files.specs.Bounds.{begin_of, end_of}
@@ -44,8 +44,8 @@ use Rattle.dnsv_program_laws.specs.Layers.{LayerLaws}
 use Rattle.dnsv_texts.specs.Listing.{ListsRrsets, ListsSignatures, SignedOctets}
 use Rattle.dnsv_work.specs.Question.{Spells}
 use Rattle.dnsv_files.specs.Status.{status_code}
-use Rattle.dnsv_program.specs.Run.{IsAnswered, IsTimelineAsked}
-use Rattle.dnsv_program.specs.Work.Timeline.{IsTimelineBehind}
+use Rattle.dnsv_program.specs.Run.{IsTimelineAsked}
+use Rattle.dnsv_program.specs.Timeline.{IsTimelineBehind}
 use Rattle.dnsv_timeline.specs.declared.stretch.Stretch.{Stretch}
 use Rattle.dnsv_moments.specs.validity.Said.{Said}
 use Rattle.dnsv_moments.specs.texts.Text.{IsTimelineText}

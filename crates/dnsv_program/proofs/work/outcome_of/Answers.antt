@@ -1,5 +1,6 @@
 use Rattle.std.proofs.Common.{subst}
-use Rattle.dnsv_program.specs.Run.{IsFirstFault, IsFirstFaultOfCheck, IsReached, IsReachedByCheck}
+use Rattle.dnsv_program.specs.Run.{IsFirstFault, IsReached}
+use Rattle.dnsv_asking.specs.Checking.{IsFirstFaultOfCheck, IsReachedByCheck}
 use Rattle.dnsv_files.proofs.FileLemmas.Faults.{TellsFaults-weaker}
 use Rattle.dnsv_work.proofs.ReachedLemmas.{reached_in}
 use Rattle.dnsv_program.proofs.work.outcome_of.Goals as goal

@@ -1,4 +1,5 @@
-use Rattle.dnsv_program.specs.Run.{IsFirstFault, IsFirstFaultOfEach}
+use Rattle.dnsv_program.specs.Run.{IsFirstFault}
+use Rattle.dnsv_asking.specs.Asking.{IsFirstFaultOfEach}
 use Rattle.dnsv_files.proofs.FileLemmas.Faults.{TellsFaults-weaker}
 use Rattle.dnsv_program.proofs.WorkLemmas.Many.{asked_alike, many_whole}
 use Rattle.dnsv_program.proofs.work.run.Goals as goal

@@ -9,7 +9,7 @@ use Rattle.dnsv_program.specs.Run.{IsFirstFaultThroughout}
 use Rattle.dnsv_work.specs.Reached.{IsReachedOfFiles}
 use Rattle.dnsv_work.specs.Known.{AreMiscountedIn, Ground}
 use Rattle.dnsv_files.proofs.FileLemmas.Faults.{beside_passed, with_questions}
-use Rattle.dnsv_program.proofs.JudgedLemmas.{given_or_refused, ungiven_read, ungiven_writes}
+use Rattle.dnsv_asking.proofs.JudgedLemmas.{given_or_refused, ungiven_read, ungiven_writes}
 use Rattle.dnsv_work.proofs.WorkLemmas.InOrder.{none_given}
 use Rattle.dnsv_program.proofs.WorkLemmas.Timeline.{all_timed, stopped_throughout}
 use Rattle.dnsv_program.proofs.work.timeline.timeline_in.Goals as goal

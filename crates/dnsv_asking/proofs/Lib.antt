@@ -1,0 +1,3 @@
+mod AskingLemmas
+mod CheckingLemmas
+pub mod JudgedLemmas
