@@ -1,6 +1,2 @@
 -- What proofs of functions and laws rest on.
-pub mod marks
-pub mod one
-pub mod stands
 pub mod telling
-pub mod whole

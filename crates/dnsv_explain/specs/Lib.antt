@@ -1,2 +1,1 @@
-pub mod Aliases
 pub mod Explanation

@@ -6,5 +6,4 @@ pub mod SayingLemmas
 pub mod ShownLemmas
 pub mod TellingLemmas
 pub mod TimelineLemmas
-pub mod VerifierLemmas
 pub mod lemmas

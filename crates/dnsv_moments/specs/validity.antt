@@ -1,5 +1,4 @@
 -- What is said of a question at a moment, and which signatures it depends on.
-pub mod Alike
 pub mod Kinds
 pub mod Said
 pub mod SameValid

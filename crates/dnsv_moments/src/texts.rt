@@ -2,7 +2,6 @@
 
 pub mod borders;
 pub mod json;
-pub mod laws;
 pub mod lines;
 pub mod pieces;
 pub mod shown;

@@ -1,4 +1,3 @@
 //! What is said of a question at a moment: it depends on the moment through the validity of signatures alone.
 
 pub mod kind;
-pub mod laws;

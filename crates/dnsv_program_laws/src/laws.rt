@@ -10,9 +10,9 @@ ghost use Rattle.dnsv_commands.specs.declared.request.Request.{Request};
 
 use dnsv_canonical::{evidence_or_one_refusal, one_signed_data};
 use dnsv_chain::a_text_is_one_list_of_anchors;
-use dnsv_explain::a_report_has_one_explanation;
+use dnsv_explain_laws::a_report_has_one_explanation;
 use dnsv_message::{no_fault_of_a_message, one_answer, one_fault, one_message};
-use dnsv_moments::{
+use dnsv_moment_laws::{
     a_timeline_has_one_text, one_thing_is_said_of_a_question, what_is_refused_throughout,
 };
 use dnsv_names::a_text_has_one_reading;

@@ -6,7 +6,6 @@ ghost use Rattle.dnsv_derivations.specs.Following.{EachFollows};
 ghost use Rattle.dnsv_derivations.specs.Places.{ArePlacesTold};
 ghost use Rattle.dnsv_derivations.specs.Saying.{Adds};
 
-use crate::laws::lines_that_follow_are_true;
 use dnsv_derivations::{Evidence, holding_of, places_named};
 use dnsv_lines::{Line, RrsetPlace};
 use std::alloc::{AllocError, Global};
@@ -20,7 +19,6 @@ pub fn add_end(
     requires { EachFollows (setting_in evidence.now) [] lines.now.items }
     ensures { OnOk result (Adds (IsEnd evidence.now.rrsets evidence.now.table.moment) lines.old.items lines.new.items) }
 {
-    lines_that_follow_are_true();
     let interval = holding_of(alloc, evidence.capture(), lines, evidence.moment())?;
     let places = places_named(alloc, evidence.capture(), lines)?;
     lines.push(Line::Holds(interval))?;

@@ -1,6 +1,5 @@
 -- What is told of a verdict: its lines, and that each follows.
 pub mod DerivedLemmas
-pub mod FollowingLemmas
 pub mod RefusalLemmas
 pub mod SecureLemmas
 pub mod TellLemmas

@@ -1,5 +1,4 @@
 -- The text of a timeline, piece by piece.
-pub mod OneTextLemmas
 pub mod PieceLemmas
 pub mod ShownLemmas
 pub mod TextLemmas

@@ -40,7 +40,7 @@ use Rattle.dnsv_holding.specs.Explained.{basis_in}
 use Rattle.dnsv_holding.specs.Holding.{IsEndTold, IsHoldingTold, IsLinkTold, IsSetTold, IsSettledTold, IsVerdictTold, signature_of}
 use Rattle.dnsv_explain.specs.Explanation.{IsExplanation, IsFailureTold}
 use Rattle.dnsv_holding.specs.Holding.IsSetTold.{as_owned, by_wildcard}
-use Rattle.dnsv_explain.proofs.lemmas.stands.WholeLemmas.{links_secure}
+use Rattle.dnsv_explain_laws.proofs.lemmas.stands.WholeLemmas.{links_secure}
 use Rattle.dnsv_rules.specs.Borne.{BearsOut, DeniesType, IsDenialBorne, IsSetBorne}
 use Rattle.dnsv_rules.specs.Explained.{asked_by}
 use Rattle.dnsv_rules.specs.Told.{IsShownGood, shown_said, told_words}

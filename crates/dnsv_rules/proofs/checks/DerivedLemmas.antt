@@ -14,7 +14,7 @@ use Rattle.dnsv_derivations.specs.derivations.HeldTo.IsLowestDerived.{unsigned a
 use Rattle.dnsv_derivations.specs.derivations.OwnDerivations.{AreRecordsDerived, IsOwnDerivation, IsSignatureTold}
 use Rattle.dnsv_lines.specs.declared.line.Line.{Line}
 use Rattle.dnsv_lines.specs.declared.line.Line.TheVariants as line
-use Rattle.dnsv_holding.proofs.lemmas.keys.EachLemmas.{Each, both_each, none_each, one_each}
+use Rattle.dnsv_explain_laws.proofs.holding.EachLemmas.{Each, both_each, none_each, one_each}
 use Rattle.dnsv_rules.specs.Checked.{Asked, IsSoFor}
 
 module _ (setting : Setting) (asked : Asked) (all : List Line) where

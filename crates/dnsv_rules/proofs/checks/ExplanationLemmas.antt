@@ -24,7 +24,7 @@ use Rattle.dnsv_explain.specs.Explanation.{IsExplanation, IsFailureTold, asking_
 use Rattle.dnsv_holding.specs.Holding.IsSetTold.{as_owned, by_wildcard}
 use Rattle.dnsv_holding.specs.KeyLines.{AreLinesOfKeysAsked, AreLinesOfSet, IsInQuestion, IsKeyLine}
 use Rattle.dnsv_holding.specs.Listing.{AreOfNumbered}
-use Rattle.dnsv_holding.proofs.lemmas.keys.EachLemmas.{Each, both_each, mapped_each, numbered_each, one_each, where_each}
+use Rattle.dnsv_explain_laws.proofs.holding.EachLemmas.{Each, both_each, mapped_each, numbered_each, one_each, where_each}
 use Rattle.dnsv_explain.proofs.lemmas.telling.ExplanationLemmas.{explanation_follows}
 use Rattle.dnsv_explain.proofs.lemmas.telling.QuietLemmas.{IsFault, failures_fault}
 use Rattle.dnsv_rules.specs.Checked.{Asked, Checks, IsOnWay, IsSoFor}

@@ -31,7 +31,7 @@ use Rattle.dnsv_lines.specs.declared.line.cut.InsecureCase.{InsecureCase}
 use Rattle.dnsv_lines.specs.declared.line.denial.Form.{Form}
 use Rattle.dnsv_lines.specs.declared.line.denial.Proof.{Proof}
 use Rattle.dnsv_lines.specs.declared.line.denial.Role.{Role}
-use Rattle.dnsv_holding.proofs.lemmas.keys.EachLemmas.{Each, both_each, none_each, one_each}
+use Rattle.dnsv_explain_laws.proofs.holding.EachLemmas.{Each, both_each, none_each, one_each}
 use Rattle.dnsv_rules.specs.Checked.{Asked, DeniesAsked, DeniesIf, IsNameFor, IsOnWay, IsProvedBy, IsSoFor}
 use Rattle.dnsv_rules.specs.Told.{shown_said, told_words}
 use Rattle.dnsv_rules.proofs.checks.DenyLemmas.{PartDenies, denied_by}

@@ -18,7 +18,7 @@ use Rattle.dnsv_lines.specs.declared.line.cut.InsecureCase.{InsecureCase}
 use Rattle.dnsv_lines.specs.declared.line.cut.InsecureCase.TheVariants as case
 use Rattle.dnsv_holding.specs.Holding.{IsUnsignedFromTold, signature_of}
 use Rattle.dnsv_holding.specs.Holding.IsUnsignedFromTold.{by_cut, by_wildcard}
-use Rattle.dnsv_holding.proofs.lemmas.keys.EachLemmas.{Each, mapped_each, one_each}
+use Rattle.dnsv_explain_laws.proofs.holding.EachLemmas.{Each, mapped_each, one_each}
 use Rattle.dnsv_rules.specs.Checked.{Asked}
 use Rattle.dnsv_rules.proofs.checks.DerivedLemmas.{signature_so}
 use Rattle.dnsv_rules.proofs.checks.ShownLemmas.{delegation_told, opt_out_told, out_closer_told}

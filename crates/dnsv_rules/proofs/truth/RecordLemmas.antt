@@ -20,7 +20,7 @@ use Rattle.dnsv_derivations.proofs.lemmas.denials.PartLemmas.{secured_too}
 use Rattle.dnsv_lines.specs.declared.line.Line.{Line}
 use Rattle.dnsv_lines.specs.declared.line.denial.Relation.{Relation}
 use Rattle.dnsv_lines.specs.declared.line.denial.Relation.TheVariants as relation
-use Rattle.dnsv_holding.proofs.lemmas.telling.FollowingLemmas.{all_true, no_lines, said_secured}
+use Rattle.dnsv_explain_laws.proofs.holding.FollowingLemmas.{all_true, no_lines, said_secured}
 use Rattle.dnsv_rules.specs.Told.{IsShownGood, IsTold, shown_said, told_words}
 use Rattle.dnsv_rules.specs.Truth.{IsOfChain, IsPartsRecord, IsShownSecured}
 use Rattle.dnsv_rules.proofs.truth.FormLemmas.{AreSuch}

@@ -1,4 +1,5 @@
 use Rattle.dnsv_derivations.specs.Explained.{setting_in}
+use Rattle.dnsv_derivations.proofs.lemmas.intervals.MomentLemmas.{all_shown_valid}
 use Rattle.dnsv_explain.proofs.lemmas.telling.ExplanationLemmas.{end_added, valid_there}
 use Rattle.dnsv_explain.proofs.explanation.end.add_end.Goals as goal
 
@@ -6,7 +7,7 @@ pub holding_of-requires : goal.holding_of-requires
 holding_of-requires c =
     valid_there c.args.evidence.now.rrsets c.capture.result.now.rrsets c.args.lines.now.items c.deref.result.now
     c.args.evidence.now.table.moment c.moment.result c.capture.ensures c.deref.ensures.value c.moment.ensures
-    (c.lines_that_follow_are_true.ensures.valid (setting_in c.args.evidence.now) c.args.lines.now.items c.requires)
+    (all_shown_valid (setting_in c.args.evidence.now) c.args.lines.now.items c.requires)
 
 pub returns : goal.returns
 returns c =

@@ -1,0 +1,3 @@
+-- What is so under a hope.
+pub mod HopedLemmas
+pub mod LineLemmas
