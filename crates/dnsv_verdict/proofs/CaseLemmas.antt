@@ -11,7 +11,7 @@ use Rattle.dnsv_verifier.specs.declared.entry.Entry.{Entry}
 use Rattle.dnsv_denial.specs.proving.FirstProof.{CanProveNoData, CanProveNoName, IsFirstNoData, IsFirstNoName, ProofRecords}
 use Rattle.dnsv_denial.specs.unsigned_cuts.Cuts.{HasUnsignedCut}
 use Rattle.dnsv_verdict.proofs.SearchLemmas.FirstSuchLemmas.{one_first_such}
-use Rattle.dnsv_verdict.proofs.SureLemmas.OneProof.{can_be, one_cut, cut_stands, one_first_no_name, one_first_no_data}
+use Rattle.dnsv_verdict.proofs.OneProof.{can_be, one_cut, cut_stands, one_first_no_name, one_first_no_data}
 use Rattle.dnsv_verdict.proofs.UnknownLemmas.{one_unknown}
 use Rattle.dnsv_verdict.specs.Insecure.{IsOptOutWildcardCut, IsOptOutWildcardSet, IsUnsigned, IsUnsignedFrom}
 use Rattle.dnsv_verdict.specs.Secure.{IsFirstSuch, IsSecuredAt, IsSecureSet}

@@ -1,7 +1,7 @@
-mod AnchorLemmas
 pub mod CaseLemmas
 mod MeaningLemmas
 pub mod OfCase
+pub mod OneProof
 pub mod ReportLemmas
 pub mod SearchLemmas
 pub mod SettledLemmas

@@ -1,5 +1,4 @@
 -- What can't fail to be. Where a thing isn't decided, "it can't be that there is none" stands for "there is one".
-pub mod OneProof
 pub mod FiniteLemmas
 pub mod SomeProof
 pub mod SomeVerdict

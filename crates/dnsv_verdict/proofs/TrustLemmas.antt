@@ -1,4 +1,5 @@
 -- What the trust of a table makes good is what the verifier makes good.
+pub mod AnchorLemmas
 use Rattle.std.proofs.Common.{◌≡◌, ℕ, List, subst, sym}
 use Rattle.dnsv_canonical.specs.Rrsets.{ReceivedRrset}
 use Rattle.dnsv_verifier.specs.Admissible.{IsAsked}

@@ -29,7 +29,7 @@ use Rattle.dnsv_derivations.specs.derivations.OwnDerivations.{IsTrustIn, Secured
 use Rattle.dnsv_canonical.proofs.NumberLemmas.{one_numbered}
 use Rattle.dnsv_denial.proofs.lemmas.more.EvidenceLemmas.{first_no_data_to, first_no_name_to}
 use Rattle.dnsv_denial.proofs.lemmas.proving.FirstProofLemmas.{proof_of_no_data, proof_of_no_name}
-use Rattle.dnsv_verdict.proofs.SureLemmas.OneProof.{one_first_no_data, one_first_no_name}
+use Rattle.dnsv_verdict.proofs.OneProof.{one_first_no_data, one_first_no_name}
 use Rattle.dnsv_derivations.proofs.lemmas.denials.PartLemmas.{zone_as}
 use Rattle.dnsv_derivations.proofs.lemmas.denials.StandingLemmas.{each_by}
 use Rattle.dnsv_derivations.proofs.lemmas.denials.TrustLemmas.{kept_good}

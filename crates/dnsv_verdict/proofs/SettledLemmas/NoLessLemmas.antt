@@ -13,7 +13,7 @@ use Rattle.dnsv_chain.specs.declared.anchor.Anchor.{Anchor}
 use Rattle.dnsv_denial.specs.proving.FirstProof.{CanProveNoData, CanProveNoName}
 use Rattle.dnsv_verdict.proofs.CaseLemmas.{unsigned_stands}
 use Rattle.dnsv_denial.proofs.lemmas.more.EvidenceLemmas.{no_name_can_to, no_data_can_to}
-use Rattle.dnsv_verdict.proofs.SureLemmas.OneProof.{can_be}
+use Rattle.dnsv_verdict.proofs.OneProof.{can_be}
 use Rattle.dnsv_verdict.proofs.SettledLemmas.{answer_to, alias_to, settled_to, unsigned_to}
 use Rattle.dnsv_verdict.specs.Insecure.{IsUnsigned}
 use Rattle.dnsv_verdict.specs.Settled.NoLess.{IsNoLess, case_of}

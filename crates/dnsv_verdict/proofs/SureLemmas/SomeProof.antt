@@ -24,7 +24,7 @@ use Rattle.dnsv_denial.specs.words.EvidenceWords.Chain.{ByNsec, ByNsec3}
 use Rattle.dnsv_denial.proofs.lemmas.gathering.NameHashesLemmas.{member_at}
 use Rattle.dnsv_canonical.specs.declared.number.RecordNumber.{RecordNumber}
 use Rattle.dnsv_verdict.proofs.SureLemmas.FiniteLemmas.{IsFinite, finite_each, finite_one, finite_within, some_first, some_sorted}
-use Rattle.dnsv_verdict.proofs.SureLemmas.OneProof.{number_exact, number_total, parameters_exact, parameters_total}
+use Rattle.dnsv_verdict.proofs.OneProof.{number_exact, number_total, parameters_exact, parameters_total}
 use Rattle.dnsv_verdict.proofs.SureLemmas.{Surely, surely, and_then, by_cases, some_fewest, some_most, some_record}
 
 -- ---- chosen records

@@ -23,7 +23,7 @@ use Rattle.dnsv_denial.specs.declared.forms.proof_form.ProofForm.{ProofForm}
 use Rattle.dnsv_denial.specs.declared.forms.proof_form.ProofForm.TheVariants as form
 use Rattle.dnsv_denial.specs.declared.forms.proof_form.WildcardParts.{WildcardParts}
 use Rattle.dnsv_canonical.specs.declared.number.RecordNumber.{RecordNumber}
-use Rattle.dnsv_verdict.proofs.SureLemmas.OneProof.{number_exact, number_total}
+use Rattle.dnsv_verdict.proofs.OneProof.{number_exact, number_total}
 use Rattle.dnsv_derivations.proofs.lemmas.one.StepLemmas.{even}
 
 first_by : (Says : RecordNumber → Type 0) (a b : RecordNumber) (o : Ordering) → number_cmp a b ≡ o → IsFirstToSay number_cmp Says a

@@ -20,7 +20,7 @@ use Rattle.dnsv_denial.specs.declared.proving.shown_denial.ShownDenial.{ShownDen
 use Rattle.dnsv_canonical.specs.declared.number.RecordNumber.{RecordNumber}
 use Rattle.dnsv_denial.specs.declared.unsigned_cuts.shown_cut.ShownCut.{ShownCut}
 use Rattle.dnsv_denial.specs.declared.unsigned_cuts.shown_cut.ShownCut.TheVariants as cut
-use Rattle.dnsv_verdict.proofs.SureLemmas.OneProof.{chains, one_fewest, one_greatest, one_list, one_most}
+use Rattle.dnsv_verdict.proofs.OneProof.{chains, one_fewest, one_greatest, one_list, one_most}
 use Rattle.dnsv_derivations.specs.Explained.{Setting}
 use Rattle.dnsv_derivations.specs.derivations.OwnDerivations.{IsTrustIn}
 use Rattle.dnsv_denial.proofs.lemmas.RisingLemmas.{one_rising}

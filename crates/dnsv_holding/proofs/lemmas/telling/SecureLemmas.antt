@@ -11,7 +11,7 @@ use Rattle.dnsv_canonical.specs.Rrsets.{IsNumbered, ReceivedRrset}
 use Rattle.dnsv_canonical.specs.SignedData.{IsExpanded}
 use Rattle.dnsv_denial.specs.proving.FirstProof.{CanProveNoCloser, CanProveNoData, CanProveNoName, ProofRecords}
 use Rattle.dnsv_denial.specs.unsigned_cuts.Cuts.{HasUnsignedCut, IsUnsignedCut}
-use Rattle.dnsv_verdict.proofs.SureLemmas.OneProof.{can_be, cut_stands}
+use Rattle.dnsv_verdict.proofs.OneProof.{can_be, cut_stands}
 use Rattle.dnsv_verifier.specs.declared.entry.Entry.{Entry}
 use Rattle.dnsv_chain.specs.Basis.{basis_by, Basis, CaseContents}
 use Rattle.dnsv_verdict.specs.Insecure.{IsOptOutWildcardCut, IsUnsigned, IsUnsignedFrom}

@@ -15,7 +15,7 @@ use Rattle.dnsv_remedies.specs.declared.facts.denial.RecordsAt.{RecordsAt}
 use Rattle.dnsv_remedies.specs.declared.facts.denial.RecordsAt.TheVariants as records
 use Rattle.dnsv_remedies.specs.declared.facts.denial.WildcardFacts.{WildcardFacts}
 use Rattle.dnsv_remedies.specs.declared.facts.denial.WildcardFacts.TheVariants as wildcard
-use Rattle.dnsv_verdict.proofs.SureLemmas.OneProof.{number_exact, number_total}
+use Rattle.dnsv_verdict.proofs.OneProof.{number_exact, number_total}
 use Rattle.dnsv_chain.specs.Basis.{Basis}
 use Rattle.dnsv_gaps.specs.Cases.{AreHeld, AreRecordsAt, AreWildcardFacts, IsAt, IsDenying, IsHeld, IsHeldAt, IsRuledOut, why_held}
 use Rattle.dnsv_gaps.specs.Cases.IsHeld.{asked, alias, apex, none}

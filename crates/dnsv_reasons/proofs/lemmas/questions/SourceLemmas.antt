@@ -14,7 +14,7 @@ use Rattle.dnsv_denial.proofs.lemmas.proving.ZoneChainLemmas.{no_circle}
 use Rattle.dnsv_denial.specs.words.EvidenceWords.{Chain, GoesBefore, number_cmp}
 use Rattle.dnsv_denial.specs.words.EvidenceWords.Chain.{ByNsec, ByNsec3}
 use Rattle.dnsv_remedies.specs.declared.facts.name.UnusableFacts.{UnusableFacts}
-use Rattle.dnsv_verdict.proofs.SureLemmas.OneProof.{number_total}
+use Rattle.dnsv_verdict.proofs.OneProof.{number_total}
 use Rattle.dnsv_gaps.specs.Asking.{Asking}
 use Rattle.dnsv_gaps.specs.Cases.{IsAt}
 use Rattle.dnsv_gaps.specs.Sources.{AreSources, HasRecords, source_said}

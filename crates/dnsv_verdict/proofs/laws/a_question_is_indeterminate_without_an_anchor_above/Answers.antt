@@ -1,4 +1,4 @@
-use Rattle.dnsv_verdict.proofs.AnchorLemmas.{indeterminate}
+use Rattle.dnsv_verdict.proofs.TrustLemmas.AnchorLemmas.{indeterminate}
 use Rattle.dnsv_verdict.proofs.laws.a_question_is_indeterminate_without_an_anchor_above.Goals as goal
 
 pub returns : goal.returns
