@@ -1,10 +1,7 @@
 -- Lemmas, some of which crates above cite.
 pub mod RisingLemmas
 pub mod WildcardAnswerLemmas
-pub mod forms
 pub mod gathering
 pub mod more
 pub mod proving
-pub mod records
 pub mod unsigned_cuts
-pub mod words

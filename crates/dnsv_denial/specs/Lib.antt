@@ -1,10 +1,5 @@
-pub mod KeptHashes
-pub mod QuestionHashes
 pub mod Viewed
 pub mod WildcardAnswers
-pub mod forms
 pub mod gathering
 pub mod proving
-pub mod records
 pub mod unsigned_cuts
-pub mod words

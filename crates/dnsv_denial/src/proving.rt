@@ -3,6 +3,5 @@ pub mod chain_proof;
 pub mod first_proof;
 pub mod numbers;
 pub mod proof;
-pub mod proof_part;
 pub mod shown_denial;
 pub mod zone_proof;

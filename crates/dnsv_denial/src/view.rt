@@ -14,32 +14,25 @@ ghost use Rattle.dnsv_canonical.specs.Evidence.{AreParameters, nsec3_rdata};
 ghost use Rattle.dnsv_chain.specs.Trust.{SecuredIn};
 ghost use Rattle.dnsv_denial.specs.gathering.ByZone.{AreDenialRecords};
 ghost use Rattle.dnsv_denial.specs.gathering.Kept.{AreZones};
-ghost use Rattle.dnsv_denial.specs.proving.FirstProof.{
-  CanProveNoCloser,
-  CanProveNoData,
-  CanProveNoName,
-  IsFirstNoCloser,
-  IsFirstNoData,
-  IsFirstNoName,
-};
+ghost use Rattle.dnsv_denial.specs.proving.FirstProof.{CanProveNoCloser, CanProveNoData, CanProveNoName, IsFirstNoCloser, IsFirstNoData, IsFirstNoName};
 ghost use Rattle.dnsv_denial.specs.proving.ProofMeaning.{HasProofRecords, HasProofWithoutCollision};
 ghost use Rattle.dnsv_denial.specs.proving.WholeChain.{HasWholeChainWithoutOptOut, HasWholeChain, HasWholeNsec3Chain, IsJustChainWithoutOptOut};
 ghost use Rattle.dnsv_denial.specs.unsigned_cuts.CutMeaning.{IsCoveredEnd, MeansCut};
 ghost use Rattle.dnsv_denial.specs.unsigned_cuts.Cuts.{HasOptedOutNextCloser, HasUnsignedCut, IsUnsignedCut};
-ghost use Rattle.dnsv_denial.specs.words.EvidenceWords.{Chain, evidence_said};
+ghost use Rattle.dnsv_denial.specs.gathering.EvidenceWords.{Chain, evidence_said};
 
 use crate::gathering::denial_records::DenialRecords;
 use crate::gathering::expanded::expanded_types;
+use crate::gathering::zone_records::ZoneRecords;
 use crate::gathering::zones::{lent_zones, own_zones};
 use crate::proving::proof::Proof;
 use crate::proving::shown_denial::proof_of;
-use crate::question_hashes::Hashes;
-use crate::records::zone_records::{NameHashes, ZoneRecords};
 use crate::unsigned_cuts::kept_cuts::{opted_out_next_closer, unsigned_cut};
 use crate::wildcard_answers::{WildcardAnswers, is_not_opted_out, wildcard_answers};
 use dnsv_canonical::Capture;
 use dnsv_chain::Trust;
 use dnsv_names::{Count, Name, RecordType};
+use dnsv_proof_forms::{Hashes, NameHashes};
 use std::alloc::{AllocError, Global};
 use std::marker::Model;
 use std::rc::Rc;

@@ -7,12 +7,13 @@ ghost use Rattle.dnsv_denial.specs.gathering.Kept.{IsViewOf};
 ghost use Rattle.dnsv_denial.specs.proving.FirstProof.{CanProveNoCloser};
 ghost use Rattle.dnsv_denial.specs.unsigned_cuts.Cuts.{HasOptedOutNextCloser};
 
+use crate::gathering::zone_records::ZoneRecords;
 use crate::proving::first_proof::no_closer;
-use crate::records::zone_records::{NameHashes, ZoneRecords};
 use crate::unsigned_cuts::kept_cuts::opted_out_next_closer;
 use dnsv_canonical::{Capture, Rrset, is_expanded};
 use dnsv_chain::Trust;
 use dnsv_names::{Name, RecordType};
+use dnsv_proof_forms::NameHashes;
 use std::alloc::{AllocError, Global};
 use std::collections::BTreeMap;
 

@@ -6,23 +6,23 @@ use Rattle.dnsv_names.specs.Name.{Labels, SameName, rightmost}
 use Rattle.dnsv_zones.specs.forms.Parts.{OptsOut}
 use Rattle.dnsv_canonical.specs.Rrsets.{IsNumbered, ReceivedRrset}
 use Rattle.dnsv_chain.specs.Trust.{KeptTrust, SecuredIn}
-use Rattle.dnsv_denial.specs.forms.Denials.{IsDelegationAt}
-use Rattle.dnsv_denial.specs.forms.ProofForms.{form_encloser}
-use Rattle.dnsv_denial.specs.forms.ShownUnsigned.{ShowsDelegation, ShowsOptOut}
-use Rattle.dnsv_denial.specs.proving.ProofParts.{IsPartName, form_parts, part_name}
+use Rattle.dnsv_proof_forms.specs.forms.Denials.{IsDelegationAt}
+use Rattle.dnsv_proof_forms.specs.forms.ProofForms.{form_encloser}
+use Rattle.dnsv_proof_forms.specs.forms.ShownUnsigned.{ShowsDelegation, ShowsOptOut}
+use Rattle.dnsv_proof_forms.specs.forms.ProofParts.{IsPartName, form_parts, part_name}
 use Rattle.dnsv_denial.specs.proving.ShownDenials.{IsFirstShown, IsShownNoCloser, IsShownNoData, IsShownNoName}
 use Rattle.dnsv_denial.specs.unsigned_cuts.ShownCut.{IsShownOptOutCloser}
-use Rattle.dnsv_denial.specs.words.EvidenceWords.{number_cmp}
-use Rattle.dnsv_denial.specs.declared.forms.proof_form.ProofForm.{ProofForm}
-use Rattle.dnsv_denial.specs.declared.forms.proof_form.ProofForm.TheVariants as shown_form
-use Rattle.dnsv_denial.specs.declared.proving.proof_part.PartName.{PartName}
-use Rattle.dnsv_denial.specs.declared.proving.proof_part.PartName.TheVariants as part
-use Rattle.dnsv_denial.specs.declared.proving.proof_part.PartRelation.{PartRelation}
-use Rattle.dnsv_denial.specs.declared.proving.proof_part.PartRelation.TheVariants as related
-use Rattle.dnsv_denial.specs.declared.proving.proof_part.ProofPart.{ProofPart}
+use Rattle.dnsv_denial.specs.gathering.EvidenceWords.{number_cmp}
+use Rattle.dnsv_proof_forms.specs.declared.forms.proof_form.ProofForm.{ProofForm}
+use Rattle.dnsv_proof_forms.specs.declared.forms.proof_form.ProofForm.TheVariants as shown_form
+use Rattle.dnsv_proof_forms.specs.declared.forms.proof_part.PartName.{PartName}
+use Rattle.dnsv_proof_forms.specs.declared.forms.proof_part.PartName.TheVariants as part
+use Rattle.dnsv_proof_forms.specs.declared.forms.proof_part.PartRelation.{PartRelation}
+use Rattle.dnsv_proof_forms.specs.declared.forms.proof_part.PartRelation.TheVariants as related
+use Rattle.dnsv_proof_forms.specs.declared.forms.proof_part.ProofPart.{ProofPart}
 use Rattle.dnsv_denial.specs.declared.proving.shown_denial.ShownDenial.{ShownDenial}
-use Rattle.dnsv_denial.specs.declared.records.chain_kind.ChainKind.{ChainKind}
-use Rattle.dnsv_denial.specs.declared.records.chain_kind.ChainKind.TheVariants as kind
+use Rattle.dnsv_proof_forms.specs.declared.records.chain_kind.ChainKind.{ChainKind}
+use Rattle.dnsv_proof_forms.specs.declared.records.chain_kind.ChainKind.TheVariants as kind
 use Rattle.dnsv_canonical.specs.declared.number.RecordNumber.{RecordNumber}
 use Rattle.dnsv_derivations.specs.Explained.{Setting}
 use Rattle.dnsv_derivations.specs.Following.Parts.{IsPlaceOfRecord}

@@ -10,9 +10,10 @@ ghost use Rattle.dnsv_derivations.specs.unsigned_cuts.ShownCuts.{IsCutShownBy, I
 use crate::denials::add_denial;
 use crate::evidence::Evidence;
 use crate::unsigned_cuts::unusable::add_unusable;
-use dnsv_denial::{PartName, ShownCut};
+use dnsv_denial::ShownCut;
 use dnsv_lines::Line;
 use dnsv_names::Name;
+use dnsv_proof_forms::PartName;
 use std::alloc::{AllocError, Global};
 
 /// Adds the lines of the name from which on the name may be unsigned: the derivation of what shows it, the case, and

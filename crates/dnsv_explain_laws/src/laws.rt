@@ -5,7 +5,7 @@ ghost use Rattle.std.specs.Prelude.{◌≡◌, ◌≤◌, ℕ, [], List, Some, C
 ghost use Rattle.dnsv_names.specs.Name.{Labels};
 ghost use Rattle.dnsv_canonical.specs.Rrsets.{IsNumbered, ReceivedRrset};
 ghost use Rattle.dnsv_chain.specs.Trusted.{IsSecured, IsTrusted};
-ghost use Rattle.dnsv_denial.specs.words.EvidenceWords.{Chain};
+ghost use Rattle.dnsv_denial.specs.gathering.EvidenceWords.{Chain};
 ghost use Rattle.dnsv_derivations.specs.Explained.{Explained, Setting};
 ghost use Rattle.dnsv_holding.specs.Explained.{basis_in};
 ghost use Rattle.dnsv_verdict.specs.Report.{IsReport};

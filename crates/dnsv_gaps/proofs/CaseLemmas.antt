@@ -14,17 +14,17 @@ use Rattle.dnsv_zones.specs.forms.RecordWords.{RecordWords, words}
 use Rattle.dnsv_zones.specs.zones.TypeNumbers.{dname}
 use Rattle.dnsv_zones.specs.zones.Types.{IsClosed}
 use Rattle.dnsv_canonical.specs.declared.number.RecordNumber.{RecordNumber}
-use Rattle.dnsv_denial.proofs.lemmas.words.IndexLemmas.{SayAlike, SaysAlike}
-use Rattle.dnsv_denial.specs.proving.Numbers.{number_at, numbers_of, record_count}
-use Rattle.dnsv_denial.specs.words.ChainSaid.{IsTypesAt, chain_said}
-use Rattle.dnsv_denial.specs.words.EvidenceWords.{number_cmp}
-use Rattle.dnsv_denial.specs.words.SaidAt.{AreAllPlaces}
-use Rattle.dnsv_denial.specs.declared.words.asked.AskedName.TheVariants.{Above, Wildcard}
-use Rattle.dnsv_denial.specs.declared.words.asked.AskedName.{AskedName}
-use Rattle.dnsv_denial.specs.declared.words.asked.AskedTypes.TheVariants as kinds
-use Rattle.dnsv_denial.specs.declared.words.asked.AskedWord.{AskedWord}
-use Rattle.dnsv_denial.specs.declared.words.asked.AskedWord.TheVariants as word
-use Rattle.dnsv_denial.specs.words.Asked.{asked_name, said_word}
+use Rattle.dnsv_proof_forms.proofs.lemmas.words.IndexLemmas.{SayAlike, SaysAlike}
+use Rattle.dnsv_proof_forms.specs.records.Numbers.{number_at, numbers_of, record_count}
+use Rattle.dnsv_proof_forms.specs.words.ChainSaid.{IsTypesAt, chain_said}
+use Rattle.dnsv_denial.specs.gathering.EvidenceWords.{number_cmp}
+use Rattle.dnsv_proof_forms.specs.words.SaidAt.{AreAllPlaces}
+use Rattle.dnsv_proof_forms.specs.declared.words.asked.AskedName.TheVariants.{Above, Wildcard}
+use Rattle.dnsv_proof_forms.specs.declared.words.asked.AskedName.{AskedName}
+use Rattle.dnsv_proof_forms.specs.declared.words.asked.AskedTypes.TheVariants as kinds
+use Rattle.dnsv_proof_forms.specs.declared.words.asked.AskedWord.{AskedWord}
+use Rattle.dnsv_proof_forms.specs.declared.words.asked.AskedWord.TheVariants as word
+use Rattle.dnsv_proof_forms.specs.words.Asked.{asked_name, said_word}
 use Rattle.dnsv_lines.specs.declared.line.fault.denial.WhySource.{WhySource}
 use Rattle.dnsv_chain.specs.Basis.{basis_by, Basis}
 use Rattle.dnsv_remedies.specs.declared.facts.denial.ClosedFacts.{ClosedFacts}

@@ -7,14 +7,14 @@ use Rattle.dnsv_names.specs.Name.{Labels}
 use Rattle.dnsv_canonical.proofs.OrderLemmas.{each_member, each_of}
 use Rattle.dnsv_canonical.specs.declared.number.RecordNumber.{RecordNumber}
 use Rattle.std.proofs.lemmas.List.Elements.{Contains-get_or}
-use Rattle.dnsv_denial.proofs.lemmas.words.IndexLemmas.{SayAlike, SaysAlike}
-use Rattle.dnsv_denial.specs.proving.Numbers.{number_at, numbers_of, record_count}
-use Rattle.dnsv_denial.specs.words.Asked.{asked_name, said_word}
-use Rattle.dnsv_denial.specs.words.ChainSaid.{chain_said}
-use Rattle.dnsv_denial.specs.words.EvidenceWords.{number_cmp}
-use Rattle.dnsv_denial.specs.words.SaidAt.{AreAllPlaces}
-use Rattle.dnsv_denial.specs.declared.words.asked.AskedName.{AskedName}
-use Rattle.dnsv_denial.specs.declared.words.asked.AskedWord.{AskedWord}
+use Rattle.dnsv_proof_forms.proofs.lemmas.words.IndexLemmas.{SayAlike, SaysAlike}
+use Rattle.dnsv_proof_forms.specs.records.Numbers.{number_at, numbers_of, record_count}
+use Rattle.dnsv_proof_forms.specs.words.Asked.{asked_name, said_word}
+use Rattle.dnsv_proof_forms.specs.words.ChainSaid.{chain_said}
+use Rattle.dnsv_denial.specs.gathering.EvidenceWords.{number_cmp}
+use Rattle.dnsv_proof_forms.specs.words.SaidAt.{AreAllPlaces}
+use Rattle.dnsv_proof_forms.specs.declared.words.asked.AskedName.{AskedName}
+use Rattle.dnsv_proof_forms.specs.declared.words.asked.AskedWord.{AskedWord}
 use Rattle.dnsv_gaps.proofs.RisingLemmas.{mapped_from}
 use Rattle.dnsv_gaps.proofs.SourceLemmas.{alike, count_is, in_evidence, in_order, sayings_members, sayings_rising, some_said, word_alike}
 use Rattle.dnsv_gaps.specs.Asking.{asking}

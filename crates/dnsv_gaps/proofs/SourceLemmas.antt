@@ -16,23 +16,23 @@ use Rattle.dnsv_zones.specs.forms.RecordWords.{RecordWords}
 use Rattle.dnsv_canonical.proofs.OrderLemmas.{each_kept, each_member, each_of}
 use Rattle.dnsv_canonical.specs.declared.number.RecordNumber.{RecordNumber}
 use Rattle.dnsv_denial.proofs.lemmas.gathering.EvidenceLemmas.{all_said, all_to}
-use Rattle.dnsv_denial.proofs.lemmas.gathering.GatherLemmas.{mapped_length}
-use Rattle.dnsv_denial.proofs.lemmas.words.AlikeLemmas.{before_less, nsec3s_alike, nsecs_alike}
-use Rattle.dnsv_denial.proofs.lemmas.words.IndexLemmas.{SayAlike, SaysAlike}
+use Rattle.dnsv_proof_forms.proofs.lemmas.PlaceLemmas.{mapped_length}
+use Rattle.dnsv_denial.proofs.lemmas.gathering.AlikeLemmas.{before_less, nsec3s_alike, nsecs_alike}
+use Rattle.dnsv_proof_forms.proofs.lemmas.words.IndexLemmas.{SayAlike, SaysAlike}
 use Rattle.dnsv_denial.specs.gathering.Evidence.{IsNsecOf, IsNsec3Of}
 use Rattle.dnsv_denial.specs.gathering.Gathered.{AreAll, AreNsecs, AreNsec3s}
-use Rattle.dnsv_denial.specs.proving.Numbers.{number_at, numbers_of, record_count}
-use Rattle.dnsv_denial.specs.records.Record.{read_entry, read_nsec3}
-use Rattle.dnsv_denial.specs.words.Asked.{said_types, said_word}
-use Rattle.dnsv_denial.specs.words.ChainSaid.{IsTypesAt, chain_said}
-use Rattle.dnsv_denial.specs.words.EvidenceWords.{number_cmp}
-use Rattle.dnsv_denial.specs.words.SaidAt.{AreAllPlaces, IsSaidAt}
-use Rattle.dnsv_denial.specs.declared.records.chain_records.ChainRecords.{ChainRecords}
-use Rattle.dnsv_denial.specs.declared.records.chain_records.ChainRecords.TheVariants.{Nsec, Nsec3}
-use Rattle.dnsv_denial.specs.declared.records.entry.NsecEntry.{NsecEntry}
-use Rattle.dnsv_denial.specs.declared.records.entry.Nsec3Entry.{Nsec3Entry}
-use Rattle.dnsv_denial.specs.declared.words.asked.AskedWord.{AskedWord}
-use Rattle.dnsv_denial.specs.declared.words.asked.AskedWord.TheVariants as word
+use Rattle.dnsv_proof_forms.specs.records.Numbers.{number_at, numbers_of, record_count}
+use Rattle.dnsv_proof_forms.specs.records.Record.{read_entry, read_nsec3}
+use Rattle.dnsv_proof_forms.specs.words.Asked.{said_types, said_word}
+use Rattle.dnsv_proof_forms.specs.words.ChainSaid.{IsTypesAt, chain_said}
+use Rattle.dnsv_denial.specs.gathering.EvidenceWords.{number_cmp}
+use Rattle.dnsv_proof_forms.specs.words.SaidAt.{AreAllPlaces, IsSaidAt}
+use Rattle.dnsv_proof_forms.specs.declared.records.chain_records.ChainRecords.{ChainRecords}
+use Rattle.dnsv_proof_forms.specs.declared.records.chain_records.ChainRecords.TheVariants.{Nsec, Nsec3}
+use Rattle.dnsv_proof_forms.specs.declared.records.entry.NsecEntry.{NsecEntry}
+use Rattle.dnsv_proof_forms.specs.declared.records.entry.Nsec3Entry.{Nsec3Entry}
+use Rattle.dnsv_proof_forms.specs.declared.words.asked.AskedWord.{AskedWord}
+use Rattle.dnsv_proof_forms.specs.declared.words.asked.AskedWord.TheVariants as word
 use Rattle.dnsv_gaps.proofs.RisingLemmas.{contains_map, first_of_rising, mapped_from, not_before, number_there, numbers_rising, same_place}
 use Rattle.dnsv_gaps.specs.Asking.{Asking}
 use Rattle.dnsv_gaps.specs.Denials.{IsDenialNumber}

@@ -11,8 +11,8 @@ use Rattle.dnsv_names.specs.Name.{Labels, rightmost}
 use Rattle.dnsv_records.specs.OctetLaws.{recursion-append}
 use Rattle.dnsv_canonical.proofs.GroupLemmas.{placed-push}
 use Rattle.dnsv_chain.proofs.ZipLemmas.{zip_push}
-use Rattle.dnsv_denial.proofs.lemmas.gathering.GatherLemmas.{mapped_length}
-use Rattle.dnsv_denial.specs.words.EvidenceWords.{Chain}
+use Rattle.dnsv_proof_forms.proofs.lemmas.PlaceLemmas.{mapped_length}
+use Rattle.dnsv_denial.specs.gathering.EvidenceWords.{Chain}
 use Rattle.dnsv_faults.specs.KnownZones.{IsKnownZone}
 use Rattle.dnsv_remedies.specs.declared.facts.denial.SourceCase.{SourceCase}
 use Rattle.dnsv_remedies.specs.declared.facts.denial.SourceFacts.{SourceFacts}

@@ -21,7 +21,7 @@ use Rattle.dnsv_denial.proofs.lemmas.gathering.EvidenceLemmas.{one_record}
 use Rattle.dnsv_canonical.proofs.NumberLemmas.{one_numbered}
 use Rattle.dnsv_denial.proofs.lemmas.gathering.Gathering.{Grown, UpTo, grown_all, grown_none, grown_not, grown_one, none_in}
 use Rattle.dnsv_denial.proofs.lemmas.gathering.NsecGather.{place_within, record_at}
-use Rattle.dnsv_denial.proofs.lemmas.words.AlikeLemmas.{any_place}
+use Rattle.dnsv_denial.proofs.lemmas.gathering.AlikeLemmas.{any_place}
 use Rattle.dnsv_denial.specs.gathering.Evidence.{IsHashedOwner, IsNsec3Of, IsRecordAt}
 use Rattle.dnsv_denial.proofs.lemmas.gathering.Nsec3Gather.{forms_of}
 use Rattle.dnsv_lines.specs.declared.line.fault.denial.WhyNsec3.{WhyNsec3}

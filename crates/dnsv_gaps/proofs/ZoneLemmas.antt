@@ -18,23 +18,24 @@ use Rattle.dnsv_canonical.proofs.OrderLemmas.{each_of}
 use Rattle.dnsv_canonical.specs.Evidence.{AreParametersAmong, nsec3_rdata}
 use Rattle.dnsv_canonical.specs.Rrsets.{ReceivedRrset}
 use Rattle.dnsv_canonical.specs.declared.number.RecordNumber.{RecordNumber}
-use Rattle.dnsv_denial.proofs.lemmas.gathering.GatherLemmas.{each_at}
-use Rattle.dnsv_denial.proofs.lemmas.words.AlikeLemmas.{any_place}
+use Rattle.dnsv_proof_forms.proofs.lemmas.PlaceLemmas.{each_at}
+use Rattle.dnsv_denial.proofs.lemmas.gathering.AlikeLemmas.{any_place}
 use Rattle.dnsv_denial.proofs.lemmas.gathering.NameHashesLemmas.{rising_at, used_parameters}
-use Rattle.dnsv_denial.specs.QuestionHashes.{AreHashedFor, AreUsed}
+use Rattle.dnsv_proof_forms.specs.QuestionHashes.{AreHashedFor, AreUsed}
 use Rattle.dnsv_denial.specs.gathering.ByZone.{AreGatheredRecords}
 use Rattle.dnsv_denial.specs.gathering.Evidence.{IsNsecOf, IsNsec3Of}
 use Rattle.dnsv_denial.specs.gathering.Gathered.{AreAll, AreNsecs, AreNsec3s}
-use Rattle.dnsv_denial.specs.records.Record.{read_entry, read_nsec3}
-use Rattle.dnsv_denial.specs.words.EvidenceWords.{Chain, GoesBefore, parameters_cmp}
-use Rattle.dnsv_denial.specs.words.EvidenceWords.Chain.{ByNsec, ByNsec3}
-use Rattle.dnsv_denial.specs.words.EvidenceWords.GoesBefore.{by_parameters, nsec_first}
-use Rattle.dnsv_denial.specs.words.SaidAt.{IsSaidAt}
-use Rattle.dnsv_denial.specs.declared.gathering.parameters.OrderedParameters.{OrderedParameters}
-use Rattle.dnsv_denial.specs.declared.records.entry.NsecEntry.{NsecEntry}
-use Rattle.dnsv_denial.specs.declared.records.entry.Nsec3Entry.{Nsec3Entry}
-use Rattle.dnsv_denial.specs.declared.records.hashed_records.HashedRecords.{HashedRecords}
-use Rattle.dnsv_denial.specs.declared.records.zone_records.GatheredRecords.{GatheredRecords}
+use Rattle.dnsv_proof_forms.specs.records.Record.{read_entry, read_nsec3}
+use Rattle.dnsv_denial.specs.gathering.EvidenceWords.{Chain, GoesBefore}
+use Rattle.dnsv_proof_forms.specs.records.ParametersOrder.{parameters_cmp}
+use Rattle.dnsv_denial.specs.gathering.EvidenceWords.Chain.{ByNsec, ByNsec3}
+use Rattle.dnsv_denial.specs.gathering.EvidenceWords.GoesBefore.{by_parameters, nsec_first}
+use Rattle.dnsv_proof_forms.specs.words.SaidAt.{IsSaidAt}
+use Rattle.dnsv_proof_forms.specs.declared.records.parameters.OrderedParameters.{OrderedParameters}
+use Rattle.dnsv_proof_forms.specs.declared.records.entry.NsecEntry.{NsecEntry}
+use Rattle.dnsv_proof_forms.specs.declared.records.entry.Nsec3Entry.{Nsec3Entry}
+use Rattle.dnsv_proof_forms.specs.declared.records.hashed_records.HashedRecords.{HashedRecords}
+use Rattle.dnsv_denial.specs.declared.gathering.zone_records.GatheredRecords.{GatheredRecords}
 use Rattle.dnsv_gaps.proofs.RisingLemmas.{contains_map, mapped_from}
 use Rattle.dnsv_gaps.specs.Asking.{Asking, IsAsked, asking}
 use Rattle.dnsv_gaps.specs.Denials.{IsDenialNumber}

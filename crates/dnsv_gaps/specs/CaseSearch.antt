@@ -2,8 +2,8 @@
 use Rattle.std.specs.Prelude.{◌≡◌, ◌≢◌, ◌↔◌, ℕ, Bool, IsTrue, [], ◌∷◌, Option}
 use Rattle.dnsv_names.specs.declared.number.RecordType.{RecordType}
 use Rattle.dnsv_zones.specs.chains.NsecChain.{IsInBitmap}
-use Rattle.dnsv_denial.specs.proving.Numbers.{number_at, numbers_of}
-use Rattle.dnsv_denial.specs.words.ChainSaid.{IsTypesAt}
+use Rattle.dnsv_proof_forms.specs.records.Numbers.{number_at, numbers_of}
+use Rattle.dnsv_proof_forms.specs.words.ChainSaid.{IsTypesAt}
 use Rattle.dnsv_faults.specs.Rrsets.{AreRrsetFacts}
 use Rattle.dnsv_lines.specs.declared.line.fault.denial.WhySource.{WhySource}
 use Rattle.dnsv_chain.specs.Basis.{basis_by, Basis}
@@ -13,7 +13,7 @@ use Rattle.dnsv_zones.specs.forms.RecordWords.{RecordWords}
 use Rattle.dnsv_zones.specs.zones.TypeNumbers.{dname}
 use Rattle.dnsv_zones.specs.zones.Types.{IsClosed}
 use Rattle.dnsv_canonical.specs.declared.number.RecordNumber.{RecordNumber}
-use Rattle.dnsv_denial.specs.words.EvidenceWords.{number_cmp}
+use Rattle.dnsv_denial.specs.gathering.EvidenceWords.{number_cmp}
 use Rattle.dnsv_remedies.specs.declared.facts.denial.ClosedFacts.{ClosedFacts}
 use Rattle.dnsv_gaps.specs.Cases.{HasNone, IsHeld, why_held}
 use Rattle.dnsv_gaps.specs.Parts.{AreFactsOf}

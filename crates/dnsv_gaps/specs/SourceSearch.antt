@@ -7,20 +7,20 @@ use Rattle.dnsv_zones.specs.chains.Nsec3Chain.{Parameters}
 use Rattle.dnsv_zones.specs.chains.Rdata.{parameters_of}
 use Rattle.dnsv_zones.specs.forms.RecordWords.{RecordWords}
 use Rattle.dnsv_canonical.specs.declared.number.RecordNumber.{RecordNumber}
-use Rattle.dnsv_denial.specs.QuestionHashes.{AreHashedFor}
+use Rattle.dnsv_proof_forms.specs.QuestionHashes.{AreHashedFor}
 use Rattle.dnsv_denial.specs.gathering.ByZone.{AreGatheredRecords}
 use Rattle.dnsv_denial.specs.gathering.Gathered.{AreNsecs, AreNsec3s}
-use Rattle.dnsv_denial.specs.records.AskedHash.{HasHashesOf}
-use Rattle.dnsv_denial.specs.records.Record.{read_nsec3}
-use Rattle.dnsv_denial.specs.words.Asked.{asked_name, said_word}
-use Rattle.dnsv_denial.specs.words.ChainSaid.{HasHashes}
-use Rattle.dnsv_denial.specs.words.EvidenceWords.{Chain, number_cmp}
-use Rattle.dnsv_denial.specs.words.SaidAt.{IsSaidAt}
-use Rattle.dnsv_denial.specs.words.EvidenceWords.Chain.{ByNsec, ByNsec3}
-use Rattle.dnsv_denial.specs.declared.records.chain_records.ChainRecords.{ChainRecords}
-use Rattle.dnsv_denial.specs.declared.records.chain_records.ChainRecords.TheVariants.{Nsec, Nsec3}
-use Rattle.dnsv_denial.specs.declared.words.asked.AskedName.{AskedName}
-use Rattle.dnsv_denial.specs.declared.words.asked.AskedWord.{AskedWord}
+use Rattle.dnsv_proof_forms.specs.records.AskedHash.{HasHashesOf}
+use Rattle.dnsv_proof_forms.specs.records.Record.{read_nsec3}
+use Rattle.dnsv_proof_forms.specs.words.Asked.{asked_name, said_word}
+use Rattle.dnsv_proof_forms.specs.words.ChainSaid.{HasHashes}
+use Rattle.dnsv_denial.specs.gathering.EvidenceWords.{Chain, number_cmp}
+use Rattle.dnsv_proof_forms.specs.words.SaidAt.{IsSaidAt}
+use Rattle.dnsv_denial.specs.gathering.EvidenceWords.Chain.{ByNsec, ByNsec3}
+use Rattle.dnsv_proof_forms.specs.declared.records.chain_records.ChainRecords.{ChainRecords}
+use Rattle.dnsv_proof_forms.specs.declared.records.chain_records.ChainRecords.TheVariants.{Nsec, Nsec3}
+use Rattle.dnsv_proof_forms.specs.declared.words.asked.AskedName.{AskedName}
+use Rattle.dnsv_proof_forms.specs.declared.words.asked.AskedWord.{AskedWord}
 use Rattle.dnsv_gaps.specs.Asking.{Asking, asking}
 use Rattle.dnsv_gaps.specs.Denials.{IsDenialNumber}
 use Rattle.dnsv_gaps.specs.Sources.{AreSources, source_said}

@@ -1,7 +1,7 @@
 -- How the facts of known zones are looked for. No public clause cites this module.
 use Rattle.std.specs.Prelude.{ℕ, List}
 use Rattle.std.specs.List.{AllZip, enumerate_from}
-use Rattle.dnsv_denial.specs.words.EvidenceWords.{Chain}
+use Rattle.dnsv_denial.specs.gathering.EvidenceWords.{Chain}
 use Rattle.dnsv_remedies.specs.declared.facts.denial.SourceFacts.{SourceFacts}
 use Rattle.dnsv_gaps.specs.Asking.{asking}
 use Rattle.dnsv_gaps.specs.SourceSearch.{zone_in}

@@ -1,7 +1,7 @@
 //! A question of a case, with what facts about it are found by.
-use dnsv_denial::Hashes;
 use dnsv_faults::CaseFacts;
 use dnsv_names::{Name, RecordType};
+use dnsv_proof_forms::Hashes;
 
 /// A question of a case: the name and the type that are asked for.
 #[derive(Clone, Copy)]

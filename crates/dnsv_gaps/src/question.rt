@@ -19,9 +19,10 @@ use crate::question::goals::goals;
 use crate::speakers::speaker_facts;
 use dnsv_canonical::Capture;
 use dnsv_chain::Anchor;
-use dnsv_denial::{DenialRecords, Hashes, View};
+use dnsv_denial::{DenialRecords, View};
 use dnsv_faults::CaseFacts;
 use dnsv_names::{Name, RecordType};
+use dnsv_proof_forms::Hashes;
 use dnsv_remedies::QuestionFacts;
 use std::alloc::{AllocError, Global};
 

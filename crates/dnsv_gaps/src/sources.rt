@@ -8,8 +8,8 @@ ghost use Rattle.std.specs.List.Sorted.{IsStrictlySortedBy};
 ghost use Rattle.std.specs.Ordering.{nat_cmp};
 ghost use Rattle.dnsv_names.specs.Name.{rightmost};
 ghost use Rattle.dnsv_gaps.specs.Denials.{IsDenialNumber};
-ghost use Rattle.dnsv_denial.specs.QuestionHashes.{AreUsed};
-ghost use Rattle.dnsv_denial.specs.words.ChainSaid.{HasHashes};
+ghost use Rattle.dnsv_proof_forms.specs.QuestionHashes.{AreUsed};
+ghost use Rattle.dnsv_proof_forms.specs.words.ChainSaid.{HasHashes};
 ghost use Rattle.dnsv_zones.specs.chains.Rdata.{parameters_of};
 ghost use Rattle.dnsv_gaps.specs.Asking.{IsAsked, asking};
 ghost use Rattle.dnsv_gaps.specs.SourceSearch.{AreHeldSources, AreItsRecords, AreNsecSources, AreNsec3Sources, AreZoneDenials, IsHeldIn, IsSourceIn, chain_of, held_chain, zone_in};
@@ -20,10 +20,8 @@ use crate::asked::AskedQuestion;
 use crate::denials::denials_of;
 use crate::sources::saying::has_any;
 use crate::sources::unusable::unusable_of;
-use dnsv_denial::{
-    ChainRecords, GatheredRecords, HashedRecords, NsecEntry, gathered_records, is_source,
-    parameters_in_order,
-};
+use dnsv_denial::{GatheredRecords, gathered_records};
+use dnsv_proof_forms::{ChainRecords, HashedRecords, NsecEntry, is_source, parameters_in_order};
 use dnsv_records::Nsec3Parameters;
 use dnsv_remedies::UnusableFacts;
 use std::alloc::{AllocError, Global};

@@ -1,7 +1,7 @@
 -- Links of a way, with the hashes for their names. No public clause cites this module.
 use Rattle.std.specs.Prelude.{◌≡◌, ℕ, List, map}
 use Rattle.dnsv_names.specs.Name.{Labels}
-use Rattle.dnsv_denial.specs.QuestionHashes.{HashedQuestion}
+use Rattle.dnsv_proof_forms.specs.QuestionHashes.{HashedQuestion}
 use Rattle.dnsv_chain.specs.Basis.{CaseContents, basis_by}
 use Rattle.dnsv_verdict.specs.Report.{hashed_in}
 use Rattle.dnsv_verdict.specs.Way.{LeadTo, names_on}

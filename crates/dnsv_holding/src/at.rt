@@ -4,9 +4,10 @@ ghost use Rattle.std.specs.Option.{option_map_or};
 ghost use Rattle.dnsv_verdict.specs.Report.{hashed_in};
 ghost use Rattle.dnsv_holding.specs.Explained.{explained_by};
 
-use dnsv_denial::{Hashes, View};
+use dnsv_denial::View;
 use dnsv_derivations::Evidence;
 use dnsv_names::Name;
+use dnsv_proof_forms::Hashes;
 use dnsv_verdict::Case;
 use dnsv_verifier::Entries;
 use std::alloc::{AllocError, Global};

@@ -11,10 +11,10 @@ ghost use Rattle.dnsv_holding.specs.SharedWays.{AreHopedWays};
 
 use crate::at::{At, evidence_of};
 use crate::told::add_settled;
-use dnsv_denial::Hashes;
 use dnsv_derivations::{Evidence, KeptWay, add_held};
 use dnsv_lines::{Kind, Line};
 use dnsv_names::{Name, RecordType};
+use dnsv_proof_forms::Hashes;
 use dnsv_verdict::{Case, Hope, Judged, Verdict};
 use dnsv_verifier::Entries;
 use std::alloc::{AllocError, Global};

@@ -9,7 +9,7 @@ use Rattle.dnsv_canonical.specs.declared.canonical_order.ReadRecord.{ReadRecord}
 use Rattle.dnsv_canonical.specs.declared.number.SignatureNumber.{SignatureNumber}
 use Rattle.dnsv_canonical.proofs.CanonicalLemmas.{canonical_unique}
 use Rattle.dnsv_canonical.proofs.NumberLemmas.{one_numbered}
-use Rattle.dnsv_denial.proofs.lemmas.gathering.GatherLemmas.{mapped_at}
+use Rattle.dnsv_proof_forms.proofs.lemmas.PlaceLemmas.{mapped_at}
 use Rattle.dnsv_denial.proofs.lemmas.proving.ZoneChainLemmas.{unmapped_at}
 use Rattle.dnsv_chain.proofs.NumberedLemmas.{rdata_at, rrsig_at}
 use Rattle.dnsv_lines.specs.declared.line.fault.signature.ShownSignature.{ShownSignature}

@@ -2,7 +2,7 @@
 use Rattle.std.proofs.Common.{◌≡◌, ◌<◌, ◌⊎◌, ℕ, zero, suc, inl, inr, ⊎_elim, List, [], ◌∷◌, Some, length, refl, sym, ap, subst, ◌∙◌, arith}
 use Rattle.std.specs.List.{slice_get}
 use Rattle.std.specs.Prelude.{Contains}
-use Rattle.dnsv_denial.specs.words.EvidenceWords.{Chain, GoesBefore}
+use Rattle.dnsv_denial.specs.gathering.EvidenceWords.{Chain, GoesBefore}
 use Rattle.dnsv_denial.proofs.lemmas.proving.ZoneChainLemmas.{no_circle}
 use Rattle.dnsv_names.specs.Name.{Labels}
 use Rattle.dnsv_gaps.specs.Asking.{Asking}

@@ -13,12 +13,13 @@ ghost use Rattle.dnsv_reasons.specs.SourceSearch.{AreAllDenials};
 use crate::lines::said_lines;
 use crate::sources::{all_denials, named_sources};
 use dnsv_canonical::Capture;
-use dnsv_denial::{DenialRecords, Hashes};
+use dnsv_denial::DenialRecords;
 use dnsv_faults::CaseFacts;
 use dnsv_gaps::{AskedQuestion, ZoneDenials, question_facts};
 use dnsv_lines::Line;
 use dnsv_mending::levels_of;
 use dnsv_names::{Name, RecordType};
+use dnsv_proof_forms::Hashes;
 use dnsv_remedies::{QuestionFacts, Remedy, Said, lines_told, question_remedy};
 use std::alloc::{AllocError, Global};
 

@@ -13,8 +13,9 @@ use crate::row::{Row, RowError, printed};
 use bumpalo::Bump;
 use dnsv_canonical::Capture;
 use dnsv_chain::Trust;
-use dnsv_denial::{Hashes, Proof, View};
+use dnsv_denial::{Proof, View};
 use dnsv_names::{Count, Name, RecordType};
+use dnsv_proof_forms::Hashes;
 use evidence::{Evidence, evidence_in};
 use std::alloc::Global;
 

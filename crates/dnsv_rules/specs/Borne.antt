@@ -16,7 +16,7 @@ use Rattle.dnsv_canonical.specs.declared.number.RecordNumber.{RecordNumber}
 use Rattle.dnsv_denial.specs.gathering.Evidence.{IsSecuredBy}
 use Rattle.dnsv_denial.specs.proving.FirstProof.{ProofRecords}
 use Rattle.dnsv_denial.specs.unsigned_cuts.CutMeaning.{HasRecord}
-use Rattle.dnsv_denial.specs.words.EvidenceWords.{Chain}
+use Rattle.dnsv_denial.specs.gathering.EvidenceWords.{Chain}
 use Rattle.dnsv_derivations.specs.Explained.{Setting}
 use Rattle.dnsv_lines.specs.declared.line.Line.{Line}
 use Rattle.dnsv_lines.specs.declared.line.Line.TheVariants as line

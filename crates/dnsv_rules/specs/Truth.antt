@@ -13,8 +13,8 @@ use Rattle.dnsv_chain.specs.Trusted.{IsSecured}
 use Rattle.dnsv_denial.specs.gathering.Evidence.{IsNsecAt, IsNsec3At}
 use Rattle.dnsv_denial.specs.proving.FirstProof.{ProofRecords}
 use Rattle.dnsv_denial.specs.proving.ProofMeaning.{HasProofRecords, HasProofWithoutCollision}
-use Rattle.dnsv_denial.specs.words.EvidenceWords.{Chain}
-use Rattle.dnsv_denial.specs.words.EvidenceWords.Chain.{ByNsec, ByNsec3}
+use Rattle.dnsv_denial.specs.gathering.EvidenceWords.{Chain}
+use Rattle.dnsv_denial.specs.gathering.EvidenceWords.Chain.{ByNsec, ByNsec3}
 use Rattle.dnsv_derivations.specs.Denials.{SameEncloser, number_told}
 use Rattle.dnsv_derivations.specs.Explained.{Setting}
 use Rattle.dnsv_derivations.specs.Following.Parts.{IsOfKind}

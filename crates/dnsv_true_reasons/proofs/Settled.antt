@@ -13,7 +13,7 @@ use Rattle.dnsv_zones.specs.zones.Types.{Denies, IsUnsignedDelegation}
 use Rattle.dnsv_canonical.specs.Rrsets.{ReceivedRrset}
 use Rattle.dnsv_canonical.specs.declared.number.RecordNumber.{RecordNumber}
 use Rattle.dnsv_canonical.specs.declared.number.SignatureNumber.{SignatureNumber}
-use Rattle.dnsv_denial.specs.words.EvidenceWords.{Chain, evidence_said}
+use Rattle.dnsv_denial.specs.gathering.EvidenceWords.{Chain, evidence_said}
 use Rattle.dnsv_denial.proofs.lemmas.proving.RespelledZoneLemmas.{closer_as}
 use Rattle.dnsv_verdict.specs.Secure.{HoldsForName, IsSecureSet}
 use Rattle.dnsv_verifier.specs.Admissible.{MaySign}

@@ -12,7 +12,7 @@ use Rattle.dnsv_canonical.specs.declared.number.RecordNumber.{RecordNumber}
 use Rattle.dnsv_canonical.specs.declared.number.SignatureNumber.{SignatureNumber}
 use Rattle.dnsv_chain.specs.Trusted as chain
 use Rattle.dnsv_chain.proofs.TrustedLemmas.{trusted_among, trusted_rtype}
-use Rattle.dnsv_denial.specs.words.EvidenceWords.{Chain}
+use Rattle.dnsv_denial.specs.gathering.EvidenceWords.{Chain}
 use Rattle.dnsv_chain.proofs.NumberedLemmas.{numbers_are}
 use Rattle.dnsv_mending.specs.Ways.{IsAmong}
 use Rattle.dnsv_mending.specs.declared.facts.keys.DnskeyFacts.{DnskeyFacts}

@@ -14,7 +14,7 @@ use Rattle.dnsv_denial.proofs.meaning.DeniedMeaning.{denied_means}
 use Rattle.dnsv_denial.proofs.meaning.ProofMeaningLemmas.{first_no_data_means, first_no_name_means}
 use Rattle.dnsv_denial.specs.proving.FirstProof.{CanProveNoCloser}
 use Rattle.dnsv_denial.specs.unsigned_cuts.Cuts.{HasUnsignedCut, IsUnsignedCut}
-use Rattle.dnsv_denial.specs.words.EvidenceWords.{evidence_said}
+use Rattle.dnsv_denial.specs.gathering.EvidenceWords.{evidence_said}
 use Rattle.dnsv_verdict.proofs.SearchLemmas.OptOutLemmas.{such_too}
 use Rattle.dnsv_verdict.specs.Insecure.{IsOptOutWildcardCut}
 use Rattle.dnsv_verdict.specs.Meaning.{AreOwnOrFromWildcards, IsOwnOrFromWildcard, IsShownFromWildcard, IsTrueOfZones, MeansOptOutWildcardCut}

@@ -4,7 +4,7 @@ use Rattle.std.specs.Prelude.{Contains}
 use Rattle.dnsv_names.specs.Name.{Labels}
 use Rattle.dnsv_canonical.proofs.CanonicalLemmas.{IsMember-from_contains, member_passes}
 use Rattle.dnsv_canonical.specs.Rrsets.{ReceivedRrset}
-use Rattle.dnsv_denial.specs.QuestionHashes.{HashedQuestion}
+use Rattle.dnsv_proof_forms.specs.QuestionHashes.{HashedQuestion}
 use Rattle.dnsv_verdict.specs.Shared.{AreHashedIn}
 use Rattle.dnsv_verdict.specs.Report.{hashed_in}
 

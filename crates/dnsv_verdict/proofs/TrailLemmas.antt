@@ -4,7 +4,7 @@ use Rattle.std.specs.Prelude.{IsFalse, IsTrue}
 use Rattle.std.proofs.lemmas.List.{map-append}
 use Rattle.dnsv_names.specs.Name.{Labels}
 use Rattle.dnsv_canonical.specs.Rrsets.{ReceivedRrset}
-use Rattle.dnsv_denial.specs.QuestionHashes.{HashedQuestion}
+use Rattle.dnsv_proof_forms.specs.QuestionHashes.{HashedQuestion}
 use Rattle.dnsv_verdict.specs.Hope.{HasHope}
 use Rattle.dnsv_verdict.specs.Report.{IsKept, hashed_in}
 use Rattle.dnsv_verdict.specs.Settled.{IsSettledAs}

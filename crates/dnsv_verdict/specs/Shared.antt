@@ -2,7 +2,7 @@
 use Rattle.std.specs.Prelude.{◌≡◌, IfSome, List}
 use Rattle.std.specs.List.{AllByRecursion}
 use Rattle.dnsv_canonical.specs.Rrsets.{ReceivedRrset}
-use Rattle.dnsv_denial.specs.QuestionHashes.{HashedQuestion}
+use Rattle.dnsv_proof_forms.specs.QuestionHashes.{HashedQuestion}
 use Rattle.dnsv_chain.specs.Basis.{CaseContents}
 use Rattle.dnsv_verdict.specs.Hope.{IsHopeful}
 use Rattle.dnsv_verdict.specs.declared.case.shared.Shared.{Shared}

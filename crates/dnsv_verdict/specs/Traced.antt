@@ -1,7 +1,7 @@
 -- What a question of a case leads to, the verdict or an alias that can't be followed, and what is kept with it.
 use Rattle.std.specs.Prelude.{◌≡◌, ℕ, [], List, None, map}
 use Rattle.dnsv_names.specs.Name.{Labels}
-use Rattle.dnsv_denial.specs.QuestionHashes.{HashedQuestion}
+use Rattle.dnsv_proof_forms.specs.QuestionHashes.{HashedQuestion}
 use Rattle.dnsv_chain.specs.Basis.{CaseContents, Basis}
 use Rattle.dnsv_verdict.specs.Report.{IsKept, IsReport, hashed_in, hashes_in}
 use Rattle.dnsv_verdict.specs.Way.{IsStoppedAt, IsVerdictOf, names_on}

@@ -1,7 +1,7 @@
 -- How what is kept of a way grows. No public clause cites this module.
 use Rattle.std.specs.Prelude.{◌≡◌, ◌++◌, ◌∷◌, [], ℕ, IsFalse, IsTrue, List, Some, None, map}
 use Rattle.dnsv_names.specs.Name.{Labels}
-use Rattle.dnsv_denial.specs.QuestionHashes.{HashedQuestion}
+use Rattle.dnsv_proof_forms.specs.QuestionHashes.{HashedQuestion}
 use Rattle.dnsv_verdict.specs.Hope.{HasHope}
 use Rattle.dnsv_verdict.specs.Report.{hashed_in}
 use Rattle.dnsv_chain.specs.Basis.{CaseContents}

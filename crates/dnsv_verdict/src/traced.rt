@@ -5,7 +5,7 @@ ghost use Rattle.dnsv_verdict.specs.Traced.{hashes_on_way};
 use crate::error::VerdictError;
 use crate::link::{Link, Links};
 use crate::report::Judged;
-use dnsv_denial::Hashes;
+use dnsv_proof_forms::Hashes;
 use std::rc::Rc;
 
 /// What a question of a case leads to, with what each verdict on its way was found by.

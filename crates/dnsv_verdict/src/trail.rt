@@ -3,7 +3,7 @@ ghost use Rattle.std.specs.Prelude.{◌≡◌, IsFalse, Ok, OnOk};
 ghost use Rattle.dnsv_verdict.specs.Trail.{AddsHashes, IsEmpty, SetsHope};
 
 use crate::at_name::Hope;
-use dnsv_denial::Hashes;
+use dnsv_proof_forms::Hashes;
 use std::alloc::{AllocError, Global};
 use std::rc::Rc;
 

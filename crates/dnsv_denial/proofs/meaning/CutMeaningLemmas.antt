@@ -23,8 +23,8 @@ use Rattle.dnsv_denial.specs.unsigned_cuts.CutMeaning.{HasRecord, HasRecordWitho
 use Rattle.dnsv_denial.specs.unsigned_cuts.CutMeaning.MeansCut.{no_ds as means_no_ds_cut, no_usable_ds as means_no_usable_ds, opt_out as means_by_opt_out}
 use Rattle.dnsv_denial.specs.unsigned_cuts.Cuts.{HasOptedOutNextCloser, IsOptOutCut, IsUnsignedCut, IsUnsignedDelegationCut}
 use Rattle.dnsv_denial.specs.unsigned_cuts.Cuts.IsUnsignedCut.{no_ds, no_usable_ds, opt_out}
-use Rattle.dnsv_denial.specs.words.EvidenceWords.{Chain, evidence_said, nsec3_said}
-use Rattle.dnsv_denial.specs.words.EvidenceWords.Chain.{ByNsec, ByNsec3}
+use Rattle.dnsv_denial.specs.gathering.EvidenceWords.{Chain, evidence_said, nsec3_said}
+use Rattle.dnsv_denial.specs.gathering.EvidenceWords.Chain.{ByNsec, ByNsec3}
 use Rattle.dnsv_canonical.specs.declared.number.RecordNumber.{RecordNumber}
 use Rattle.dnsv_denial.proofs.meaning.ProofMeaningLemmas.{no_nsec3, nsec_say, nsec_no_nsec3, nsec3_no_nsec, nsec3_say, said_with, with_parameters}
 

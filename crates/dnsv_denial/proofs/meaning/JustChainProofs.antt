@@ -23,8 +23,8 @@ use Rattle.dnsv_denial.specs.proving.FirstProof.{CanBeProved, CanProveNoData, Ca
 use Rattle.dnsv_denial.specs.proving.WholeChain.{HasWholeChainWithoutOptOut, IsJustChainWithoutOptOut, IsJustNsecChain, IsJustNsec3Chain}
 use Rattle.dnsv_denial.specs.proving.WholeChain.HasWholeChainWithoutOptOut.{by_nsec as without_opt_out_by_nsec, by_nsec3 as without_opt_out_by_nsec3}
 use Rattle.dnsv_denial.specs.proving.WholeChain.IsJustChainWithoutOptOut.{by_nsec, by_nsec3}
-use Rattle.dnsv_denial.specs.words.EvidenceWords.{Chain, nsec_said, nsec3_said}
-use Rattle.dnsv_denial.specs.words.EvidenceWords.Chain.{ByNsec, ByNsec3}
+use Rattle.dnsv_denial.specs.gathering.EvidenceWords.{Chain, nsec_said, nsec3_said}
+use Rattle.dnsv_denial.specs.gathering.EvidenceWords.Chain.{ByNsec, ByNsec3}
 use Rattle.dnsv_canonical.specs.declared.number.RecordNumber.{RecordNumber}
 use Rattle.dnsv_denial.proofs.meaning.ProofMeaningLemmas.{with_parameters}
 use Rattle.dnsv_denial.proofs.lemmas.proving.WholeChainLemmas.{nsec_to, nsec3_to, no_name_by_nsec, no_data_by_nsec, no_name_by_nsec3, no_data_by_nsec3}

@@ -27,12 +27,12 @@ use Rattle.dnsv_denial.specs.gathering.Evidence.{IsNsecOf, IsNsec3Of}
 use Rattle.dnsv_denial.specs.proving.FirstProof.{ProofRecords, AreRecordsOf, IsFirstNoName, IsFirstNoData, IsFirstNoCloser}
 use Rattle.dnsv_denial.specs.proving.ProofMeaning.{HasProofRecords, IsWithoutCollision, HasProofWithoutCollision}
 use Rattle.dnsv_denial.specs.proving.ProofMeaning.HasProofRecords.{by_nsec, by_nsec3}
-use Rattle.dnsv_denial.specs.words.EvidenceWords.{Chain, SaidByNsec, SaidByNsec3, nsec_said, nsec3_said, evidence_said, number_cmp}
-use Rattle.dnsv_denial.specs.words.EvidenceWords.Chain.{ByNsec, ByNsec3}
+use Rattle.dnsv_denial.specs.gathering.EvidenceWords.{Chain, SaidByNsec, SaidByNsec3, nsec_said, nsec3_said, evidence_said, number_cmp}
+use Rattle.dnsv_denial.specs.gathering.EvidenceWords.Chain.{ByNsec, ByNsec3}
 use Rattle.dnsv_canonical.specs.declared.number.RecordNumber.{RecordNumber}
 use Rattle.dnsv_denial.proofs.lemmas.gathering.EvidenceLemmas.{one_nsec_of}
 use Rattle.dnsv_denial.proofs.lemmas.gathering.NumberedLemmas.{one_nsec3_of, nsec_or_nsec3}
-use Rattle.dnsv_denial.proofs.lemmas.forms.PartsForm.{SayNoMore, no_name_by, no_data_by, no_closer_by}
+use Rattle.dnsv_proof_forms.proofs.lemmas.forms.PartsForm.{SayNoMore, no_name_by, no_data_by, no_closer_by}
 
 -- the record with one of the numbers
 pub numbered : {X : Type 0} (Is : RecordNumber → X → Type 0) (numbers : List RecordNumber) (records : List X) (n : RecordNumber) → AllZip Is numbers records → IsMember n numbers → Any (Is n) records

@@ -23,8 +23,8 @@ use Rattle.dnsv_denial.specs.proving.WholeChain.{HasWholeChainWithoutOptOut, Has
 use Rattle.dnsv_denial.specs.proving.WholeChain.HasWholeChainWithoutOptOut.{by_nsec, by_nsec3}
 use Rattle.dnsv_denial.specs.proving.WholeChain.HasWholeChain.{by_nsec as whole_by_nsec, by_nsec3 as whole_by_nsec3}
 use Rattle.dnsv_denial.specs.unsigned_cuts.Cuts.{HasUnsignedCut}
-use Rattle.dnsv_denial.specs.words.EvidenceWords.{nsec_said, nsec3_said}
-use Rattle.dnsv_denial.specs.words.EvidenceWords.Chain.{ByNsec, ByNsec3}
+use Rattle.dnsv_denial.specs.gathering.EvidenceWords.{nsec_said, nsec3_said}
+use Rattle.dnsv_denial.specs.gathering.EvidenceWords.Chain.{ByNsec, ByNsec3}
 use Rattle.dnsv_denial.proofs.lemmas.proving.WholeChainLemmas.{nsec_from, nsec3_from, opts_out_from}
 
 -- a delegation without DS is one however its name is spelled

@@ -8,7 +8,7 @@ use Rattle.dnsv_denial.specs.gathering.Evidence.{IsSecuredBy}
 use Rattle.dnsv_denial.specs.gathering.Gathered.{AreNsecs, AreNsecsOf, AreNsec3s, AreNsec3sOf, IsDenialType}
 use Rattle.dnsv_denial.specs.declared.gathering.denial_records.DenialRecords.{DenialRecords}
 use Rattle.dnsv_denial.specs.declared.gathering.denial_records.SecuredZone.{SecuredZone}
-use Rattle.dnsv_denial.specs.declared.records.zone_records.GatheredRecords.{GatheredRecords}
+use Rattle.dnsv_denial.specs.declared.gathering.zone_records.GatheredRecords.{GatheredRecords}
 
 -- The records are all NSEC records of the RRsets with such numbers, and those of their NSEC3 records that are the zone's,
 -- by their owner, and can be used.

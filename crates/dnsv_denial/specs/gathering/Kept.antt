@@ -4,7 +4,6 @@ use Rattle.std.specs.List.{AllByRecursion}
 use Rattle.std.specs.declared.cmp.Ordering.TheVariants.{Less}
 use Rattle.dnsv_names.specs.Name.{Labels, rightmost}
 use Rattle.dnsv_zones.specs.Any.{Any}
-use Rattle.dnsv_zones.specs.chains.HashedNames.{sha1_hash, AreHashes}
 use Rattle.dnsv_zones.specs.chains.Nsec3Chain.{Nsec3Record}
 use Rattle.dnsv_zones.specs.chains.Rdata.{parameters_of}
 use Rattle.dnsv_canonical.specs.Rrsets.{ReceivedRrset}
@@ -12,15 +11,16 @@ use Rattle.dnsv_chain.specs.Trust.{KeptTrust, SecuredIn}
 use Rattle.dnsv_denial.specs.gathering.Evidence.{IsNsec3At}
 use Rattle.dnsv_denial.specs.gathering.ByZone.{AreSecuredRecords}
 use Rattle.dnsv_denial.specs.proving.ChainOf.{IsShownBy, StandsAs}
-use Rattle.dnsv_denial.specs.words.EvidenceWords.{Chain, GoesBefore, parameters_cmp}
-use Rattle.dnsv_denial.specs.declared.forms.denial.Denial.{Denial}
+use Rattle.dnsv_denial.specs.gathering.EvidenceWords.{Chain, GoesBefore}
+use Rattle.dnsv_proof_forms.specs.records.ParametersOrder.{parameters_cmp}
+use Rattle.dnsv_proof_forms.specs.declared.forms.denial.Denial.{Denial}
 use Rattle.dnsv_denial.specs.declared.proving.shown_denial.ShownDenial.{ShownDenial}
 use Rattle.dnsv_canonical.specs.declared.number.RecordNumber.{RecordNumber}
-use Rattle.dnsv_denial.specs.declared.records.zone_records.HeldRecords.{HeldRecords}
-use Rattle.dnsv_denial.specs.declared.records.zone_records.HeldRecords.TheVariants.{Own, Lent}
-use Rattle.dnsv_denial.specs.declared.records.zone_records.NameHashes.{NameHashes}
-use Rattle.dnsv_denial.specs.declared.records.zone_records.GatheredRecords.{GatheredRecords}
-use Rattle.dnsv_denial.specs.declared.records.zone_records.ZoneRecords.{ZoneRecords}
+use Rattle.dnsv_denial.specs.declared.gathering.zone_records.HeldRecords.{HeldRecords}
+use Rattle.dnsv_denial.specs.declared.gathering.zone_records.HeldRecords.TheVariants.{Own, Lent}
+use Rattle.dnsv_proof_forms.specs.declared.records.name_hashes.NameHashes.{NameHashes}
+use Rattle.dnsv_denial.specs.declared.gathering.zone_records.GatheredRecords.{GatheredRecords}
+use Rattle.dnsv_denial.specs.declared.gathering.zone_records.ZoneRecords.{ZoneRecords}
 
 -- ---- what is kept
 
@@ -32,11 +32,6 @@ records_of (Lent records) = records.now
 -- the records are those of the zone among the evidence
 abbrev pub IsZoneOf : (ℕ → ℕ → Type 0) → List ReceivedRrset → ZoneRecords → Type 0
 IsZoneOf Secured rrsets kept = AreSecuredRecords Secured rrsets kept.zone (records_of kept.records)
-
--- the hashes are those of the names that a question of the name asks for
-abbrev pub IsSetOf : Labels → NameHashes → Type 0
-IsSetOf name set =
-    AreHashes (sha1_hash (parameters_of set.parameters.now)) name set.hashed.above.items set.hashed.wildcards.items
 
 -- the sets are in the order of their parameters, and every NSEC3 record of a zone has those of one
 pub record AreSets (Secured : ℕ → ℕ → Type 0) (rrsets : List ReceivedRrset) (sets : List NameHashes) : Type 0 where

@@ -4,14 +4,14 @@ use Rattle.dnsv_names.specs.Name.{Labels, rightmost}
 use Rattle.dnsv_zones.specs.forms.Forms.{NoNameForm, NoDataForms, NoCloserForm}
 use Rattle.dnsv_zones.specs.forms.RecordWords.{RecordWords, words}
 use Rattle.dnsv_canonical.specs.Rrsets.{ReceivedRrset}
-use Rattle.dnsv_denial.specs.forms.ProofForms.{ShowsNoName, ShowsNoData, ShowsNoCloser, form_records}
+use Rattle.dnsv_proof_forms.specs.forms.ProofForms.{ShowsNoName, ShowsNoData, ShowsNoCloser, form_records}
 use Rattle.dnsv_denial.specs.proving.FirstProof.{AreRecordsOf, IsFirstOfZone}
-use Rattle.dnsv_denial.specs.words.EvidenceWords.{Chain, GoesBefore, evidence_said, number_cmp}
-use Rattle.dnsv_denial.specs.words.EvidenceWords.Chain.{ByNsec, ByNsec3}
-use Rattle.dnsv_denial.specs.declared.forms.proof_form.ProofForm.{ProofForm}
+use Rattle.dnsv_denial.specs.gathering.EvidenceWords.{Chain, GoesBefore, evidence_said, number_cmp}
+use Rattle.dnsv_denial.specs.gathering.EvidenceWords.Chain.{ByNsec, ByNsec3}
+use Rattle.dnsv_proof_forms.specs.declared.forms.proof_form.ProofForm.{ProofForm}
 use Rattle.dnsv_denial.specs.declared.proving.shown_denial.ShownDenial.{ShownDenial}
-use Rattle.dnsv_denial.specs.declared.records.chain_kind.ChainKind.{ChainKind}
-use Rattle.dnsv_denial.specs.declared.records.chain_kind.ChainKind.TheVariants.{Nsec, Nsec3}
+use Rattle.dnsv_proof_forms.specs.declared.records.chain_kind.ChainKind.{ChainKind}
+use Rattle.dnsv_proof_forms.specs.declared.records.chain_kind.ChainKind.TheVariants.{Nsec, Nsec3}
 use Rattle.dnsv_canonical.specs.declared.number.RecordNumber.{RecordNumber}
 
 -- which records the chain has

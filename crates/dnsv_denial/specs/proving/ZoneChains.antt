@@ -5,12 +5,12 @@ use Rattle.dnsv_names.specs.Name.{Labels}
 use Rattle.dnsv_zones.specs.chains.Rdata.{parameters_of}
 use Rattle.dnsv_canonical.specs.Rrsets.{ReceivedRrset}
 use Rattle.dnsv_denial.specs.gathering.Gathered.{AreNsecsOf, AreNsec3sOf}
-use Rattle.dnsv_denial.specs.records.AskedHash.{HasHashesOf}
-use Rattle.dnsv_denial.specs.words.EvidenceWords.{Chain}
-use Rattle.dnsv_denial.specs.words.EvidenceWords.Chain.{ByNsec, ByNsec3}
-use Rattle.dnsv_denial.specs.declared.records.kept_chain.KeptChain.{KeptChain}
-use Rattle.dnsv_denial.specs.declared.records.kept_chain.KeptChain.TheVariants.{Nsec, Nsec3}
-use Rattle.dnsv_denial.specs.declared.records.zone_records.NameHashes.{NameHashes}
+use Rattle.dnsv_proof_forms.specs.records.AskedHash.{HasHashesOf}
+use Rattle.dnsv_denial.specs.gathering.EvidenceWords.{Chain}
+use Rattle.dnsv_denial.specs.gathering.EvidenceWords.Chain.{ByNsec, ByNsec3}
+use Rattle.dnsv_denial.specs.declared.gathering.kept_chain.KeptChain.{KeptChain}
+use Rattle.dnsv_denial.specs.declared.gathering.kept_chain.KeptChain.TheVariants.{Nsec, Nsec3}
+use Rattle.dnsv_proof_forms.specs.declared.records.name_hashes.NameHashes.{NameHashes}
 
 -- NSEC, and then NSEC3 with the parameters of each set
 abbrev pub chains_of : List NameHashes → List Chain

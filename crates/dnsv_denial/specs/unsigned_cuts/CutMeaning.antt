@@ -12,7 +12,7 @@ use Rattle.dnsv_canonical.specs.Rrsets.{ReceivedRrset}
 use Rattle.dnsv_denial.specs.proving.FirstProof.{ProofRecords}
 use Rattle.dnsv_denial.specs.proving.ProofMeaning.{HasProofRecords, HasProofWithoutCollision}
 use Rattle.dnsv_denial.specs.unsigned_cuts.Cuts.{IsUnsignedDelegationCut, IsUnusableDsCut}
-use Rattle.dnsv_denial.specs.words.EvidenceWords.{Chain, evidence_said}
+use Rattle.dnsv_denial.specs.gathering.EvidenceWords.{Chain, evidence_said}
 use Rattle.dnsv_canonical.specs.declared.number.RecordNumber.{RecordNumber}
 
 -- the record alone

@@ -13,12 +13,11 @@ use crate::gathering::expanded::expanded_types;
 use crate::gathering::gathered::gathered_records;
 use crate::gathering::secured::has_zone_signature;
 use crate::gathering::signers::{NumbersByZone, numbers_by_zone};
-use crate::records::nsec3_entries::Nsec3Entries;
-use crate::records::zone_records::GatheredRecords;
-use crate::rising::rising;
+use crate::gathering::zone_records::GatheredRecords;
 use dnsv_canonical::Capture;
 use dnsv_chain::{Trust, at};
 use dnsv_names::{Name, RecordType, WireName};
+use dnsv_proof_forms::{Nsec3Entries, rising};
 use std::alloc::{AllocError, Global};
 
 /// The NSEC and NSEC3 records that a zone secured, with its name.

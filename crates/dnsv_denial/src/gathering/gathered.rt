@@ -6,10 +6,10 @@ ghost use Rattle.dnsv_denial.specs.gathering.ByZone.{AreGatheredRecords};
 
 use crate::gathering::nsec::nsecs_of;
 use crate::gathering::nsec3::nsec3s_of;
-use crate::records::nsec3_entries::Nsec3Entries;
-use crate::records::zone_records::GatheredRecords;
+use crate::gathering::zone_records::GatheredRecords;
 use dnsv_canonical::Capture;
 use dnsv_names::Name;
+use dnsv_proof_forms::Nsec3Entries;
 use std::alloc::{AllocError, Global};
 
 /// The NSEC records of the RRsets with these rising numbers, and those of their NSEC3 records that can be used and stand

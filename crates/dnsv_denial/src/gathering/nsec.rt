@@ -5,9 +5,9 @@ ghost use Rattle.std.specs.Ordering.{nat_cmp};
 ghost use Rattle.dnsv_canonical.specs.Rrsets.{IsNumbered, ReceivedRrset};
 ghost use Rattle.dnsv_denial.specs.gathering.Gathered.{AreNsecs};
 
-use crate::records::entry::NsecEntry;
 use dnsv_canonical::{Capture, RecordNumber, Rrset, in_canonical_order};
 use dnsv_names::RecordType;
+use dnsv_proof_forms::NsecEntry;
 use std::alloc::{AllocError, Global};
 
 /// The NSEC records of the RRsets with these rising numbers, in the order of their numbers.

@@ -7,9 +7,9 @@ ghost use Rattle.dnsv_canonical.specs.Rrsets.{IsNumbered, ReceivedRrset};
 ghost use Rattle.dnsv_denial.specs.gathering.Evidence.{IsHashedOwner};
 ghost use Rattle.dnsv_denial.specs.gathering.Gathered.{AreNsec3s, IsEntryOf};
 
-use crate::records::entry::Nsec3Entry;
 use dnsv_canonical::{Capture, RecordNumber, Rrset, in_canonical_order};
 use dnsv_names::{Hash20, Name, RecordType};
+use dnsv_proof_forms::Nsec3Entry;
 use dnsv_records::{Nsec3, base32hex_read};
 use std::alloc::{AllocError, Global};
 

@@ -3,22 +3,21 @@ ghost use Rattle.std.specs.Prelude.{◌≡◌, ◌<◌, List, MatchOption};
 ghost use Rattle.std.specs.List.{AllByRecursion};
 ghost use Rattle.dnsv_canonical.specs.Rrsets.{ReceivedRrset};
 ghost use Rattle.dnsv_chain.specs.Trust.{KeptTrust, SecuredIn};
-ghost use Rattle.dnsv_denial.specs.forms.ProofForms.{form_by, form_records, option_by, wildcard_by, wildcard_records};
+ghost use Rattle.dnsv_proof_forms.specs.forms.ProofForms.{form_by, form_records, option_by, wildcard_by, wildcard_records};
 ghost use Rattle.dnsv_denial.specs.proving.ChainOf.{IsChainOf, IsShownBy, StandsAs, kind_of_records};
-ghost use Rattle.dnsv_denial.specs.proving.Numbers.{numbers_of, number_at, record_count};
-ghost use Rattle.dnsv_denial.specs.records.RecordsAt.{listed};
-ghost use Rattle.dnsv_denial.specs.words.ChainSaid.{HasHashes};
-ghost use Rattle.dnsv_denial.specs.words.EvidenceWords.{Chain};
+ghost use Rattle.dnsv_proof_forms.specs.records.Numbers.{numbers_of, number_at, record_count};
+ghost use Rattle.dnsv_proof_forms.specs.records.RecordsAt.{listed};
+ghost use Rattle.dnsv_proof_forms.specs.words.ChainSaid.{HasHashes};
+ghost use Rattle.dnsv_denial.specs.gathering.EvidenceWords.{Chain};
 
-use crate::forms::denial::Denial;
-use crate::forms::proof_form::{ProofForm, WildcardParts, form_places};
-use crate::proving::numbers::{record_number, record_numbers};
+use crate::proving::numbers::record_numbers;
 use crate::proving::proof::Proof;
 use crate::proving::shown_denial::ShownDenial;
-use crate::records::chain_kind::ChainKind;
-use crate::records::chain_records::ChainRecords;
 use dnsv_canonical::RecordNumber;
 use dnsv_names::Name;
+use dnsv_proof_forms::{
+    ChainKind, ChainRecords, Denial, ProofForm, WildcardParts, form_places, record_number,
+};
 
 /// How the denial is shown by the records of a chain of the zone, or `None` where they prove none.
 pub fn chain_proof(

@@ -3,19 +3,20 @@ ghost use Rattle.std.specs.Prelude.{◌≡◌, ◌+◌, List, MatchOption, lengt
 ghost use Rattle.std.specs.List.{AllByRecursion};
 ghost use Rattle.dnsv_canonical.specs.Rrsets.{ReceivedRrset};
 ghost use Rattle.dnsv_chain.specs.Trust.{KeptTrust, SecuredIn};
-ghost use Rattle.dnsv_denial.specs.forms.Denials.{DenialForm};
-ghost use Rattle.dnsv_denial.specs.forms.ShownUnsigned.{ShowsDenial};
-ghost use Rattle.dnsv_denial.specs.gathering.Kept.{AreSets, AreZones, IsSetOf};
+ghost use Rattle.dnsv_proof_forms.specs.forms.Denials.{DenialForm};
+ghost use Rattle.dnsv_proof_forms.specs.forms.ShownUnsigned.{ShowsDenial};
+ghost use Rattle.dnsv_denial.specs.gathering.Kept.{AreSets, AreZones};
+ghost use Rattle.dnsv_proof_forms.specs.KeptHashes.{IsSetOf};
 ghost use Rattle.dnsv_denial.specs.proving.ChainOf.{CanBeShown};
 ghost use Rattle.dnsv_denial.specs.proving.FirstProof.{CanProveNoCloser};
 ghost use Rattle.dnsv_denial.specs.proving.ShownDenials.{IsFirstShown, IsShownNoCloser};
-ghost use Rattle.dnsv_denial.specs.words.EvidenceWords.{number_cmp};
+ghost use Rattle.dnsv_denial.specs.gathering.EvidenceWords.{number_cmp};
 
-use crate::forms::denial::Denial;
+use crate::gathering::zone_records::ZoneRecords;
 use crate::proving::shown_denial::ShownDenial;
 use crate::proving::zone_proof::zone_proof;
-use crate::records::zone_records::{NameHashes, ZoneRecords};
 use dnsv_names::Name;
+use dnsv_proof_forms::{Denial, NameHashes};
 
 /// How the denial is shown, by the zone with most labels that proves it; or `None` where no zone has.
 pub fn first_proof<'a>(

@@ -1,14 +1,12 @@
 //! How a denial is shown.
 ghost use Rattle.std.specs.Prelude.{◌≡◌};
-ghost use Rattle.dnsv_denial.specs.forms.ProofForms.{option_by};
-ghost use Rattle.dnsv_denial.specs.proving.ProofParts.{form_parts};
+ghost use Rattle.dnsv_proof_forms.specs.forms.ProofForms.{option_by};
+ghost use Rattle.dnsv_proof_forms.specs.forms.ProofParts.{form_parts};
 
-use crate::forms::proof_form::ProofForm;
 use crate::proving::proof::Proof;
-use crate::proving::proof_part::{ProofPart, form_parts};
-use crate::records::chain_kind::ChainKind;
 use arrayvec::ArrayVec;
 use dnsv_canonical::RecordNumber;
+use dnsv_proof_forms::{ChainKind, ProofForm, ProofPart, form_parts};
 
 /// A proof that a name or a type isn't there, with the form that stands and the record for each of its parts (RFC 4035
 /// 5.4, RFC 5155 8). It lies in the value itself and takes no memory.

@@ -3,15 +3,16 @@ ghost use Rattle.std.specs.Prelude.{List, MatchOption};
 ghost use Rattle.std.specs.List.{AllByRecursion};
 ghost use Rattle.dnsv_canonical.specs.Rrsets.{ReceivedRrset};
 ghost use Rattle.dnsv_chain.specs.Trust.{KeptTrust, SecuredIn};
-ghost use Rattle.dnsv_denial.specs.gathering.Kept.{AreSets, IsSetOf, IsZoneOf, IsZoneProof};
+ghost use Rattle.dnsv_denial.specs.gathering.Kept.{AreSets, IsZoneOf, IsZoneProof};
+ghost use Rattle.dnsv_proof_forms.specs.KeptHashes.{IsSetOf};
 ghost use Rattle.dnsv_denial.specs.proving.ChainOf.{StandsAs};
-ghost use Rattle.dnsv_denial.specs.words.EvidenceWords.{Chain};
+ghost use Rattle.dnsv_denial.specs.gathering.EvidenceWords.{Chain};
 
-use crate::forms::denial::Denial;
+use crate::gathering::zone_records::{ZoneRecords, zone_chain};
 use crate::proving::chain_proof::chain_proof;
 use crate::proving::shown_denial::ShownDenial;
-use crate::records::zone_records::{NameHashes, ZoneRecords, zone_chain};
 use dnsv_names::Name;
+use dnsv_proof_forms::{Denial, NameHashes};
 
 /// The first proof of the denial by the zone's records, or `None` where they prove none: NSEC before NSEC3, and NSEC3
 /// in the order of the sets.

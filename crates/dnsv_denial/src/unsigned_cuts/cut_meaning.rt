@@ -8,7 +8,7 @@ ghost use Rattle.dnsv_zones.specs.zones.Zone.{Zone, Holds, IsNode, IsClosedAt};
 ghost use Rattle.dnsv_canonical.specs.Rrsets.{ReceivedRrset};
 ghost use Rattle.dnsv_chain.specs.Trust.{KeptTrust, SecuredIn};
 ghost use Rattle.dnsv_denial.specs.unsigned_cuts.CutMeaning.{HasRecord, HasRecordWithoutCollision};
-ghost use Rattle.dnsv_denial.specs.words.EvidenceWords.{Chain, evidence_said, nsec3_said};
+ghost use Rattle.dnsv_denial.specs.gathering.EvidenceWords.{Chain, evidence_said, nsec3_said};
 ghost use Rattle.dnsv_canonical.specs.declared.number.RecordNumber.{RecordNumber};
 
 /// What a record of the evidence means that shows a delegation without DS at or above a question's name: each zone that

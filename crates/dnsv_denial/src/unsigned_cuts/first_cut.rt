@@ -1,12 +1,12 @@
 //! From which name on the question's name may be unsigned.
-ghost use Rattle.std.specs.Prelude.{◌≡◌, ◌+◌, ◌<◌, List, MatchOption, length};
-ghost use Rattle.dnsv_names.specs.Name.{rightmost};
+ghost use Rattle.std.specs.Prelude.{List, MatchOption};
 ghost use Rattle.dnsv_canonical.specs.Rrsets.{ReceivedRrset};
 ghost use Rattle.dnsv_chain.specs.Trust.{KeptTrust, SecuredIn};
 ghost use Rattle.dnsv_denial.specs.unsigned_cuts.Cuts.{HasUnsignedCut, IsUnsignedCut};
 ghost use Rattle.dnsv_denial.specs.unsigned_cuts.Findings.{AreFindings};
 
 use dnsv_names::Name;
+use dnsv_proof_forms::next_closer;
 
 /// The name from which on the name may be unsigned, by what is found: how many labels the highest delegation without DS
 /// has, the highest whose DS records can't be used, and the closest encloser with most labels where Opt-Out may leave out a
@@ -34,14 +34,4 @@ pub fn first_cut(
         return None;
     };
     Some(next_closer(name, labels))
-}
-
-/// The next closer name to the name's so many rightmost labels (RFC 5155 1.3).
-pub fn next_closer(name: &Name, labels: usize) -> Name
-    requires { labels < length name.now }
-    ensures { result ≡ rightmost name.now (labels + 1) }
-{
-    let count = name.labels();
-    prove!(labels < count);
-    name.suffix(labels + 1)
 }

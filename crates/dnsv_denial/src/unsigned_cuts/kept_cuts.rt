@@ -6,14 +6,15 @@ ghost use Rattle.dnsv_chain.specs.Trust.{KeptTrust, SecuredIn};
 ghost use Rattle.dnsv_denial.specs.gathering.Kept.{IsViewOf};
 ghost use Rattle.dnsv_denial.specs.unsigned_cuts.Cuts.{HasOptedOutNextCloser, HasUnsignedCut, IsUnsignedCut};
 
-use crate::records::zone_records::{NameHashes, ZoneRecords};
-use crate::unsigned_cuts::first_cut::{first_cut, next_closer};
+use crate::gathering::zone_records::ZoneRecords;
+use crate::unsigned_cuts::first_cut::first_cut;
 use crate::unsigned_cuts::shown_cuts::zones_cuts;
 use crate::unsigned_cuts::unusable_ds::highest_unusable_ds;
 use crate::unsigned_cuts::zone_opt_out::zone_opts_out_next_closer;
 use dnsv_canonical::Capture;
 use dnsv_chain::Trust;
 use dnsv_names::Name;
+use dnsv_proof_forms::{NameHashes, next_closer};
 
 /// The name from which on the name may be unsigned, or `None` where the evidence shows none (RFC 4035 5.2, RFC 5155
 /// 8.6, 8.9, 9.2).

@@ -3,20 +3,21 @@ ghost use Rattle.std.specs.Prelude.{◌≡◌, ◌+◌, List, MatchOption, lengt
 ghost use Rattle.std.specs.List.{AllByRecursion};
 ghost use Rattle.dnsv_canonical.specs.Rrsets.{ReceivedRrset};
 ghost use Rattle.dnsv_chain.specs.Trust.{KeptTrust, SecuredIn};
-ghost use Rattle.dnsv_denial.specs.gathering.Kept.{AreSets, AreZones, IsSetOf, IsViewOf};
+ghost use Rattle.dnsv_denial.specs.gathering.Kept.{AreSets, AreZones, IsViewOf};
+ghost use Rattle.dnsv_proof_forms.specs.KeptHashes.{IsSetOf};
 ghost use Rattle.dnsv_denial.specs.unsigned_cuts.Cuts.{HasOptedOutNextCloser, HasUnsignedCut};
 ghost use Rattle.dnsv_denial.specs.unsigned_cuts.ShownCut.{IsShownCut, IsShownOptOutCloser};
 
-use crate::forms::denial::Denial;
+use crate::gathering::zone_records::ZoneRecords;
 use crate::proving::first_proof::first_proof;
 use crate::proving::shown_denial::ShownDenial;
 use crate::proving::zone_proof::zone_proof;
-use crate::records::zone_records::{NameHashes, ZoneRecords};
 use crate::unsigned_cuts::shown_cuts::zones_cuts;
 use crate::unsigned_cuts::unusable_ds::highest_unusable_ds;
 use dnsv_canonical::Capture;
 use dnsv_chain::Trust;
 use dnsv_names::Name;
+use dnsv_proof_forms::{Denial, NameHashes};
 
 /// How it is shown that a question's name may be unsigned from some name on. Numbers of labels are of its rightmost.
 #[derive(Debug, Drop)]

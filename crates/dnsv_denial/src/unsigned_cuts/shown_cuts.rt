@@ -3,18 +3,18 @@ ghost use Rattle.std.specs.Prelude.{List};
 ghost use Rattle.std.specs.List.{AllByRecursion};
 ghost use Rattle.dnsv_canonical.specs.Rrsets.{ReceivedRrset};
 ghost use Rattle.dnsv_chain.specs.Trust.{KeptTrust, SecuredIn};
-ghost use Rattle.dnsv_denial.specs.gathering.Kept.{AreSets, AreZones, IsSetOf, IsZoneOf};
+ghost use Rattle.dnsv_denial.specs.gathering.Kept.{AreSets, AreZones, IsZoneOf};
+ghost use Rattle.dnsv_proof_forms.specs.KeptHashes.{IsSetOf};
 ghost use Rattle.dnsv_denial.specs.proving.ChainOf.{IsChainOf};
 ghost use Rattle.dnsv_denial.specs.unsigned_cuts.Cuts.{IsOptOutCut, IsUnsignedDelegationCut};
 ghost use Rattle.dnsv_denial.specs.unsigned_cuts.ShownCuts.{AreBoth, AreShown, IsCutIn, IsCutOf, IsOptOutIn, IsOptOutOf};
-ghost use Rattle.dnsv_denial.specs.words.ChainSaid.{HasHashes};
-ghost use Rattle.dnsv_denial.specs.words.EvidenceWords.{Chain};
+ghost use Rattle.dnsv_proof_forms.specs.words.ChainSaid.{HasHashes};
+ghost use Rattle.dnsv_denial.specs.gathering.EvidenceWords.{Chain};
 
-use crate::forms::cuts::{opt_out, unsigned_delegation};
-use crate::records::chain_records::ChainRecords;
-use crate::records::zone_records::{NameHashes, ZoneRecords, zone_chain};
+use crate::gathering::zone_records::{ZoneRecords, zone_chain};
 use crate::unsigned_cuts::findings::{greater, lesser};
 use dnsv_names::Name;
+use dnsv_proof_forms::{ChainRecords, NameHashes, opt_out, unsigned_delegation};
 
 /// What chains show of where a name may be unsigned, each as a number of its rightmost labels.
 #[derive(Clone, Copy)]

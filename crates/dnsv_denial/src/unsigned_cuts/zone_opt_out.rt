@@ -3,12 +3,13 @@ ghost use Rattle.std.specs.Prelude.{◌↔◌, IsTrue, List};
 ghost use Rattle.std.specs.List.{AllByRecursion};
 ghost use Rattle.dnsv_canonical.specs.Rrsets.{ReceivedRrset};
 ghost use Rattle.dnsv_chain.specs.Trust.{KeptTrust, SecuredIn};
-ghost use Rattle.dnsv_denial.specs.gathering.Kept.{AreSets, IsSetOf, IsZoneOf};
+ghost use Rattle.dnsv_denial.specs.gathering.Kept.{AreSets, IsZoneOf};
+ghost use Rattle.dnsv_proof_forms.specs.KeptHashes.{IsSetOf};
 ghost use Rattle.dnsv_denial.specs.unsigned_cuts.Cuts.{HasOptedOutNextCloser};
 
-use crate::forms::wildcard_answer::opts_out_next_closer;
-use crate::records::zone_records::{NameHashes, ZoneRecords, zone_chain};
+use crate::gathering::zone_records::{ZoneRecords, zone_chain};
 use dnsv_names::Name;
+use dnsv_proof_forms::{NameHashes, opts_out_next_closer};
 
 /// Whether an unsigned delegation of the zone may stand against an answer from the wildcard below the name's so many
 /// labels (RFC 5155 8.8). Only NSEC3 records have the Opt-Out flag.

@@ -7,13 +7,13 @@ ghost use Rattle.dnsv_denial.specs.proving.ShownDenials.{IsShownNoCloser, IsShow
 ghost use Rattle.dnsv_denial.specs.unsigned_cuts.Cuts.{HasOptedOutNextCloser, HasUnsignedCut, IsUnsignedCut};
 ghost use Rattle.dnsv_denial.specs.unsigned_cuts.ShownCut.{IsShownCut, IsShownOptOutCloser, cut_name};
 
-use crate::forms::denial::Denial;
 use crate::proving::first_proof::{first_proof, no_closer};
 use crate::proving::shown_denial::ShownDenial;
 use crate::unsigned_cuts::shown_cut::{ShownCut, shown_cut, shown_loose_closer};
 use crate::view::View;
 use crate::wildcard_answers::{is_not_opted_out, may_have_closer};
 use dnsv_names::{Name, RecordType};
+use dnsv_proof_forms::Denial;
 
 impl View<'_, '_> {
     /// How the first proof that there is no such name shows it, with the record for each part; `None` where `no_name` has

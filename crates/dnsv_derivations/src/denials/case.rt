@@ -5,9 +5,10 @@ ghost use Rattle.dnsv_derivations.specs.Saying.{Adds};
 ghost use Rattle.dnsv_derivations.specs.unsigned_cuts.UnsignedCuts.{IsCaseTold};
 
 use dnsv_canonical::RecordNumber;
-use dnsv_denial::{PartName, ProofForm, ShownDenial};
+use dnsv_denial::ShownDenial;
 use dnsv_lines::{Cut, InsecureCase, Line};
 use dnsv_names::Name;
+use dnsv_proof_forms::{PartName, ProofForm};
 use std::alloc::AllocError;
 
 /// Adds the line of the case, where the form has one.

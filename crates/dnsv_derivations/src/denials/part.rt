@@ -1,14 +1,14 @@
 //! The lines of the parts of a proof.
 ghost use Rattle.std.specs.Prelude.{◌≡◌, ◌↔◌, Contains, IfOk, IsTrue, OnOk};
-ghost use Rattle.dnsv_denial.specs.declared.proving.proof_part.ProofPart.{ProofPart};
+ghost use Rattle.dnsv_proof_forms.specs.declared.forms.proof_part.ProofPart.{ProofPart};
 ghost use Rattle.dnsv_derivations.specs.Denials.{HasRrset, IsPartFit, IsPartLine, IsPartSaid, IsPartTold, IsSamePart, IsTellingOf, number_told, told_relation, told_role};
 ghost use Rattle.dnsv_derivations.specs.Saying.{Adds, AreEach};
 
 use crate::evidence::Evidence;
 use dnsv_canonical::{RecordNumber, numbered};
-use dnsv_denial::{PartName, PartRelation, ProofPart};
 use dnsv_lines::{Line, Part, RecordPlace, Relation, Role};
 use dnsv_names::Name;
+use dnsv_proof_forms::{PartName, PartRelation, ProofPart};
 use std::alloc::AllocError;
 
 /// Adds the lines of the parts of a proof for the question's name, in their order, but for where a line before says the

@@ -2,14 +2,15 @@
 ghost use Rattle.std.specs.Prelude.{◌≡◌, ◌↔◌, IfOk, IsTrue, OnOk};
 ghost use Rattle.std.specs.Option.{option_map};
 ghost use Rattle.dnsv_names.specs.Name.{rightmost};
-ghost use Rattle.dnsv_denial.specs.forms.ProofForms.{form_encloser};
+ghost use Rattle.dnsv_proof_forms.specs.forms.ProofForms.{form_encloser};
 ghost use Rattle.dnsv_derivations.specs.Denials.{FitsEncloser, IsProofLine, IsProofSaid, IsProofTold, IsSameProof, SameEncloser, told_chain, told_form};
 ghost use Rattle.dnsv_derivations.specs.Saying.{Adds};
 
 use dnsv_canonical::RecordNumber;
-use dnsv_denial::{ChainKind, ProofForm, ShownDenial};
+use dnsv_denial::ShownDenial;
 use dnsv_lines::{Chain, Form, Line, Proof};
 use dnsv_names::Name;
+use dnsv_proof_forms::{ChainKind, ProofForm};
 use std::alloc::AllocError;
 
 /// Adds the line of the proof, where its form has one, but for where a line before says the same.

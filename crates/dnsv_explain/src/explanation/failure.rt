@@ -7,11 +7,11 @@ ghost use Rattle.dnsv_derivations.specs.Explained.{setting_in};
 ghost use Rattle.dnsv_explain.specs.Explanation.{IsFailureTold};
 ghost use Rattle.dnsv_derivations.specs.Saying.{Adds};
 
-use dnsv_denial::Hashes;
 use dnsv_derivations::Evidence;
 use dnsv_holding::{At, add_keys_in_question};
 use dnsv_lines::Line;
 use dnsv_names::{Name, RecordType};
+use dnsv_proof_forms::Hashes;
 use dnsv_reasons::{CaseFacts, failures};
 use dnsv_verdict::Case;
 use std::alloc::{AllocError, Global};

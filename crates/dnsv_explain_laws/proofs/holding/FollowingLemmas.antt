@@ -6,7 +6,7 @@ use Rattle.std.specs.List.{Contains}
 use Rattle.dnsv_names.specs.Name.{Labels, rightmost}
 use Rattle.dnsv_canonical.specs.Rrsets.{IsNumbered, ReceivedRrset}
 use Rattle.dnsv_chain.specs.Trusted.{IsSecured, IsTrusted}
-use Rattle.dnsv_denial.specs.words.EvidenceWords.{Chain, evidence_said}
+use Rattle.dnsv_denial.specs.gathering.EvidenceWords.{Chain, evidence_said}
 use Rattle.dnsv_denial.proofs.lemmas.more.FormLemmas.{SaysNoLess, cut_to, opts_out_to}
 use Rattle.dnsv_denial.proofs.lemmas.more.EvidenceLemmas.{chain_to}
 use Rattle.dnsv_derivations.specs.Explained.{Setting}

@@ -12,18 +12,18 @@ use Rattle.dnsv_zones.specs.chains.Rdata.{parameters_of}
 use Rattle.dnsv_zones.specs.zones.Types.{IsUnsignedDelegation}
 use Rattle.dnsv_canonical.specs.declared.number.RecordNumber.{RecordNumber}
 use Rattle.dnsv_canonical.proofs.OrderLemmas.{each_of}
-use Rattle.dnsv_denial.specs.proving.Numbers.{number_at, numbers_of, record_count}
-use Rattle.dnsv_denial.specs.records.Record.{read_nsec3}
-use Rattle.dnsv_denial.specs.words.Asked.{said_word}
-use Rattle.dnsv_denial.specs.words.ChainSaid.{IsOptOutOfChain, IsTypesAt, chain_said}
-use Rattle.dnsv_denial.specs.words.EvidenceWords.{number_cmp}
-use Rattle.dnsv_denial.specs.words.SaidAt.{AreAllPlaces}
-use Rattle.dnsv_denial.specs.declared.records.chain_records.ChainRecords.{ChainRecords}
-use Rattle.dnsv_denial.specs.declared.records.chain_records.ChainRecords.TheVariants.{Nsec, Nsec3}
-use Rattle.dnsv_denial.specs.declared.records.entry.Nsec3Entry.{Nsec3Entry}
-use Rattle.dnsv_denial.specs.declared.words.asked.AskedName.TheVariants as name
-use Rattle.dnsv_denial.specs.declared.words.asked.AskedTypes.TheVariants as types
-use Rattle.dnsv_denial.specs.declared.words.asked.AskedWord.TheVariants as word
+use Rattle.dnsv_proof_forms.specs.records.Numbers.{number_at, numbers_of, record_count}
+use Rattle.dnsv_proof_forms.specs.records.Record.{read_nsec3}
+use Rattle.dnsv_proof_forms.specs.words.Asked.{said_word}
+use Rattle.dnsv_proof_forms.specs.words.ChainSaid.{IsOptOutOfChain, IsTypesAt, chain_said}
+use Rattle.dnsv_denial.specs.gathering.EvidenceWords.{number_cmp}
+use Rattle.dnsv_proof_forms.specs.words.SaidAt.{AreAllPlaces}
+use Rattle.dnsv_proof_forms.specs.declared.records.chain_records.ChainRecords.{ChainRecords}
+use Rattle.dnsv_proof_forms.specs.declared.records.chain_records.ChainRecords.TheVariants.{Nsec, Nsec3}
+use Rattle.dnsv_proof_forms.specs.declared.records.entry.Nsec3Entry.{Nsec3Entry}
+use Rattle.dnsv_proof_forms.specs.declared.words.asked.AskedName.TheVariants as name
+use Rattle.dnsv_proof_forms.specs.declared.words.asked.AskedTypes.TheVariants as types
+use Rattle.dnsv_proof_forms.specs.declared.words.asked.AskedWord.TheVariants as word
 use Rattle.dnsv_mending.specs.declared.facts.signature.RrsetFacts.{RrsetFacts}
 use Rattle.dnsv_chain.specs.Basis.{Basis}
 use Rattle.dnsv_gaps.specs.Asking.{Asking, asking}

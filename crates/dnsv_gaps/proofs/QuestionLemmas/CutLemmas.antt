@@ -9,10 +9,10 @@ use Rattle.dnsv_records.specs.declared.rrsig.Rrsig.{Rrsig}
 use Rattle.dnsv_canonical.specs.Rrsets.{ReceivedRrset}
 use Rattle.dnsv_chain.proofs.ZipLemmas.{zip_push}
 use Rattle.dnsv_canonical.specs.declared.number.RecordNumber.{RecordNumber}
-use Rattle.dnsv_denial.specs.words.EvidenceWords.{Chain}
-use Rattle.dnsv_denial.specs.declared.words.asked.AskedName.TheVariants as name
-use Rattle.dnsv_denial.specs.declared.words.asked.AskedTypes.TheVariants as types
-use Rattle.dnsv_denial.specs.declared.words.asked.AskedWord.TheVariants as word
+use Rattle.dnsv_denial.specs.gathering.EvidenceWords.{Chain}
+use Rattle.dnsv_proof_forms.specs.declared.words.asked.AskedName.TheVariants as name
+use Rattle.dnsv_proof_forms.specs.declared.words.asked.AskedTypes.TheVariants as types
+use Rattle.dnsv_proof_forms.specs.declared.words.asked.AskedWord.TheVariants as word
 use Rattle.dnsv_zones.specs.zones.Types.{IsDelegation, IsUnsignedDelegation}
 use Rattle.dnsv_faults.specs.KnownZones.{HasRrset, IsKnownZone}
 use Rattle.dnsv_faults.proofs.lemmas.KnownLemmas.{read_of}

@@ -6,13 +6,13 @@ use Rattle.std.specs.List.{AllByRecursion, Contains}
 use Rattle.dnsv_names.specs.Name.{Labels, rightmost}
 use Rattle.dnsv_canonical.specs.Rrsets.{IsNumbered, ReceivedRrset}
 use Rattle.dnsv_canonical.specs.declared.number.RecordNumber.{RecordNumber}
-use Rattle.dnsv_denial.specs.words.Asked.{asked_name, said_word}
-use Rattle.dnsv_denial.specs.words.EvidenceWords.{Chain}
-use Rattle.dnsv_denial.specs.words.EvidenceWords.Chain.{ByNsec, ByNsec3}
-use Rattle.dnsv_denial.specs.declared.words.asked.AskedName.{AskedName}
-use Rattle.dnsv_denial.specs.declared.words.asked.AskedName.TheVariants as name
-use Rattle.dnsv_denial.specs.declared.words.asked.AskedWord.{AskedWord}
-use Rattle.dnsv_denial.specs.declared.words.asked.AskedWord.TheVariants as word
+use Rattle.dnsv_proof_forms.specs.words.Asked.{asked_name, said_word}
+use Rattle.dnsv_denial.specs.gathering.EvidenceWords.{Chain}
+use Rattle.dnsv_denial.specs.gathering.EvidenceWords.Chain.{ByNsec, ByNsec3}
+use Rattle.dnsv_proof_forms.specs.declared.words.asked.AskedName.{AskedName}
+use Rattle.dnsv_proof_forms.specs.declared.words.asked.AskedName.TheVariants as name
+use Rattle.dnsv_proof_forms.specs.declared.words.asked.AskedWord.{AskedWord}
+use Rattle.dnsv_proof_forms.specs.declared.words.asked.AskedWord.TheVariants as word
 use Rattle.dnsv_verifier.specs.Asking.{AddsJust, ComesOfSome}
 use Rattle.dnsv_gaps.specs.Asking.{Asking, asking}
 use Rattle.dnsv_gaps.specs.SourceSearch.{AreHeldSources, AreSaying, Says, chain_of, held_chain, zone_in}

@@ -6,16 +6,16 @@ use Rattle.dnsv_records.specs.declared.rrsig.Rrsig.{Rrsig}
 use Rattle.dnsv_zones.specs.forms.Parts.{IsFirstToSay}
 use Rattle.dnsv_zones.specs.zones.TypeNumbers.{ds, soa}
 use Rattle.dnsv_canonical.specs.declared.number.RecordNumber.{RecordNumber}
-use Rattle.dnsv_denial.specs.proving.Numbers.{number_at, numbers_of, record_count}
-use Rattle.dnsv_denial.specs.words.Asked.{asked_name, said_word}
-use Rattle.dnsv_denial.specs.words.ChainSaid.{chain_said}
-use Rattle.dnsv_denial.specs.declared.words.asked.AskedName.{AskedName}
-use Rattle.dnsv_denial.specs.declared.words.asked.AskedTypes.TheVariants as types
-use Rattle.dnsv_denial.specs.declared.words.asked.AskedWord.{AskedWord}
-use Rattle.dnsv_denial.specs.declared.words.asked.AskedWord.TheVariants as word
+use Rattle.dnsv_proof_forms.specs.records.Numbers.{number_at, numbers_of, record_count}
+use Rattle.dnsv_proof_forms.specs.words.Asked.{asked_name, said_word}
+use Rattle.dnsv_proof_forms.specs.words.ChainSaid.{chain_said}
+use Rattle.dnsv_proof_forms.specs.declared.words.asked.AskedName.{AskedName}
+use Rattle.dnsv_proof_forms.specs.declared.words.asked.AskedTypes.TheVariants as types
+use Rattle.dnsv_proof_forms.specs.declared.words.asked.AskedWord.{AskedWord}
+use Rattle.dnsv_proof_forms.specs.declared.words.asked.AskedWord.TheVariants as word
 use Rattle.dnsv_remedies.specs.declared.facts.cut.CutCase.{CutCase}
 use Rattle.dnsv_gaps.specs.Asking.{Asking, IsAsked, asking}
-use Rattle.dnsv_denial.specs.words.EvidenceWords.{number_cmp}
+use Rattle.dnsv_denial.specs.gathering.EvidenceWords.{number_cmp}
 use Rattle.dnsv_gaps.specs.Cases.{IsAt}
 use Rattle.dnsv_gaps.specs.questions.Cuts.{HasOptOut, IsCutCase, IsNext, IsSeen, IsShown, lowest_cut}
 use Rattle.dnsv_gaps.specs.SourceSearch.{AreHeldSources, chain_of, held_chain, said_in, zone_in}

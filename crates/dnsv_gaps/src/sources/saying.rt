@@ -1,8 +1,8 @@
 //! Which records of a source say what of a name that is asked for.
 ghost use Rattle.std.specs.Prelude.{◌≡◌, ◌↔◌, ◌<◌, ℕ, Contains, IfOk, IsTrue, map};
 ghost use Rattle.std.specs.List.{AllByRecursion};
-ghost use Rattle.dnsv_denial.specs.proving.Numbers.{number_at, numbers_of, record_count};
-ghost use Rattle.dnsv_denial.specs.words.Asked.{IsWithin};
+ghost use Rattle.dnsv_proof_forms.specs.records.Numbers.{number_at, numbers_of, record_count};
+ghost use Rattle.dnsv_proof_forms.specs.words.Asked.{IsWithin};
 ghost use Rattle.dnsv_canonical.specs.declared.number.RecordNumber.{RecordNumber};
 ghost use Rattle.dnsv_chain.specs.Basis.{basis_by};
 ghost use Rattle.dnsv_gaps.specs.Parts.{AreFactsOf, IsInEvidence};
@@ -12,8 +12,8 @@ use crate::asked::AskedQuestion;
 use crate::parts::facts_of_numbers;
 use crate::sources::ZoneSource;
 use dnsv_canonical::RecordNumber;
-use dnsv_denial::{AskedName, AskedWord, ChainRecords, places_saying};
 use dnsv_mending::RrsetFacts;
+use dnsv_proof_forms::{AskedName, AskedWord, ChainRecords, places_saying};
 use std::alloc::{AllocError, Global};
 
 /// The numbers of all records of the source that say the word of the name, rising.

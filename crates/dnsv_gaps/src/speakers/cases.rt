@@ -15,7 +15,7 @@ use crate::sources::saying::{facts_saying, has_saying};
 use crate::speakers::cases::at_name::records_at;
 use crate::speakers::cases::closed::first_closed;
 use crate::speakers::cases::encloser::encloser_case;
-use dnsv_denial::{AskedName, AskedTypes, AskedWord};
+use dnsv_proof_forms::{AskedName, AskedTypes, AskedWord};
 use dnsv_remedies::SourceCase;
 use std::alloc::{AllocError, Global};
 

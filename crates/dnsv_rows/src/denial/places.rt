@@ -1,17 +1,17 @@
 //! Calls of the functions below a view, which are asked about the records of one chain: of each RRset of a capture they
 //! get the first record. Its place among these is counted from 0.
-ghost use Rattle.dnsv_denial.specs.words.ChainSaid.{HasHashes};
+ghost use Rattle.dnsv_proof_forms.specs.words.ChainSaid.{HasHashes};
 
 use crate::denial::rtype_of;
 use crate::evidence::capture_or_refusal;
 use crate::row::{Row, RowError};
 use bumpalo::Bump;
 use dnsv_canonical::{Capture, RecordNumber, Rrset};
-use dnsv_denial::{
+use dnsv_names::{Count, Hash20, Name};
+use dnsv_proof_forms::{
     ChainRecords, HashedRecords, Nsec3Entries, Nsec3Entry, NsecEntry, Places, no_closer, no_data,
     no_name, opt_out, opts_out_next_closer, unsigned_delegation,
 };
-use dnsv_names::{Count, Hash20, Name};
 use dnsv_records::base32hex_read;
 use dnsv_zones::hash_names;
 use std::alloc::Global;

@@ -10,13 +10,13 @@ use Rattle.dnsv_canonical.specs.Rrsets.{ReceivedRrset}
 use Rattle.dnsv_canonical.specs.SignedData.{IsExpanded}
 use Rattle.dnsv_canonical.specs.declared.number.RecordNumber.{RecordNumber}
 use Rattle.dnsv_chain.specs.Trust.{KeptTrust, SecuredIn as KeptIn}
-use Rattle.dnsv_denial.specs.forms.ProofForms.{form_records}
+use Rattle.dnsv_proof_forms.specs.forms.ProofForms.{form_records}
 use Rattle.dnsv_denial.specs.proving.FirstProof.{IsFirstNoData, IsFirstNoName, ProofRecords}
-use Rattle.dnsv_denial.specs.proving.ProofParts.{form_parts}
+use Rattle.dnsv_proof_forms.specs.forms.ProofParts.{form_parts}
 use Rattle.dnsv_denial.specs.proving.ShownDenials.{IsShownNoCloser, IsShownNoData, IsShownNoName}
-use Rattle.dnsv_denial.specs.words.EvidenceWords.{Chain, evidence_said}
+use Rattle.dnsv_denial.specs.gathering.EvidenceWords.{Chain, evidence_said}
 use Rattle.dnsv_denial.specs.declared.proving.shown_denial.ShownDenial.{ShownDenial}
-use Rattle.dnsv_denial.specs.declared.records.chain_kind.ChainKind.{ChainKind}
+use Rattle.dnsv_proof_forms.specs.declared.records.chain_kind.ChainKind.{ChainKind}
 use Rattle.dnsv_verdict.specs.Secure.{IsSecureSet}
 use Rattle.dnsv_verdict.specs.Settled.{IsSettledAs}
 use Rattle.dnsv_verdict.specs.Way.{IsVerdictOf, LeadTo}

@@ -5,23 +5,23 @@ use Rattle.std.specs.List.{AllByRecursion, Contains}
 use Rattle.dnsv_names.specs.Name.{Labels, lower_case}
 use Rattle.dnsv_canonical.specs.declared.number.RecordNumber.{RecordNumber}
 use Rattle.dnsv_canonical.specs.declared.number.SignatureNumber.{SignatureNumber}
-use Rattle.dnsv_denial.specs.forms.ProofForms.{ShowsNoData, ShowsNoName, form_records, wildcard_records}
-use Rattle.dnsv_denial.specs.forms.ProofForms.ShowsNoData.{at_name, empty, at_wildcard, empty_wildcard}
-use Rattle.dnsv_denial.specs.forms.ProofForms.ShowsNoName.{no_name as name_shown}
+use Rattle.dnsv_proof_forms.specs.forms.ProofForms.{ShowsNoData, ShowsNoName, form_records, wildcard_records}
+use Rattle.dnsv_proof_forms.specs.forms.ProofForms.ShowsNoData.{at_name, empty, at_wildcard, empty_wildcard}
+use Rattle.dnsv_proof_forms.specs.forms.ProofForms.ShowsNoName.{no_name as name_shown}
 use Rattle.dnsv_denial.specs.proving.FirstProof.{AreRecordsOf}
-use Rattle.dnsv_denial.specs.proving.ProofParts.{encloser_part, encloser_relation, form_parts, part_by, wildcard_parts}
-use Rattle.dnsv_denial.specs.records.RecordsAt.{listed}
-use Rattle.dnsv_denial.specs.words.EvidenceWords.{number_cmp}
+use Rattle.dnsv_proof_forms.specs.forms.ProofParts.{encloser_part, encloser_relation, form_parts, part_by, wildcard_parts}
+use Rattle.dnsv_proof_forms.specs.records.RecordsAt.{listed}
+use Rattle.dnsv_denial.specs.gathering.EvidenceWords.{number_cmp}
 use Rattle.dnsv_zones.specs.forms.RecordWords.{RecordWords}
-use Rattle.dnsv_denial.specs.declared.forms.proof_form.ProofForm.{ProofForm}
-use Rattle.dnsv_denial.specs.declared.forms.proof_form.ProofForm.TheVariants as shown_form
-use Rattle.dnsv_denial.specs.declared.forms.proof_form.WildcardParts.{WildcardParts}
-use Rattle.dnsv_denial.specs.declared.proving.proof_part.PartName.{PartName}
-use Rattle.dnsv_denial.specs.declared.proving.proof_part.PartName.TheVariants as part
-use Rattle.dnsv_denial.specs.declared.proving.proof_part.PartRelation.{PartRelation}
-use Rattle.dnsv_denial.specs.declared.proving.proof_part.PartRelation.TheVariants as relation
+use Rattle.dnsv_proof_forms.specs.declared.forms.proof_form.ProofForm.{ProofForm}
+use Rattle.dnsv_proof_forms.specs.declared.forms.proof_form.ProofForm.TheVariants as shown_form
+use Rattle.dnsv_proof_forms.specs.declared.forms.proof_form.WildcardParts.{WildcardParts}
+use Rattle.dnsv_proof_forms.specs.declared.forms.proof_part.PartName.{PartName}
+use Rattle.dnsv_proof_forms.specs.declared.forms.proof_part.PartName.TheVariants as part
+use Rattle.dnsv_proof_forms.specs.declared.forms.proof_part.PartRelation.{PartRelation}
+use Rattle.dnsv_proof_forms.specs.declared.forms.proof_part.PartRelation.TheVariants as relation
 use Rattle.dnsv_denial.specs.declared.proving.shown_denial.ShownDenial.{ShownDenial}
-use Rattle.dnsv_denial.specs.declared.records.chain_kind.ChainKind.{ChainKind}
+use Rattle.dnsv_proof_forms.specs.declared.records.chain_kind.ChainKind.{ChainKind}
 use Rattle.dnsv_derivations.specs.Denials.{IsDenialTold, IsFormTold, IsPartTold, IsProofOf, IsProofSaid, IsProofTold, told_form}
 use Rattle.dnsv_derivations.specs.Explained.{Setting}
 use Rattle.dnsv_derivations.specs.Following.{IsSignatureSaid}

@@ -6,20 +6,20 @@ use Rattle.dnsv_names.specs.Tree.{wildcard_of}
 use Rattle.dnsv_zones.specs.zones.Types.{Denies}
 use Rattle.dnsv_canonical.specs.Rrsets.{ReceivedRrset}
 use Rattle.dnsv_canonical.specs.declared.number.RecordNumber.{RecordNumber}
-use Rattle.dnsv_denial.specs.forms.ProofForms.{ShowsNoCloser, ShowsNoData, ShowsNoName, form_records}
-use Rattle.dnsv_denial.specs.forms.ProofForms.ShowsNoCloser.{no_closer as closer_shown}
-use Rattle.dnsv_denial.specs.forms.ProofForms.ShowsNoData.{at_name, empty, at_wildcard, empty_wildcard}
-use Rattle.dnsv_denial.specs.forms.ProofForms.ShowsNoName.{no_name as name_shown}
-use Rattle.dnsv_denial.specs.forms.ShownUnsigned.{ShowsDelegation, ShowsOptOut, ShowsOptOutCloser}
-use Rattle.dnsv_denial.specs.forms.ShownUnsigned.ShowsDelegation.{delegation as delegation_shown}
-use Rattle.dnsv_denial.specs.forms.ShownUnsigned.ShowsOptOut.{opt_out as out_shown, wildcard_opt_out as wildcard_out_shown}
-use Rattle.dnsv_denial.specs.forms.ShownUnsigned.ShowsOptOutCloser.{opt_out_closer as closer_out_shown}
-use Rattle.dnsv_denial.specs.proving.ProofParts.{encloser_part, form_parts, part_name}
+use Rattle.dnsv_proof_forms.specs.forms.ProofForms.{ShowsNoCloser, ShowsNoData, ShowsNoName, form_records}
+use Rattle.dnsv_proof_forms.specs.forms.ProofForms.ShowsNoCloser.{no_closer as closer_shown}
+use Rattle.dnsv_proof_forms.specs.forms.ProofForms.ShowsNoData.{at_name, empty, at_wildcard, empty_wildcard}
+use Rattle.dnsv_proof_forms.specs.forms.ProofForms.ShowsNoName.{no_name as name_shown}
+use Rattle.dnsv_proof_forms.specs.forms.ShownUnsigned.{ShowsDelegation, ShowsOptOut, ShowsOptOutCloser}
+use Rattle.dnsv_proof_forms.specs.forms.ShownUnsigned.ShowsDelegation.{delegation as delegation_shown}
+use Rattle.dnsv_proof_forms.specs.forms.ShownUnsigned.ShowsOptOut.{opt_out as out_shown, wildcard_opt_out as wildcard_out_shown}
+use Rattle.dnsv_proof_forms.specs.forms.ShownUnsigned.ShowsOptOutCloser.{opt_out_closer as closer_out_shown}
+use Rattle.dnsv_proof_forms.specs.forms.ProofParts.{encloser_part, form_parts, part_name}
 use Rattle.dnsv_denial.specs.proving.ShownDenials.{kind_of}
-use Rattle.dnsv_denial.specs.words.EvidenceWords.{Chain, evidence_said, number_cmp}
-use Rattle.dnsv_denial.specs.declared.forms.proof_form.ProofForm.{ProofForm}
-use Rattle.dnsv_denial.specs.declared.proving.proof_part.ProofPart.{ProofPart}
-use Rattle.dnsv_denial.specs.declared.records.chain_kind.ChainKind.{ChainKind}
+use Rattle.dnsv_denial.specs.gathering.EvidenceWords.{Chain, evidence_said, number_cmp}
+use Rattle.dnsv_proof_forms.specs.declared.forms.proof_form.ProofForm.{ProofForm}
+use Rattle.dnsv_proof_forms.specs.declared.forms.proof_part.ProofPart.{ProofPart}
+use Rattle.dnsv_proof_forms.specs.declared.records.chain_kind.ChainKind.{ChainKind}
 use Rattle.dnsv_derivations.specs.Denials.{told_relation, told_role}
 use Rattle.dnsv_lines.specs.declared.line.Line.{Line}
 use Rattle.dnsv_lines.specs.declared.line.denial.Relation.{Relation}

@@ -10,25 +10,25 @@ use Rattle.dnsv_zones.specs.forms.RecordWords.{RecordWords, words}
 use Rattle.dnsv_zones.specs.zones.Types.{Denies}
 use Rattle.dnsv_canonical.specs.Rrsets.{ReceivedRrset}
 use Rattle.dnsv_canonical.specs.declared.number.RecordNumber.{RecordNumber}
-use Rattle.dnsv_denial.specs.forms.ProofForms.{ShowsEncloser, ShowsNoCloser, ShowsNoData, ShowsNoName, ShowsWildcard, form_encloser, form_records, wildcard_records}
-use Rattle.dnsv_denial.specs.forms.ProofForms.ShowsNoCloser.{no_closer as closer_shown}
-use Rattle.dnsv_denial.specs.forms.ProofForms.ShowsNoData.{at_name, empty, at_wildcard, empty_wildcard}
-use Rattle.dnsv_denial.specs.forms.ProofForms.ShowsNoName.{no_name as name_shown}
-use Rattle.dnsv_denial.specs.forms.ShownUnsigned.{ShowsDelegation, ShowsOptOut, ShowsOptOutCloser}
-use Rattle.dnsv_denial.specs.forms.ShownUnsigned.ShowsDelegation.{delegation as delegation_shown}
-use Rattle.dnsv_denial.specs.forms.ShownUnsigned.ShowsOptOut.{opt_out as out_shown, wildcard_opt_out as wildcard_out_shown}
-use Rattle.dnsv_denial.specs.forms.ShownUnsigned.ShowsOptOutCloser.{opt_out_closer as closer_out_shown}
-use Rattle.dnsv_denial.specs.proving.ProofParts.{encloser_part, form_parts, wildcard_parts}
+use Rattle.dnsv_proof_forms.specs.forms.ProofForms.{ShowsEncloser, ShowsNoCloser, ShowsNoData, ShowsNoName, ShowsWildcard, form_encloser, form_records, wildcard_records}
+use Rattle.dnsv_proof_forms.specs.forms.ProofForms.ShowsNoCloser.{no_closer as closer_shown}
+use Rattle.dnsv_proof_forms.specs.forms.ProofForms.ShowsNoData.{at_name, empty, at_wildcard, empty_wildcard}
+use Rattle.dnsv_proof_forms.specs.forms.ProofForms.ShowsNoName.{no_name as name_shown}
+use Rattle.dnsv_proof_forms.specs.forms.ShownUnsigned.{ShowsDelegation, ShowsOptOut, ShowsOptOutCloser}
+use Rattle.dnsv_proof_forms.specs.forms.ShownUnsigned.ShowsDelegation.{delegation as delegation_shown}
+use Rattle.dnsv_proof_forms.specs.forms.ShownUnsigned.ShowsOptOut.{opt_out as out_shown, wildcard_opt_out as wildcard_out_shown}
+use Rattle.dnsv_proof_forms.specs.forms.ShownUnsigned.ShowsOptOutCloser.{opt_out_closer as closer_out_shown}
+use Rattle.dnsv_proof_forms.specs.forms.ProofParts.{encloser_part, form_parts, wildcard_parts}
 use Rattle.dnsv_denial.specs.proving.ShownDenials.{kind_of}
-use Rattle.dnsv_denial.specs.records.RecordsAt.{listed}
-use Rattle.dnsv_denial.specs.words.EvidenceWords.{Chain, evidence_said, number_cmp}
-use Rattle.dnsv_denial.specs.words.EvidenceWords.Chain.{ByNsec, ByNsec3}
-use Rattle.dnsv_denial.specs.declared.forms.proof_form.ProofForm.{ProofForm}
-use Rattle.dnsv_denial.specs.declared.forms.proof_form.ProofForm.TheVariants.{NoCloser}
-use Rattle.dnsv_denial.specs.declared.forms.proof_form.WildcardParts.{WildcardParts}
-use Rattle.dnsv_denial.specs.declared.proving.proof_part.PartRelation.{PartRelation}
-use Rattle.dnsv_denial.specs.declared.proving.proof_part.PartRelation.TheVariants as related
-use Rattle.dnsv_denial.specs.declared.proving.proof_part.ProofPart.{ProofPart}
+use Rattle.dnsv_proof_forms.specs.records.RecordsAt.{listed}
+use Rattle.dnsv_denial.specs.gathering.EvidenceWords.{Chain, evidence_said, number_cmp}
+use Rattle.dnsv_denial.specs.gathering.EvidenceWords.Chain.{ByNsec, ByNsec3}
+use Rattle.dnsv_proof_forms.specs.declared.forms.proof_form.ProofForm.{ProofForm}
+use Rattle.dnsv_proof_forms.specs.declared.forms.proof_form.ProofForm.TheVariants.{NoCloser}
+use Rattle.dnsv_proof_forms.specs.declared.forms.proof_form.WildcardParts.{WildcardParts}
+use Rattle.dnsv_proof_forms.specs.declared.forms.proof_part.PartRelation.{PartRelation}
+use Rattle.dnsv_proof_forms.specs.declared.forms.proof_part.PartRelation.TheVariants as related
+use Rattle.dnsv_proof_forms.specs.declared.forms.proof_part.ProofPart.{ProofPart}
 use Rattle.dnsv_derivations.specs.Denials.{told_form}
 use Rattle.dnsv_derivations.proofs.lemmas.denials.PartLemmas.{nsec_by, nsec3_by, word_by}
 use Rattle.dnsv_lines.specs.declared.line.Line.{Line}

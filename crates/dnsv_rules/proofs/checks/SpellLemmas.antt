@@ -12,8 +12,8 @@ use Rattle.dnsv_zones.specs.forms.Parts.{OptsOutNextCloser}
 use Rattle.dnsv_zones.specs.forms.RecordWords.{words}
 use Rattle.dnsv_canonical.specs.Rrsets.{ReceivedRrset}
 use Rattle.dnsv_canonical.specs.declared.number.RecordNumber.{RecordNumber}
-use Rattle.dnsv_denial.specs.words.EvidenceWords.{Chain, SaidByNsec, SaidByNsec3}
-use Rattle.dnsv_denial.specs.words.EvidenceWords.Chain.{ByNsec, ByNsec3}
+use Rattle.dnsv_denial.specs.gathering.EvidenceWords.{Chain, SaidByNsec, SaidByNsec3}
+use Rattle.dnsv_denial.specs.gathering.EvidenceWords.Chain.{ByNsec, ByNsec3}
 use Rattle.dnsv_derivations.proofs.lemmas.denials.PartLemmas.{zone_as}
 use Rattle.dnsv_lines.specs.declared.line.Line.{Line}
 use Rattle.dnsv_rules.specs.Told.{IsShownGood, shown_said, told_words}

@@ -6,8 +6,8 @@ use Rattle.dnsv_names.specs.Name.{Labels, lower_case}
 use Rattle.dnsv_canonical.specs.Rrsets.{ReceivedRrset}
 use Rattle.dnsv_canonical.specs.declared.number.RecordNumber.{RecordNumber}
 use Rattle.dnsv_denial.specs.gathering.Evidence.{IsSecuredBy}
-use Rattle.dnsv_denial.specs.proving.ProofParts.{part_name}
-use Rattle.dnsv_denial.specs.declared.proving.proof_part.ProofPart.{ProofPart}
+use Rattle.dnsv_proof_forms.specs.forms.ProofParts.{part_name}
+use Rattle.dnsv_proof_forms.specs.declared.forms.proof_part.ProofPart.{ProofPart}
 use Rattle.dnsv_derivations.specs.Denials.{IsPartSaid, IsPartTold, IsTellingOf, number_told, told_relation}
 use Rattle.dnsv_derivations.specs.Explained.{Setting}
 use Rattle.dnsv_derivations.specs.Saying.{AreEach}

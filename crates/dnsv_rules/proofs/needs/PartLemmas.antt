@@ -8,7 +8,7 @@ use Rattle.dnsv_names.specs.Tree.TreeLaws.{at_or_below_trans, same_at_or_below}
 use Rattle.dnsv_zones.specs.forms.Forms.{EndsAt}
 use Rattle.dnsv_zones.specs.forms.RecordWords.{RecordWords, words}
 use Rattle.dnsv_canonical.specs.declared.number.RecordNumber.{RecordNumber}
-use Rattle.dnsv_denial.specs.words.EvidenceWords.{Chain}
+use Rattle.dnsv_denial.specs.gathering.EvidenceWords.{Chain}
 use Rattle.dnsv_derivations.specs.Denials.{SameEncloser, number_told}
 use Rattle.dnsv_derivations.specs.Explained.{Setting}
 use Rattle.dnsv_lines.specs.declared.line.Line.{Line}

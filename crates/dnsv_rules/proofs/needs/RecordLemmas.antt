@@ -12,8 +12,8 @@ use Rattle.dnsv_canonical.specs.Rrsets.{ReceivedRrset}
 use Rattle.dnsv_canonical.specs.declared.number.RecordNumber.{RecordNumber}
 use Rattle.dnsv_chain.specs.Trusted.{IsTrusted}
 use Rattle.dnsv_denial.specs.gathering.Evidence.{IsSecuredBy}
-use Rattle.dnsv_denial.specs.words.EvidenceWords.{Chain, evidence_said}
-use Rattle.dnsv_denial.specs.words.EvidenceWords.Chain.{ByNsec, ByNsec3}
+use Rattle.dnsv_denial.specs.gathering.EvidenceWords.{Chain, evidence_said}
+use Rattle.dnsv_denial.specs.gathering.EvidenceWords.Chain.{ByNsec, ByNsec3}
 use Rattle.dnsv_denial.proofs.lemmas.gathering.EvidenceLemmas.{one_nsec_of}
 use Rattle.dnsv_denial.proofs.lemmas.gathering.NumberedLemmas.{nsec_or_nsec3, one_nsec3_of}
 use Rattle.dnsv_derivations.specs.Explained.{Setting}

@@ -7,7 +7,7 @@ use Rattle.dnsv_zones.specs.forms.RecordWords.{RecordWords, words}
 use Rattle.dnsv_zones.specs.zones.Types.{Denies}
 use Rattle.dnsv_canonical.specs.declared.number.RecordNumber.{RecordNumber}
 use Rattle.dnsv_canonical.proofs.CanonicalLemmas.{IsMember}
-use Rattle.dnsv_denial.proofs.lemmas.forms.PartsForm.{SayNoMore, member_left}
+use Rattle.dnsv_proof_forms.proofs.lemmas.forms.PartsForm.{SayNoMore, member_left}
 
 -- ---- members
 

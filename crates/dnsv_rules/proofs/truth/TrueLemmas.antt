@@ -14,7 +14,7 @@ use Rattle.dnsv_canonical.specs.declared.number.RecordNumber.{RecordNumber}
 use Rattle.dnsv_canonical.proofs.CanonicalLemmas.{IsMember-from_contains}
 use Rattle.dnsv_denial.specs.proving.FirstProof.{ProofRecords}
 use Rattle.dnsv_denial.specs.proving.ProofMeaning.{HasProofRecords, HasProofWithoutCollision}
-use Rattle.dnsv_denial.specs.words.EvidenceWords.{Chain}
+use Rattle.dnsv_denial.specs.gathering.EvidenceWords.{Chain}
 use Rattle.dnsv_denial.proofs.meaning.CutMeaningLemmas.{absent_end, opted_out_end}
 use Rattle.dnsv_derivations.specs.Denials.{SameEncloser}
 use Rattle.dnsv_derivations.specs.Explained.{Setting}

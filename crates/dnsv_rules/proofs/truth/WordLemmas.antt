@@ -22,9 +22,9 @@ use Rattle.dnsv_denial.specs.gathering.Evidence.{IsNsecOf, IsNsec3Of}
 use Rattle.dnsv_denial.specs.proving.FirstProof.{ProofRecords}
 use Rattle.dnsv_denial.specs.proving.ProofMeaning.{HasProofRecords, IsWithoutCollision}
 use Rattle.dnsv_denial.specs.proving.ProofMeaning.HasProofRecords.{by_nsec, by_nsec3}
-use Rattle.dnsv_denial.specs.words.EvidenceWords.{Chain, SaidByNsec, evidence_said, nsec3_said, nsec_said}
-use Rattle.dnsv_denial.specs.words.EvidenceWords.Chain.{ByNsec, ByNsec3}
-use Rattle.dnsv_denial.proofs.lemmas.forms.PartsForm.{SayNoMore}
+use Rattle.dnsv_denial.specs.gathering.EvidenceWords.{Chain, SaidByNsec, evidence_said, nsec3_said, nsec_said}
+use Rattle.dnsv_denial.specs.gathering.EvidenceWords.Chain.{ByNsec, ByNsec3}
+use Rattle.dnsv_proof_forms.proofs.lemmas.forms.PartsForm.{SayNoMore}
 use Rattle.dnsv_denial.proofs.lemmas.gathering.NumberedLemmas.{nsec_or_nsec3}
 use Rattle.dnsv_denial.proofs.meaning.ProofMeaningLemmas.{no_nsec3, nsec3_no_nsec, nsec3_say, nsec_say, numbered, with_parameters}
 

@@ -4,7 +4,7 @@ use Rattle.std.specs.List.{enumerate_from}
 use Rattle.std.specs.Prelude.{⊤, Contains}
 use Rattle.dnsv_names.specs.Name.{Labels, rightmost}
 use Rattle.dnsv_chain.specs.Trusted.{IsSecured}
-use Rattle.dnsv_denial.specs.words.EvidenceWords.{Chain}
+use Rattle.dnsv_denial.specs.gathering.EvidenceWords.{Chain}
 use Rattle.dnsv_faults.proofs.lemmas.zones.ClosedLemmas.{contains_of}
 use Rattle.dnsv_faults.proofs.lemmas.zones.TrustLemmas.{zip_left}
 use Rattle.dnsv_gaps.specs.Asking.{Asking}

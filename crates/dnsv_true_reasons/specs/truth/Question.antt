@@ -9,7 +9,7 @@ use Rattle.dnsv_zones.specs.zones.TypeNumbers.{dname}
 use Rattle.dnsv_canonical.specs.Rrsets.{IsNumbered, ReceivedRrset}
 use Rattle.dnsv_chain.specs.Trusted.{IsSecured}
 use Rattle.dnsv_denial.specs.proving.FirstProof.{StandsBy}
-use Rattle.dnsv_denial.specs.words.EvidenceWords.{Chain}
+use Rattle.dnsv_denial.specs.gathering.EvidenceWords.{Chain}
 use Rattle.dnsv_faults.specs.KnownZones.{IsKnownZone}
 use Rattle.dnsv_faults.specs.Signatures.{IsSignatureAt}
 use Rattle.dnsv_gaps.specs.Asking.{Asking}

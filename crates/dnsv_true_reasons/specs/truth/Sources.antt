@@ -12,7 +12,7 @@ use Rattle.dnsv_zones.specs.zones.Types.{IsClosed, IsDelegation}
 use Rattle.dnsv_canonical.specs.Rrsets.{ReceivedRrset}
 use Rattle.dnsv_canonical.specs.declared.number.RecordNumber.{RecordNumber}
 use Rattle.dnsv_denial.specs.gathering.Evidence.{IsRecordAt}
-use Rattle.dnsv_denial.specs.words.EvidenceWords.{Chain}
+use Rattle.dnsv_denial.specs.gathering.EvidenceWords.{Chain}
 use Rattle.dnsv_gaps.specs.Asking.{Asking}
 use Rattle.dnsv_gaps.specs.Cases.{HasNone, IsAt, IsRuledOut}
 use Rattle.dnsv_gaps.specs.Sources.{HasRecords, source_said}

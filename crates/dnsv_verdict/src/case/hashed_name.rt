@@ -6,8 +6,8 @@ ghost use Rattle.dnsv_zones.specs.chains.HashedNames.{hashes_for};
 ghost use Rattle.dnsv_canonical.specs.Evidence.{AreParameters, nsec3_rdata};
 
 use dnsv_canonical::Capture;
-use dnsv_denial::Hashes;
 use dnsv_names::{Count, Name};
+use dnsv_proof_forms::Hashes;
 use std::alloc::{AllocError, Global};
 use std::marker::Model;
 use std::rc::Rc;
@@ -23,7 +23,7 @@ pub struct HashedName<'a> {
 
 impl<'a> Model for HashedName<'a> {
     ghost use Rattle.std.specs.Prelude.{◌≡◌};
-    ghost use Rattle.dnsv_denial.specs.QuestionHashes.{HashedQuestion};
+    ghost use Rattle.dnsv_proof_forms.specs.QuestionHashes.{HashedQuestion};
     ghost use Rattle.dnsv_verdict.specs.Report.Hashed.{AreDigestsFor};
 
     ghost Value = { HashedQuestion };

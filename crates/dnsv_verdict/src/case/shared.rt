@@ -12,8 +12,8 @@ ghost use Rattle.dnsv_verdict.specs.Report.{hashed_in};
 
 use crate::case::Case;
 use crate::case::hashed_name::HashedName;
-use dnsv_denial::Hashes;
 use dnsv_names::{Count, Name};
+use dnsv_proof_forms::Hashes;
 use std::alloc::{AllocError, Global};
 use std::rc::Rc;
 

@@ -22,10 +22,10 @@ use Rattle.dnsv_chain.specs.declared.by_owner.key.OwnerKey.{OwnerKey}
 use Rattle.dnsv_denial.specs.gathering.ByZone.{AreDenialRecords, AreGatheredRecords, AreSecuredRecords, IsZoneAmong}
 use Rattle.dnsv_denial.specs.gathering.Evidence.{IsNsecAt, IsNsec3At, IsSecuredBy}
 use Rattle.dnsv_denial.specs.gathering.Gathered.{AreNsecsOf, AreNsec3sOf, IsDenialType}
-use Rattle.dnsv_denial.specs.records.Record.{read_entry, read_nsec3}
+use Rattle.dnsv_proof_forms.specs.records.Record.{read_entry, read_nsec3}
 use Rattle.dnsv_denial.specs.declared.gathering.denial_records.DenialRecords.{DenialRecords}
 use Rattle.dnsv_denial.specs.declared.gathering.denial_records.SecuredZone.{SecuredZone}
-use Rattle.dnsv_denial.specs.declared.records.zone_records.GatheredRecords.{GatheredRecords}
+use Rattle.dnsv_denial.specs.declared.gathering.zone_records.GatheredRecords.{GatheredRecords}
 use Rattle.dnsv_denial.proofs.lemmas.gathering.EvidenceLemmas.{all_said}
 use Rattle.dnsv_denial.proofs.lemmas.gathering.NsecGather.{nsecs_of_zone}
 use Rattle.dnsv_denial.proofs.lemmas.gathering.Nsec3Gather.{nsec3s_of_zone}

@@ -1,9 +1,9 @@
 -- Members of lists, and the records that are gathered for a zone.
-use Rattle.std.proofs.Common.{◌≡◌, ℕ, zero, suc, ◌-◌, ap, map, ◌<◌, ◌≤◌, Bool, true, false, length, get_or, List, [], ◌∷◌, refl, sym, ◌∙◌, subst, inl, inr, ⊎_elim, arith}
+use Rattle.std.proofs.Common.{◌≡◌, ℕ, suc, ◌-◌, ◌<◌, ◌≤◌, Bool, true, false, length, get_or, List, [], ◌∷◌, refl, sym, ◌∙◌, subst, inl, inr, ⊎_elim, arith}
 use Rattle.std.proofs.lemmas.List.Elements.{Contains-get_or}
 use Rattle.dnsv_zones.specs.Any.{Any}
 use Rattle.std.specs.Prelude.{Contains, IsTrue, not, Some, None, slice_get}
-use Rattle.std.specs.List.{AllByRecursion, AllZip}
+use Rattle.std.specs.List.{AllZip}
 use Rattle.dnsv_names.specs.Name.{Labels, SameName}
 use Rattle.dnsv_records.specs.Rrsig.{IsRrsig}
 use Rattle.dnsv_records.specs.declared.rrsig.Rrsig.{Rrsig}
@@ -96,20 +96,6 @@ not_true false isnt = refl
 
 pub contained : (xs : List ℕ) (i d s : ℕ) → s ≡ get_or xs i d → i < length xs → Contains xs s
 contained xs i d s is within = subst (Contains xs) (sym is) (Contains-get_or xs i d within)
-
-pub mapped_at : {X Y : Type 0} (f : X → Y) (xs : List X) (i : ℕ) (x : X) → slice_get xs i ≡ Some x → slice_get (map f xs) i ≡ Some (f x)
-mapped_at f [] i x at = cc
-mapped_at f (y ∷ xs) zero x at = let is : y ≡ x = cc in ap (λ z. Some (f z)) is
-mapped_at f (y ∷ xs) (suc i) x at = mapped_at f xs i x at
-
-pub each_at : {X : Type 0} (P : X → Type 0) (xs : List X) (i : ℕ) (x : X) → AllByRecursion P xs → slice_get xs i ≡ Some x → P x
-each_at P [] i x all at = cc
-each_at P (y ∷ xs) zero x all at = let is : y ≡ x = cc in subst P is all.0
-each_at P (y ∷ xs) (suc i) x all at = each_at P xs i x all.1 at
-
-pub mapped_length : {X Y : Type 0} (f : X → Y) (xs : List X) → length (map f xs) ≡ length xs
-mapped_length f [] = refl
-mapped_length f (x ∷ xs) = ap suc (mapped_length f xs)
 
 pub none_at_all : {X : Type 0} (P : X → Type 0) (xs : List X) (n : ℕ) → n ≡ length xs
     → ((k : ℕ) (x : X) → k < n → slice_get xs k ≡ Some x → ¬ P x) → ¬ Any P xs

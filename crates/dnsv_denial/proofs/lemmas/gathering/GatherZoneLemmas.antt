@@ -20,12 +20,13 @@ use Rattle.dnsv_records.specs.declared.nsec3.Nsec3Parameters.{Nsec3Parameters}
 use Rattle.dnsv_zones.specs.chains.Rdata.{parameters_of}
 use Rattle.dnsv_canonical.proofs.CanonicalLemmas.{rising_map}
 use Rattle.dnsv_canonical.specs.Rrsets.{ReceivedRrset}
-use Rattle.dnsv_denial.specs.gathering.Kept.{IsSetOf, IsZoneOf}
-use Rattle.dnsv_denial.specs.words.EvidenceWords.{parameters_cmp}
-use Rattle.dnsv_denial.specs.declared.gathering.parameters.OrderedParameters.{OrderedParameters}
-use Rattle.dnsv_denial.specs.declared.records.zone_records.NameHashes.{NameHashes}
-use Rattle.dnsv_denial.specs.declared.records.zone_records.ZoneRecords.{ZoneRecords}
-use Rattle.dnsv_denial.proofs.lemmas.proving.ZoneChainLemmas.{parameters_total}
+use Rattle.dnsv_proof_forms.specs.KeptHashes.{IsSetOf}
+use Rattle.dnsv_denial.specs.gathering.Kept.{IsZoneOf}
+use Rattle.dnsv_proof_forms.specs.records.ParametersOrder.{parameters_cmp}
+use Rattle.dnsv_proof_forms.specs.declared.records.parameters.OrderedParameters.{OrderedParameters}
+use Rattle.dnsv_proof_forms.specs.declared.records.name_hashes.NameHashes.{NameHashes}
+use Rattle.dnsv_denial.specs.declared.gathering.zone_records.ZoneRecords.{ZoneRecords}
+use Rattle.dnsv_proof_forms.proofs.lemmas.records.ParametersLemmas.{parameters_total}
 
 -- ---- zones
 

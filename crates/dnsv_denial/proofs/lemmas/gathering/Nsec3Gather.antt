@@ -15,8 +15,8 @@ use Rattle.dnsv_canonical.specs.CanonicalRdata.{canonical_form}
 use Rattle.dnsv_canonical.specs.Rrsets.{IsNumbered, ReceivedRrset}
 use Rattle.dnsv_denial.specs.gathering.Evidence.{IsHashedOwner, IsNsec3At, IsNsec3Of, IsRecordAt, IsSecuredBy}
 use Rattle.dnsv_denial.specs.gathering.Gathered.{AreNsec3s, AreNsec3sOf, IsDenialType, IsEntryOf}
-use Rattle.dnsv_denial.specs.records.Record.{flags_of, read_nsec3}
-use Rattle.dnsv_denial.specs.declared.records.entry.Nsec3Entry.{Nsec3Entry}
+use Rattle.dnsv_proof_forms.specs.records.Record.{flags_of, read_nsec3}
+use Rattle.dnsv_proof_forms.specs.declared.records.entry.Nsec3Entry.{Nsec3Entry}
 use Rattle.dnsv_canonical.specs.declared.number.RecordNumber.{RecordNumber}
 use Rattle.dnsv_denial.proofs.lemmas.gathering.EvidenceLemmas.{all_said, one_record, nsec3_forms}
 use Rattle.dnsv_canonical.proofs.NumberLemmas.{one_numbered}

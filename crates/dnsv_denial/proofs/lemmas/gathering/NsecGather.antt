@@ -14,9 +14,9 @@ use Rattle.dnsv_canonical.proofs.CanonicalLemmas.{canonical_unique}
 use Rattle.dnsv_denial.specs.gathering.Evidence.{IsRecordAt, IsNsecAt, IsNsecOf, IsSecuredBy}
 use Rattle.std.specs.declared.cmp.Ordering.TheVariants.{Less}
 use Rattle.dnsv_denial.specs.gathering.Gathered.{AreNsecs, AreNsecsOf, IsDenialType}
-use Rattle.dnsv_denial.specs.records.Record.{read_entry}
-use Rattle.dnsv_denial.specs.words.EvidenceWords.{number_cmp}
-use Rattle.dnsv_denial.specs.declared.records.entry.NsecEntry.{NsecEntry}
+use Rattle.dnsv_proof_forms.specs.records.Record.{read_entry}
+use Rattle.dnsv_denial.specs.gathering.EvidenceWords.{number_cmp}
+use Rattle.dnsv_proof_forms.specs.declared.records.entry.NsecEntry.{NsecEntry}
 use Rattle.dnsv_canonical.specs.declared.number.RecordNumber.{RecordNumber}
 use Rattle.dnsv_denial.proofs.lemmas.gathering.EvidenceLemmas.{one_nsec_of, nsec_forms, same_rrset_less, all_joined, all_none, all_single, all_said}
 use Rattle.dnsv_canonical.proofs.NumberLemmas.{one_numbered}

@@ -12,7 +12,7 @@ use Rattle.dnsv_records.specs.declared.rrsig.Rrsig.{Rrsig}
 use Rattle.dnsv_canonical.specs.Rrsets.{IsNumbered, ReceivedRrset}
 use Rattle.dnsv_denial.specs.gathering.Evidence.{HasZoneSignature, IsNsecAt, IsNsec3At, IsSecuredBy}
 use Rattle.dnsv_denial.specs.gathering.Gathered.{AreListed, AreNsecsOf, AreNsec3sOf, IsDenialType}
-use Rattle.dnsv_denial.specs.records.Record.{read_entry, read_nsec3}
+use Rattle.dnsv_proof_forms.specs.records.Record.{read_entry, read_nsec3}
 use Rattle.dnsv_denial.proofs.lemmas.gathering.EvidenceLemmas.{all_none}
 use Rattle.dnsv_canonical.proofs.NumberLemmas.{one_numbered}
 use Rattle.dnsv_denial.proofs.lemmas.gathering.GatherLemmas.{its_zone_signature, with_number}

@@ -1,19 +1,17 @@
 -- What a chain's records say by their places, the evidence says by their numbers.
 use Rattle.std.proofs.Common.{◌≡◌, ℕ, ◌-◌, List, length, drop, refl, ap, subst, arith}
-use Rattle.std.proofs.lemmas.Option.{slice_get_within}
 use Rattle.dnsv_names.specs.Name.{Labels, rightmost}
 use Rattle.dnsv_canonical.specs.Rrsets.{ReceivedRrset}
 use Rattle.dnsv_denial.specs.proving.ChainOf.{IsChainOf, kind_of_records}
-use Rattle.dnsv_denial.specs.proving.Numbers.{numbers_of, record_count}
+use Rattle.dnsv_proof_forms.specs.records.Numbers.{numbers_of}
 use Rattle.dnsv_denial.specs.proving.ShownDenials.{kind_of}
-use Rattle.dnsv_denial.specs.words.ChainSaid.{chain_said}
-use Rattle.dnsv_denial.specs.words.EvidenceWords.{Chain, evidence_said}
-use Rattle.dnsv_denial.specs.words.EvidenceWords.Chain.{ByNsec, ByNsec3}
-use Rattle.dnsv_denial.specs.declared.records.chain_records.ChainRecords.{ChainRecords}
-use Rattle.dnsv_denial.specs.declared.records.chain_records.ChainRecords.TheVariants.{Nsec, Nsec3}
-use Rattle.dnsv_denial.proofs.lemmas.words.AlikeLemmas.{in_order, nsec_alike, nsec3_alike}
-use Rattle.dnsv_denial.proofs.lemmas.forms.DenialLemmas.{AreBound}
-use Rattle.dnsv_denial.proofs.lemmas.words.IndexLemmas.{AreInOrder, SayAlike}
+use Rattle.dnsv_proof_forms.specs.words.ChainSaid.{chain_said}
+use Rattle.dnsv_denial.specs.gathering.EvidenceWords.{Chain, evidence_said}
+use Rattle.dnsv_denial.specs.gathering.EvidenceWords.Chain.{ByNsec, ByNsec3}
+use Rattle.dnsv_proof_forms.specs.declared.records.chain_records.ChainRecords.{ChainRecords}
+use Rattle.dnsv_proof_forms.specs.declared.records.chain_records.ChainRecords.TheVariants.{Nsec, Nsec3}
+use Rattle.dnsv_denial.proofs.lemmas.gathering.AlikeLemmas.{in_order, nsec_alike, nsec3_alike}
+use Rattle.dnsv_proof_forms.proofs.lemmas.words.IndexLemmas.{AreInOrder, SayAlike}
 
 module _ (Secured : ℕ → ℕ → Type 0) (rrsets : List ReceivedRrset) (zone : Labels) where
   pub chain_order : (chain : Chain) (records : ChainRecords) → IsChainOf Secured rrsets zone chain records → AreInOrder (numbers_of records)
@@ -37,22 +35,6 @@ module _ (Secured : ℕ → ℕ → Type 0) (rrsets : List ReceivedRrset) (zone 
   chain_kinds ByNsec (Nsec3 hashed) are = absurd are
   chain_kinds (ByNsec3 parameters) (Nsec entries) are = absurd are
   chain_kinds (ByNsec3 parameters) (Nsec3 hashed) are = refl
-
-pub chain_bound : (apex : Labels) (records : ChainRecords) → AreBound (record_count records) (chain_said apex records)
-chain_bound apex (Nsec entries) = record {
-  encloser = λ name place said. slice_get_within entries.now place said.entry said.there;
-  absent = λ name place said. slice_get_within entries.now place said.entry said.there;
-  empty_non_terminal = λ name place said. slice_get_within entries.now place said.entry said.there;
-  types_at = λ name Says place said. slice_get_within entries.now place said.entry said.there;
-  opted_out = λ name place none. absurd none;
-}
-chain_bound apex (Nsec3 hashed) = record {
-  encloser = λ name place said. slice_get_within hashed.now.entries.now place said.entry said.there;
-  absent = λ name place said. slice_get_within hashed.now.entries.now place said.entry said.there;
-  empty_non_terminal = λ name place none. absurd none;
-  types_at = λ name Says place said. slice_get_within hashed.now.entries.now place said.entry said.there;
-  opted_out = λ name place said. slice_get_within hashed.now.entries.now place said.entry said.there;
-}
 
 pub all_labels : (zone : Labels) → rightmost zone (length zone) ≡ zone
 all_labels zone = let none : length zone - length zone ≡ 0 = omega arith in ap (λ n. drop n zone) none

@@ -10,23 +10,23 @@ use Rattle.dnsv_zones.specs.forms.Forms.{NoDataForms, NoNameForm, Words}
 use Rattle.dnsv_zones.specs.forms.Parts.{AreNoDataParts, AreNoNameParts}
 use Rattle.dnsv_zones.specs.forms.RecordWords.{RecordWords, words}
 use Rattle.dnsv_canonical.specs.Rrsets.{ReceivedRrset}
-use Rattle.dnsv_denial.specs.forms.Denials.{DenialForm}
-use Rattle.dnsv_denial.specs.forms.ProofForms.{ShowsNoData, ShowsNoName, form_records}
-use Rattle.dnsv_denial.specs.forms.ShownUnsigned.{ShowsDenial}
+use Rattle.dnsv_proof_forms.specs.forms.Denials.{DenialForm}
+use Rattle.dnsv_proof_forms.specs.forms.ProofForms.{ShowsNoData, ShowsNoName, form_records}
+use Rattle.dnsv_proof_forms.specs.forms.ShownUnsigned.{ShowsDenial}
 use Rattle.dnsv_denial.specs.gathering.Kept.{AreZones, IsZoneOf, IsZoneProof}
 use Rattle.dnsv_denial.specs.proving.ChainOf.{CanBeShown, StandsAs}
 use Rattle.dnsv_denial.specs.proving.FirstProof.{IsFirstNoData, IsFirstNoName, IsFirstProof}
 use Rattle.dnsv_denial.specs.proving.ShownDenials.{IsFirstShown, IsShownNoData, IsShownNoName}
-use Rattle.dnsv_denial.specs.words.EvidenceWords.{Chain, evidence_said, number_cmp}
-use Rattle.dnsv_denial.specs.declared.forms.denial.Denial.{Denial}
-use Rattle.dnsv_denial.specs.declared.forms.proof_form.ProofForm.{ProofForm}
+use Rattle.dnsv_denial.specs.gathering.EvidenceWords.{Chain, evidence_said, number_cmp}
+use Rattle.dnsv_proof_forms.specs.declared.forms.denial.Denial.{Denial}
+use Rattle.dnsv_proof_forms.specs.declared.forms.proof_form.ProofForm.{ProofForm}
 use Rattle.dnsv_canonical.specs.declared.number.RecordNumber.{RecordNumber}
-use Rattle.dnsv_denial.specs.declared.forms.denial.Denial.TheVariants as denied
+use Rattle.dnsv_proof_forms.specs.declared.forms.denial.Denial.TheVariants as denied
 use Rattle.dnsv_names.specs.declared.number.RecordType.{RecordType}
 use Rattle.dnsv_denial.specs.declared.proving.shown_denial.ShownDenial.{ShownDenial}
-use Rattle.dnsv_denial.specs.declared.records.zone_records.ZoneRecords.{ZoneRecords}
-use Rattle.dnsv_denial.proofs.lemmas.forms.DenialLemmas.{shown_stands}
-use Rattle.dnsv_denial.proofs.lemmas.forms.ShowsLemmas.{no_data_parts, no_name_parts}
+use Rattle.dnsv_denial.specs.declared.gathering.zone_records.ZoneRecords.{ZoneRecords}
+use Rattle.dnsv_proof_forms.proofs.lemmas.forms.DenialLemmas.{shown_stands}
+use Rattle.dnsv_proof_forms.proofs.lemmas.forms.ShowsLemmas.{no_data_parts, no_name_parts}
 
 module _ (Secured : ℕ → ℕ → Type 0) (rrsets : List ReceivedRrset) (denial : Denial) (name : Labels) where
   -- no zone with so many labels or more has a proof

@@ -11,20 +11,20 @@ use Rattle.dnsv_zones.specs.forms.Forms.{IsAbove, NoCloserForm}
 use Rattle.dnsv_zones.specs.forms.Parts.{OptsOutNextCloser}
 use Rattle.dnsv_canonical.specs.Rrsets.{ReceivedRrset}
 use Rattle.dnsv_canonical.proofs.CanonicalLemmas.{IsMember, IsMember-from_contains, Contains-from_member}
-use Rattle.dnsv_denial.specs.forms.ProofForms.{ShowsNoCloser, form_records}
-use Rattle.dnsv_denial.specs.forms.ProofForms.ShowsNoCloser.{no_closer}
-use Rattle.dnsv_denial.specs.forms.ShownUnsigned.{ShowsOptOutCloser}
-use Rattle.dnsv_denial.specs.forms.ShownUnsigned.ShowsOptOutCloser.{opt_out_closer}
+use Rattle.dnsv_proof_forms.specs.forms.ProofForms.{ShowsNoCloser, form_records}
+use Rattle.dnsv_proof_forms.specs.forms.ProofForms.ShowsNoCloser.{no_closer}
+use Rattle.dnsv_proof_forms.specs.forms.ShownUnsigned.{ShowsOptOutCloser}
+use Rattle.dnsv_proof_forms.specs.forms.ShownUnsigned.ShowsOptOutCloser.{opt_out_closer}
 use Rattle.dnsv_denial.specs.gathering.Evidence.{IsNsecAt, IsNsec3At, IsSecuredBy}
 use Rattle.dnsv_denial.specs.gathering.Kept.{IsZoneProof}
 use Rattle.dnsv_denial.specs.proving.FirstProof.{AreRecordsOf, CanProveNoCloser, IsFirstNoCloser, IsFirstOfZone, ProofRecords, StandsBy}
 use Rattle.dnsv_denial.specs.proving.ShownDenials.{IsShownNoCloser}
 use Rattle.dnsv_denial.specs.unsigned_cuts.Cuts.{HasOptedOutNextCloser}
 use Rattle.dnsv_denial.specs.unsigned_cuts.ShownCut.{IsShownOptOutCloser}
-use Rattle.dnsv_denial.specs.words.EvidenceWords.{Chain, evidence_said, number_cmp}
-use Rattle.dnsv_denial.specs.words.EvidenceWords.Chain.{ByNsec, ByNsec3}
-use Rattle.dnsv_denial.specs.declared.forms.denial.Denial.TheVariants as denied
-use Rattle.dnsv_denial.specs.declared.forms.proof_form.ProofForm.{ProofForm}
+use Rattle.dnsv_denial.specs.gathering.EvidenceWords.{Chain, evidence_said, number_cmp}
+use Rattle.dnsv_denial.specs.gathering.EvidenceWords.Chain.{ByNsec, ByNsec3}
+use Rattle.dnsv_proof_forms.specs.declared.forms.denial.Denial.TheVariants as denied
+use Rattle.dnsv_proof_forms.specs.declared.forms.proof_form.ProofForm.{ProofForm}
 use Rattle.dnsv_denial.specs.declared.proving.shown_denial.ShownDenial.{ShownDenial}
 use Rattle.dnsv_canonical.specs.declared.number.RecordNumber.{RecordNumber}
 use Rattle.dnsv_denial.proofs.lemmas.proving.NumberLemmas.{number_cmp_total}

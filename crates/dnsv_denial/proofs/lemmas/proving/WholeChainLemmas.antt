@@ -21,9 +21,9 @@ use Rattle.dnsv_zones.proofs.lemmas.chains.MoreLemmas.{SayMore}
 use Rattle.dnsv_canonical.specs.Rrsets.{ReceivedRrset}
 use Rattle.dnsv_canonical.proofs.CanonicalLemmas.{IsMember}
 use Rattle.dnsv_denial.specs.gathering.Evidence.{IsNsecAt, IsNsec3At, IsNsecOf, IsNsec3Of}
-use Rattle.dnsv_denial.specs.words.EvidenceWords.{nsec_said, nsec3_said}
+use Rattle.dnsv_denial.specs.gathering.EvidenceWords.{nsec_said, nsec3_said}
 use Rattle.dnsv_canonical.specs.declared.number.RecordNumber.{RecordNumber}
-use Rattle.dnsv_denial.proofs.lemmas.forms.PartsForm.{SayNoMore}
+use Rattle.dnsv_proof_forms.proofs.lemmas.forms.PartsForm.{SayNoMore}
 use Rattle.dnsv_denial.proofs.meaning.ProofMeaningLemmas.{nsec_say, nsec3_say}
 
 -- a member that is such stands beside its number

@@ -1,7 +1,5 @@
 -- The chains that are asked of a zone: each at its number, in their order, and all that have a record.
 use Rattle.std.proofs.Common.{◌≡◌, ℕ, zero, suc, ◌+◌, ◌<◌, List, [], ◌∷◌, length, map, get_or, refl, sym, ap, ◌∙◌, subst, arith}
-use Rattle.std.proofs.lemmas.Cmp.{nat_cmp_total, nat_list_cmp_total, on_total, then_total}
-use Rattle.std.specs.Cmp.{IsTotalOrder}
 use Rattle.std.specs.Ordering.{ordering_reverse}
 use Rattle.std.specs.declared.cmp.Ordering.TheVariants.{Less, Greater}
 use Rattle.std.specs.Prelude.{⊤, Some, slice_get}
@@ -12,13 +10,15 @@ use Rattle.dnsv_canonical.specs.Rrsets.{ReceivedRrset}
 use Rattle.dnsv_denial.specs.gathering.Evidence.{IsNsec3At}
 use Rattle.dnsv_denial.specs.gathering.Kept.{AreSets}
 use Rattle.dnsv_denial.specs.proving.ZoneChains.{chain_at, chains_of}
-use Rattle.dnsv_denial.specs.words.EvidenceWords.{Chain, GoesBefore, parameters_cmp}
-use Rattle.dnsv_denial.specs.words.EvidenceWords.Chain.{ByNsec, ByNsec3}
-use Rattle.dnsv_denial.specs.words.EvidenceWords.GoesBefore.{nsec_first, by_parameters}
+use Rattle.dnsv_denial.specs.gathering.EvidenceWords.{Chain, GoesBefore}
+use Rattle.dnsv_proof_forms.specs.records.ParametersOrder.{parameters_cmp}
+use Rattle.dnsv_denial.specs.gathering.EvidenceWords.Chain.{ByNsec, ByNsec3}
+use Rattle.dnsv_denial.specs.gathering.EvidenceWords.GoesBefore.{nsec_first, by_parameters}
 use Rattle.dnsv_canonical.specs.declared.number.RecordNumber.{RecordNumber}
-use Rattle.dnsv_denial.specs.declared.records.zone_records.NameHashes.{NameHashes}
-use Rattle.dnsv_denial.proofs.lemmas.gathering.GatherLemmas.{mapped_at, mapped_length}
-use Rattle.dnsv_denial.proofs.lemmas.words.AlikeLemmas.{any_place}
+use Rattle.dnsv_proof_forms.specs.declared.records.name_hashes.NameHashes.{NameHashes}
+use Rattle.dnsv_proof_forms.proofs.lemmas.records.ParametersLemmas.{parameters_total}
+use Rattle.dnsv_proof_forms.proofs.lemmas.PlaceLemmas.{mapped_at, mapped_length}
+use Rattle.dnsv_denial.proofs.lemmas.gathering.AlikeLemmas.{any_place}
 
 -- ---- by numbers
 
@@ -60,9 +60,6 @@ module _ (Secured : ℕ → ℕ → Type 0) (rrsets : List ReceivedRrset) (zone 
       (suc it.0, mapped_at (λ (set : NameHashes). ByNsec3 (parameters_of set.parameters.now)) sets it.0 it.1 it.2 ∙ ap (λ p. Some (ByNsec3 p)) (it.3 ∙ one.same))
 
 -- ---- in their order
-
-pub parameters_total : IsTotalOrder parameters_cmp
-parameters_total = then_total (on_total (λ (p : Parameters). p.iterations) nat_cmp_total) (on_total (λ (p : Parameters). p.salt) nat_list_cmp_total)
 
 not_both_less : (a b : Parameters) → parameters_cmp a b ≡ Less → parameters_cmp b a ≡ Less → ⊥
 not_both_less a b less more = let turned : Less ≡ Greater = sym less ∙ parameters_total.antisymm a b ∙ ap ordering_reverse more in cc

@@ -10,14 +10,14 @@ use Rattle.dnsv_canonical.specs.Rrsets.{ReceivedRrset}
 use Rattle.dnsv_denial.specs.gathering.Kept.{AreSets, IsZoneProof}
 use Rattle.dnsv_denial.specs.proving.ChainOf.{IsShownBy, StandsAs}
 use Rattle.dnsv_denial.specs.proving.ZoneChains.{chains_of}
-use Rattle.dnsv_denial.specs.words.EvidenceWords.{Chain, nsec3_said}
-use Rattle.dnsv_denial.specs.words.EvidenceWords.Chain.{ByNsec, ByNsec3}
+use Rattle.dnsv_denial.specs.gathering.EvidenceWords.{Chain, nsec3_said}
+use Rattle.dnsv_denial.specs.gathering.EvidenceWords.Chain.{ByNsec, ByNsec3}
 use Rattle.dnsv_denial.specs.declared.proving.shown_denial.ShownDenial.{ShownDenial}
-use Rattle.dnsv_denial.specs.declared.records.zone_records.NameHashes.{NameHashes}
+use Rattle.dnsv_proof_forms.specs.declared.records.name_hashes.NameHashes.{NameHashes}
 use Rattle.dnsv_denial.proofs.lemmas.proving.ZoneChainLemmas.{HasOne, HasOneOf, in_their_order, no_circle, number_of}
 use Rattle.dnsv_names.specs.Tree.{wildcard_of}
-use Rattle.dnsv_denial.specs.declared.forms.denial.Denial.{Denial}
-use Rattle.dnsv_denial.specs.declared.forms.denial.Denial.TheVariants.{NoName, NoData, NoCloser, Delegation, OptOut, OptOutCloser}
+use Rattle.dnsv_proof_forms.specs.declared.forms.denial.Denial.{Denial}
+use Rattle.dnsv_proof_forms.specs.declared.forms.denial.Denial.TheVariants.{NoName, NoData, NoCloser, Delegation, OptOut, OptOutCloser}
 use Rattle.dnsv_canonical.specs.declared.number.RecordNumber.{RecordNumber}
 
 -- a denial by a chain has a record of it

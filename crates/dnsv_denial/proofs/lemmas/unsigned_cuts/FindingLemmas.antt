@@ -158,11 +158,13 @@ module _ (Secured : ℕ → ℕ → Type 0) (rrsets : List ReceivedRrset) (name 
       (no_usable_ds n (none_at (IsUnsignedDelegationCut Secured rrsets name) one no_first found.unsigned_delegation)
       (fewest_at (IsUnusableDsCut Secured rrsets name) two n is found.unusable_ds))
 
-  pub cut_left_out : (n : ℕ) (cut : Labels) → one ≡ None → two ≡ None → three ≡ Some n → cut ≡ rightmost name (n + 1) → IsUnsignedCut Secured rrsets name cut
-  cut_left_out n cut no_first no_second is same = subst (IsUnsignedCut Secured rrsets name) (sym same)
+  pub cut_left_out : (n : ℕ) (cut : Labels) → one ≡ None → two ≡ None → three ≡ Some n → (n < length name → cut ≡ rightmost name (n + 1))
+      → IsUnsignedCut Secured rrsets name cut
+  cut_left_out n cut no_first no_second is same =
+      let most = most_at (IsOptOutCut Secured rrsets name) three n is found.left_out in
+      subst (IsUnsignedCut Secured rrsets name) (sym (same most.holds.3.above.proper))
       (opt_out n (none_at (IsUnsignedDelegationCut Secured rrsets name) one no_first found.unsigned_delegation)
-      (none_at (IsUnusableDsCut Secured rrsets name) two no_second found.unusable_ds)
-      (most_at (IsOptOutCut Secured rrsets name) three n is found.left_out))
+      (none_at (IsUnusableDsCut Secured rrsets name) two no_second found.unusable_ds) most)
 
   pub no_cut : one ≡ None → two ≡ None → three ≡ None → ¬ HasUnsignedCut Secured rrsets name
   no_cut no_first no_second no_third has =

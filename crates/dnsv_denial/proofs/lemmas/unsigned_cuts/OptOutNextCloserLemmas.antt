@@ -10,21 +10,21 @@ use Rattle.dnsv_zones.specs.forms.RecordWords.{RecordWords}
 use Rattle.dnsv_canonical.specs.Rrsets.{ReceivedRrset}
 use Rattle.dnsv_denial.specs.gathering.Kept.{AreSets, AreZones, IsZoneOf}
 use Rattle.dnsv_denial.specs.proving.ChainOf.{IsChainOf}
-use Rattle.dnsv_denial.specs.proving.Numbers.{numbers_of}
+use Rattle.dnsv_proof_forms.specs.records.Numbers.{numbers_of}
 use Rattle.dnsv_denial.specs.proving.ZoneChains.{chains_of}
 use Rattle.dnsv_denial.specs.unsigned_cuts.Cuts.{HasOptedOutNextCloser}
 use Rattle.dnsv_denial.specs.unsigned_cuts.ShownCuts.{OptsOutNextCloserOf}
-use Rattle.dnsv_denial.specs.words.ChainSaid.{chain_said}
-use Rattle.dnsv_denial.specs.words.EvidenceWords.{Chain, evidence_said}
-use Rattle.dnsv_denial.specs.words.EvidenceWords.Chain.{ByNsec, ByNsec3}
+use Rattle.dnsv_proof_forms.specs.words.ChainSaid.{chain_said}
+use Rattle.dnsv_denial.specs.gathering.EvidenceWords.{Chain, evidence_said}
+use Rattle.dnsv_denial.specs.gathering.EvidenceWords.Chain.{ByNsec, ByNsec3}
 use Rattle.dnsv_canonical.specs.declared.number.RecordNumber.{RecordNumber}
-use Rattle.dnsv_denial.specs.declared.records.chain_records.ChainRecords.{ChainRecords}
-use Rattle.dnsv_denial.specs.declared.records.zone_records.NameHashes.{NameHashes}
-use Rattle.dnsv_denial.specs.declared.records.zone_records.ZoneRecords.{ZoneRecords}
+use Rattle.dnsv_proof_forms.specs.declared.records.chain_records.ChainRecords.{ChainRecords}
+use Rattle.dnsv_proof_forms.specs.declared.records.name_hashes.NameHashes.{NameHashes}
+use Rattle.dnsv_denial.specs.declared.gathering.zone_records.ZoneRecords.{ZoneRecords}
 use Rattle.dnsv_denial.proofs.lemmas.proving.ChainProofLemmas.{chain_alike}
 use Rattle.dnsv_denial.proofs.lemmas.proving.ZoneChainLemmas.{HasOneOf, number_of}
 use Rattle.dnsv_denial.proofs.lemmas.proving.RespelledZoneLemmas.{above_as, opted_out_as}
-use Rattle.dnsv_denial.proofs.lemmas.words.IndexLemmas.{SayAlike}
+use Rattle.dnsv_proof_forms.proofs.lemmas.words.IndexLemmas.{SayAlike}
 
 -- ---- by places and by numbers
 

@@ -5,16 +5,16 @@ use Rattle.dnsv_names.specs.Name.{Labels}
 use Rattle.dnsv_canonical.specs.Rrsets.{ReceivedRrset}
 use Rattle.dnsv_denial.specs.proving.ChainOf.{CanBeShown}
 use Rattle.dnsv_denial.specs.proving.ShownDenials.{IsFirstShown}
-use Rattle.dnsv_denial.specs.forms.Denials.{DenialForm}
-use Rattle.dnsv_denial.specs.forms.ShownUnsigned.{ShowsDenial}
+use Rattle.dnsv_proof_forms.specs.forms.Denials.{DenialForm}
+use Rattle.dnsv_proof_forms.specs.forms.ShownUnsigned.{ShowsDenial}
 use Rattle.dnsv_denial.specs.unsigned_cuts.Cuts.{IsOptOutCut, IsUnsignedCut, IsUnsignedDelegationCut, IsUnusableDsCut}
 use Rattle.dnsv_denial.specs.unsigned_cuts.Cuts.IsUnsignedCut.{no_ds as cut_without_ds, no_usable_ds as cut_unusable, opt_out as cut_left_out}
 use Rattle.dnsv_denial.specs.unsigned_cuts.Findings.{AreFindings}
 use Rattle.dnsv_denial.specs.unsigned_cuts.ShownCut.{IsShownCut, cut_name}
 use Rattle.dnsv_denial.specs.unsigned_cuts.ShownCut.IsShownCut.{no_ds, no_usable_ds, opt_out}
-use Rattle.dnsv_denial.specs.words.EvidenceWords.{number_cmp}
-use Rattle.dnsv_denial.specs.declared.forms.denial.Denial.{Denial}
-use Rattle.dnsv_denial.specs.declared.forms.denial.Denial.TheVariants as denied
+use Rattle.dnsv_denial.specs.gathering.EvidenceWords.{number_cmp}
+use Rattle.dnsv_proof_forms.specs.declared.forms.denial.Denial.{Denial}
+use Rattle.dnsv_proof_forms.specs.declared.forms.denial.Denial.TheVariants as denied
 use Rattle.dnsv_denial.specs.declared.proving.shown_denial.ShownDenial.{ShownDenial}
 use Rattle.dnsv_denial.specs.declared.unsigned_cuts.shown_cut.ShownCut.{ShownCut}
 use Rattle.dnsv_denial.specs.declared.unsigned_cuts.shown_cut.ShownCut.TheVariants.{NoDs, NoUsableDs, OptOut}

@@ -13,23 +13,23 @@ use Rattle.dnsv_zones.proofs.lemmas.chains.MoreLemmas.{SayMore, unsigned_cut_mor
 use Rattle.dnsv_canonical.specs.Rrsets.{ReceivedRrset}
 use Rattle.dnsv_denial.specs.gathering.Kept.{AreSets, AreZones}
 use Rattle.dnsv_denial.specs.proving.ChainOf.{IsChainOf}
-use Rattle.dnsv_denial.specs.proving.Numbers.{numbers_of}
+use Rattle.dnsv_proof_forms.specs.records.Numbers.{numbers_of}
 use Rattle.dnsv_denial.specs.proving.ZoneChains.{chains_of}
 use Rattle.dnsv_denial.specs.unsigned_cuts.Cuts.{IsUnsignedDelegationCut, IsOptOutCut}
 use Rattle.dnsv_denial.specs.unsigned_cuts.Findings.{IsFewestFound, IsMostFound}
 use Rattle.dnsv_denial.specs.unsigned_cuts.ShownCuts.{IsCutOf, IsOptOutOf, IsCutIn, IsOptOutIn, IsOfFirst, AreShown, AreBoth}
-use Rattle.dnsv_denial.specs.words.ChainSaid.{chain_said}
-use Rattle.dnsv_denial.specs.words.EvidenceWords.{Chain, evidence_said, nsec3_said}
-use Rattle.dnsv_denial.specs.words.EvidenceWords.Chain.{ByNsec, ByNsec3}
+use Rattle.dnsv_proof_forms.specs.words.ChainSaid.{chain_said}
+use Rattle.dnsv_denial.specs.gathering.EvidenceWords.{Chain, evidence_said, nsec3_said}
+use Rattle.dnsv_denial.specs.gathering.EvidenceWords.Chain.{ByNsec, ByNsec3}
 use Rattle.dnsv_canonical.specs.declared.number.RecordNumber.{RecordNumber}
-use Rattle.dnsv_denial.specs.declared.records.chain_records.ChainRecords.{ChainRecords}
+use Rattle.dnsv_proof_forms.specs.declared.records.chain_records.ChainRecords.{ChainRecords}
 use Rattle.dnsv_denial.specs.declared.unsigned_cuts.shown_cuts.ShownCuts.{ShownCuts}
-use Rattle.dnsv_denial.specs.declared.records.zone_records.NameHashes.{NameHashes}
-use Rattle.dnsv_denial.specs.declared.records.zone_records.ZoneRecords.{ZoneRecords}
+use Rattle.dnsv_proof_forms.specs.declared.records.name_hashes.NameHashes.{NameHashes}
+use Rattle.dnsv_denial.specs.declared.gathering.zone_records.ZoneRecords.{ZoneRecords}
 use Rattle.dnsv_denial.proofs.lemmas.proving.ChainProofLemmas.{chain_alike}
 use Rattle.dnsv_denial.proofs.lemmas.proving.ZoneChainLemmas.{HasOne, HasOneOf, number_of}
 use Rattle.dnsv_denial.proofs.lemmas.unsigned_cuts.FindingLemmas.{fewest_as, most_as, fewest_of_both, most_of_both}
-use Rattle.dnsv_denial.proofs.lemmas.words.IndexLemmas.{SayAlike, words_to, words_from}
+use Rattle.dnsv_proof_forms.proofs.lemmas.words.IndexLemmas.{SayAlike, words_to, words_from}
 
 -- ---- what is found of one and another
 

@@ -4,23 +4,23 @@ use Rattle.std.specs.List.{AllByRecursion, Contains}
 use Rattle.dnsv_names.specs.Name.{Labels, SameName, rightmost}
 use Rattle.dnsv_names.specs.Tree.{wildcard_of}
 use Rattle.dnsv_canonical.specs.Rrsets.{ReceivedRrset}
-use Rattle.dnsv_denial.specs.forms.ProofForms.{ShowsEncloser, ShowsNoCloser, ShowsNoData, ShowsNoName, ShowsWildcard, form_encloser, form_records, wildcard_records}
-use Rattle.dnsv_denial.specs.forms.ProofForms.ShowsNoCloser.{no_closer as closer_shown}
-use Rattle.dnsv_denial.specs.forms.ProofForms.ShowsNoData.{at_name, empty, at_wildcard, empty_wildcard}
-use Rattle.dnsv_denial.specs.forms.ProofForms.ShowsNoName.{no_name as name_shown}
+use Rattle.dnsv_proof_forms.specs.forms.ProofForms.{ShowsEncloser, ShowsNoCloser, ShowsNoData, ShowsNoName, ShowsWildcard, form_encloser, form_records, wildcard_records}
+use Rattle.dnsv_proof_forms.specs.forms.ProofForms.ShowsNoCloser.{no_closer as closer_shown}
+use Rattle.dnsv_proof_forms.specs.forms.ProofForms.ShowsNoData.{at_name, empty, at_wildcard, empty_wildcard}
+use Rattle.dnsv_proof_forms.specs.forms.ProofForms.ShowsNoName.{no_name as name_shown}
 use Rattle.dnsv_denial.specs.gathering.Evidence.{IsSecuredBy}
-use Rattle.dnsv_denial.specs.records.RecordsAt.{listed}
-use Rattle.dnsv_denial.specs.proving.ProofParts.{IsPartName, encloser_part, form_parts, part_name, wildcard_parts}
+use Rattle.dnsv_proof_forms.specs.records.RecordsAt.{listed}
+use Rattle.dnsv_proof_forms.specs.forms.ProofParts.{IsPartName, encloser_part, form_parts, part_name, wildcard_parts}
 use Rattle.dnsv_denial.specs.proving.ShownDenials.{kind_of}
-use Rattle.dnsv_denial.specs.words.EvidenceWords.{Chain, evidence_said, number_cmp}
-use Rattle.dnsv_denial.specs.words.EvidenceWords.Chain.{ByNsec, ByNsec3}
-use Rattle.dnsv_denial.specs.declared.forms.proof_form.ProofForm.{ProofForm}
-use Rattle.dnsv_denial.specs.declared.forms.proof_form.WildcardParts.{WildcardParts}
-use Rattle.dnsv_denial.specs.declared.proving.proof_part.PartName.{PartName}
-use Rattle.dnsv_denial.specs.declared.proving.proof_part.PartName.TheVariants as part
-use Rattle.dnsv_denial.specs.declared.proving.proof_part.PartRelation.{PartRelation}
-use Rattle.dnsv_denial.specs.declared.proving.proof_part.PartRelation.TheVariants as related
-use Rattle.dnsv_denial.specs.declared.proving.proof_part.ProofPart.{ProofPart}
+use Rattle.dnsv_denial.specs.gathering.EvidenceWords.{Chain, evidence_said, number_cmp}
+use Rattle.dnsv_denial.specs.gathering.EvidenceWords.Chain.{ByNsec, ByNsec3}
+use Rattle.dnsv_proof_forms.specs.declared.forms.proof_form.ProofForm.{ProofForm}
+use Rattle.dnsv_proof_forms.specs.declared.forms.proof_form.WildcardParts.{WildcardParts}
+use Rattle.dnsv_proof_forms.specs.declared.forms.proof_part.PartName.{PartName}
+use Rattle.dnsv_proof_forms.specs.declared.forms.proof_part.PartName.TheVariants as part
+use Rattle.dnsv_proof_forms.specs.declared.forms.proof_part.PartRelation.{PartRelation}
+use Rattle.dnsv_proof_forms.specs.declared.forms.proof_part.PartRelation.TheVariants as related
+use Rattle.dnsv_proof_forms.specs.declared.forms.proof_part.ProofPart.{ProofPart}
 use Rattle.dnsv_canonical.specs.declared.number.RecordNumber.{RecordNumber}
 use Rattle.dnsv_derivations.specs.Denials.{FitsCase, FitsEncloser, told_case, told_relation, told_role}
 use Rattle.dnsv_derivations.specs.Following.Parts.{IsWord}

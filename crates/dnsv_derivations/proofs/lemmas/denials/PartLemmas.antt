@@ -5,8 +5,8 @@ use Rattle.dnsv_zones.specs.chains.Nsec3Chain.{Nsec3Record}
 use Rattle.dnsv_zones.specs.chains.NsecChain.{NsecRecord}
 use Rattle.dnsv_canonical.specs.Rrsets.{ReceivedRrset}
 use Rattle.dnsv_denial.specs.gathering.Evidence.{HasZoneSignature, IsSecuredBy}
-use Rattle.dnsv_denial.specs.words.EvidenceWords.{Chain, SaidByNsec, SaidByNsec3, evidence_said}
-use Rattle.dnsv_denial.specs.words.EvidenceWords.Chain.{ByNsec, ByNsec3}
+use Rattle.dnsv_denial.specs.gathering.EvidenceWords.{Chain, SaidByNsec, SaidByNsec3, evidence_said}
+use Rattle.dnsv_denial.specs.gathering.EvidenceWords.Chain.{ByNsec, ByNsec3}
 use Rattle.dnsv_canonical.specs.declared.number.RecordNumber.{RecordNumber}
 use Rattle.dnsv_derivations.specs.Following.Parts.{IsMatchFor, IsSaidBy, IsWord}
 use Rattle.dnsv_lines.specs.declared.line.denial.RecordPlace.{RecordPlace}

@@ -7,22 +7,22 @@ use Rattle.dnsv_names.specs.Tree.TreeLaws.{at_or_below_trans}
 use Rattle.dnsv_zones.specs.forms.Forms.{IsAbove}
 use Rattle.dnsv_zones.specs.forms.RecordWords.{RecordWords}
 use Rattle.dnsv_canonical.specs.Rrsets.{ReceivedRrset}
-use Rattle.dnsv_denial.specs.forms.ProofForms.{ShowsNoCloser, form_records}
-use Rattle.dnsv_denial.specs.forms.ProofForms.ShowsNoCloser.{no_closer as closer_shown}
+use Rattle.dnsv_proof_forms.specs.forms.ProofForms.{ShowsNoCloser, form_records}
+use Rattle.dnsv_proof_forms.specs.forms.ProofForms.ShowsNoCloser.{no_closer as closer_shown}
 use Rattle.dnsv_denial.specs.gathering.Evidence.{IsSecuredBy}
-use Rattle.dnsv_denial.specs.records.RecordsAt.{listed}
-use Rattle.dnsv_denial.specs.proving.ProofParts.{encloser_part, form_parts, opt_out_parts, part_by, part_name}
+use Rattle.dnsv_proof_forms.specs.records.RecordsAt.{listed}
+use Rattle.dnsv_proof_forms.specs.forms.ProofParts.{encloser_part, form_parts, opt_out_parts, part_by, part_name}
 use Rattle.dnsv_denial.specs.proving.ShownDenials.{IsFirstShown, kind_of}
-use Rattle.dnsv_denial.specs.words.EvidenceWords.{Chain, evidence_said, number_cmp}
-use Rattle.dnsv_denial.specs.declared.forms.proof_form.ProofForm.{ProofForm}
-use Rattle.dnsv_denial.specs.declared.forms.proof_form.ProofForm.TheVariants as form
-use Rattle.dnsv_denial.specs.declared.proving.proof_part.PartName.{PartName}
-use Rattle.dnsv_denial.specs.declared.proving.proof_part.PartName.TheVariants as part
-use Rattle.dnsv_denial.specs.declared.proving.proof_part.PartRelation.{PartRelation}
-use Rattle.dnsv_denial.specs.declared.proving.proof_part.PartRelation.TheVariants as related
-use Rattle.dnsv_denial.specs.declared.proving.proof_part.ProofPart.{ProofPart}
+use Rattle.dnsv_denial.specs.gathering.EvidenceWords.{Chain, evidence_said, number_cmp}
+use Rattle.dnsv_proof_forms.specs.declared.forms.proof_form.ProofForm.{ProofForm}
+use Rattle.dnsv_proof_forms.specs.declared.forms.proof_form.ProofForm.TheVariants as form
+use Rattle.dnsv_proof_forms.specs.declared.forms.proof_part.PartName.{PartName}
+use Rattle.dnsv_proof_forms.specs.declared.forms.proof_part.PartName.TheVariants as part
+use Rattle.dnsv_proof_forms.specs.declared.forms.proof_part.PartRelation.{PartRelation}
+use Rattle.dnsv_proof_forms.specs.declared.forms.proof_part.PartRelation.TheVariants as related
+use Rattle.dnsv_proof_forms.specs.declared.forms.proof_part.ProofPart.{ProofPart}
 use Rattle.dnsv_denial.specs.declared.proving.shown_denial.ShownDenial.{ShownDenial}
-use Rattle.dnsv_denial.specs.declared.records.chain_kind.ChainKind.{ChainKind}
+use Rattle.dnsv_proof_forms.specs.declared.records.chain_kind.ChainKind.{ChainKind}
 use Rattle.dnsv_canonical.specs.declared.number.RecordNumber.{RecordNumber}
 use Rattle.dnsv_derivations.specs.Explained.{Setting}
 use Rattle.dnsv_derivations.specs.Denials.{HasRrset, IsPartFit, IsShownBy, IsShownDenial, told_case, told_form, told_relation, told_role}

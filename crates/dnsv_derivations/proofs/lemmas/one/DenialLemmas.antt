@@ -2,9 +2,9 @@
 use Rattle.std.proofs.Common.{◌≡◌, ◌∙◌, List, [], ◌∷◌, Option, Some, None, sym, ap, subst}
 use Rattle.dnsv_names.specs.Name.{Labels}
 use Rattle.dnsv_canonical.specs.Rrsets.{IsNumbered, ReceivedRrset}
-use Rattle.dnsv_denial.specs.proving.ProofParts.{form_parts, part_name}
-use Rattle.dnsv_denial.specs.declared.proving.proof_part.PartName.{PartName}
-use Rattle.dnsv_denial.specs.declared.proving.proof_part.ProofPart.{ProofPart}
+use Rattle.dnsv_proof_forms.specs.forms.ProofParts.{form_parts, part_name}
+use Rattle.dnsv_proof_forms.specs.declared.forms.proof_part.PartName.{PartName}
+use Rattle.dnsv_proof_forms.specs.declared.forms.proof_part.ProofPart.{ProofPart}
 use Rattle.dnsv_denial.specs.declared.proving.shown_denial.ShownDenial.{ShownDenial}
 use Rattle.dnsv_canonical.specs.declared.number.RecordNumber.{RecordNumber}
 use Rattle.dnsv_derivations.specs.Denials.{IsCaseFor, IsDenialTold, IsExpandedTold, IsFormTold, IsPartLine, IsPartSaid, IsPartTold, IsProofLine, IsProofOf, IsProofSaid, IsProofTold, IsProofWithParts, IsTellingOf, told_case, told_form}

@@ -5,19 +5,19 @@ use Rattle.dnsv_names.specs.Name.{Labels, rightmost}
 use Rattle.dnsv_zones.specs.forms.Forms.{IsAbove}
 use Rattle.dnsv_zones.specs.forms.RecordWords.{RecordWords}
 use Rattle.dnsv_canonical.specs.Rrsets.{ReceivedRrset}
-use Rattle.dnsv_denial.specs.forms.ProofForms.{ShowsNoCloser, ShowsNoData, ShowsNoName}
-use Rattle.dnsv_denial.specs.forms.ProofForms.ShowsNoCloser.{no_closer as closer_shown}
-use Rattle.dnsv_denial.specs.forms.ProofForms.ShowsNoData.{at_name, empty, at_wildcard, empty_wildcard}
-use Rattle.dnsv_denial.specs.forms.ProofForms.ShowsNoName.{no_name as name_shown}
-use Rattle.dnsv_denial.specs.forms.ShownUnsigned.{ShowsDelegation, ShowsOptOut, ShowsOptOutCloser}
-use Rattle.dnsv_denial.specs.forms.ShownUnsigned.ShowsDelegation.{delegation}
-use Rattle.dnsv_denial.specs.forms.ShownUnsigned.ShowsOptOut.{opt_out, wildcard_opt_out}
-use Rattle.dnsv_denial.specs.forms.ShownUnsigned.ShowsOptOutCloser.{opt_out_closer}
-use Rattle.dnsv_denial.specs.records.RecordsAt.{listed}
-use Rattle.dnsv_denial.specs.words.EvidenceWords.{Chain, evidence_said, number_cmp}
-use Rattle.dnsv_denial.specs.declared.forms.proof_form.ProofForm.{ProofForm}
-use Rattle.dnsv_denial.specs.declared.proving.proof_part.PartName.TheVariants as part
-use Rattle.dnsv_denial.specs.declared.proving.proof_part.PartRelation.TheVariants as related
+use Rattle.dnsv_proof_forms.specs.forms.ProofForms.{ShowsNoCloser, ShowsNoData, ShowsNoName}
+use Rattle.dnsv_proof_forms.specs.forms.ProofForms.ShowsNoCloser.{no_closer as closer_shown}
+use Rattle.dnsv_proof_forms.specs.forms.ProofForms.ShowsNoData.{at_name, empty, at_wildcard, empty_wildcard}
+use Rattle.dnsv_proof_forms.specs.forms.ProofForms.ShowsNoName.{no_name as name_shown}
+use Rattle.dnsv_proof_forms.specs.forms.ShownUnsigned.{ShowsDelegation, ShowsOptOut, ShowsOptOutCloser}
+use Rattle.dnsv_proof_forms.specs.forms.ShownUnsigned.ShowsDelegation.{delegation}
+use Rattle.dnsv_proof_forms.specs.forms.ShownUnsigned.ShowsOptOut.{opt_out, wildcard_opt_out}
+use Rattle.dnsv_proof_forms.specs.forms.ShownUnsigned.ShowsOptOutCloser.{opt_out_closer}
+use Rattle.dnsv_proof_forms.specs.records.RecordsAt.{listed}
+use Rattle.dnsv_denial.specs.gathering.EvidenceWords.{Chain, evidence_said, number_cmp}
+use Rattle.dnsv_proof_forms.specs.declared.forms.proof_form.ProofForm.{ProofForm}
+use Rattle.dnsv_proof_forms.specs.declared.forms.proof_part.PartName.TheVariants as part
+use Rattle.dnsv_proof_forms.specs.declared.forms.proof_part.PartRelation.TheVariants as related
 use Rattle.dnsv_canonical.specs.declared.number.RecordNumber.{RecordNumber}
 use Rattle.dnsv_derivations.specs.Denials.{told_case}
 use Rattle.dnsv_lines.specs.declared.line.cut.InsecureCase.TheVariants as case

@@ -3,8 +3,8 @@
 use Rattle.std.proofs.Common.{◌≡◌, ⊎_elim, ℕ, List, [], ◌∷◌, ◌++◌, Option, Some, None, map, sym, subst}
 use Rattle.std.specs.List.{AllByRecursion}
 use Rattle.dnsv_names.specs.Name.{Labels, rightmost}
-use Rattle.dnsv_denial.specs.proving.ProofParts.{form_parts, part_name}
-use Rattle.dnsv_denial.specs.declared.proving.proof_part.PartName.{PartName}
+use Rattle.dnsv_proof_forms.specs.forms.ProofParts.{form_parts, part_name}
+use Rattle.dnsv_proof_forms.specs.declared.forms.proof_part.PartName.{PartName}
 use Rattle.dnsv_denial.specs.declared.proving.shown_denial.ShownDenial.{ShownDenial}
 use Rattle.dnsv_canonical.specs.declared.number.RecordNumber.{RecordNumber}
 use Rattle.dnsv_denial.specs.declared.unsigned_cuts.shown_cut.ShownCut.{ShownCut}

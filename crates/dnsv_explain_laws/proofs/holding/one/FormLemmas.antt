@@ -9,19 +9,19 @@ use Rattle.dnsv_zones.specs.forms.Forms.{EndsAt, EmptyWildcardForm, NoNameForm, 
 use Rattle.dnsv_zones.specs.forms.Parts.{IsFirstToSay, OptsOut, OptsOutNextCloser}
 use Rattle.dnsv_zones.specs.forms.RecordWords.{RecordWords, words}
 use Rattle.dnsv_zones.specs.zones.Types.{Denies, IsUnsignedDelegation}
-use Rattle.dnsv_denial.specs.forms.Denials.{IsDelegationAt}
-use Rattle.dnsv_denial.specs.forms.ProofForms.{ShowsEncloser, ShowsNoCloser, ShowsNoData, ShowsNoName, ShowsWildcard}
-use Rattle.dnsv_denial.specs.forms.ProofForms.ShowsNoCloser.{no_closer}
-use Rattle.dnsv_denial.specs.forms.ProofForms.ShowsNoData.{at_name, empty, at_wildcard, empty_wildcard}
-use Rattle.dnsv_denial.specs.forms.ProofForms.ShowsNoName.{no_name}
-use Rattle.dnsv_denial.specs.forms.ShownUnsigned.{ShowsDelegation, ShowsOptOut, ShowsOptOutCloser}
-use Rattle.dnsv_denial.specs.forms.ShownUnsigned.ShowsDelegation.{delegation}
-use Rattle.dnsv_denial.specs.forms.ShownUnsigned.ShowsOptOut.{opt_out, wildcard_opt_out}
-use Rattle.dnsv_denial.specs.forms.ShownUnsigned.ShowsOptOutCloser.{opt_out_closer}
-use Rattle.dnsv_denial.specs.words.EvidenceWords.{number_cmp}
-use Rattle.dnsv_denial.specs.declared.forms.proof_form.ProofForm.{ProofForm}
-use Rattle.dnsv_denial.specs.declared.forms.proof_form.ProofForm.TheVariants as form
-use Rattle.dnsv_denial.specs.declared.forms.proof_form.WildcardParts.{WildcardParts}
+use Rattle.dnsv_proof_forms.specs.forms.Denials.{IsDelegationAt}
+use Rattle.dnsv_proof_forms.specs.forms.ProofForms.{ShowsEncloser, ShowsNoCloser, ShowsNoData, ShowsNoName, ShowsWildcard}
+use Rattle.dnsv_proof_forms.specs.forms.ProofForms.ShowsNoCloser.{no_closer}
+use Rattle.dnsv_proof_forms.specs.forms.ProofForms.ShowsNoData.{at_name, empty, at_wildcard, empty_wildcard}
+use Rattle.dnsv_proof_forms.specs.forms.ProofForms.ShowsNoName.{no_name}
+use Rattle.dnsv_proof_forms.specs.forms.ShownUnsigned.{ShowsDelegation, ShowsOptOut, ShowsOptOutCloser}
+use Rattle.dnsv_proof_forms.specs.forms.ShownUnsigned.ShowsDelegation.{delegation}
+use Rattle.dnsv_proof_forms.specs.forms.ShownUnsigned.ShowsOptOut.{opt_out, wildcard_opt_out}
+use Rattle.dnsv_proof_forms.specs.forms.ShownUnsigned.ShowsOptOutCloser.{opt_out_closer}
+use Rattle.dnsv_denial.specs.gathering.EvidenceWords.{number_cmp}
+use Rattle.dnsv_proof_forms.specs.declared.forms.proof_form.ProofForm.{ProofForm}
+use Rattle.dnsv_proof_forms.specs.declared.forms.proof_form.ProofForm.TheVariants as form
+use Rattle.dnsv_proof_forms.specs.declared.forms.proof_form.WildcardParts.{WildcardParts}
 use Rattle.dnsv_canonical.specs.declared.number.RecordNumber.{RecordNumber}
 use Rattle.dnsv_verdict.proofs.OneProof.{number_exact, number_total}
 use Rattle.dnsv_derivations.proofs.lemmas.one.StepLemmas.{even}

@@ -4,14 +4,14 @@ use Rattle.std.specs.List.{Contains}
 use Rattle.dnsv_names.specs.Name.{Labels, lower_case, rightmost}
 use Rattle.dnsv_zones.specs.forms.Parts.{OptsOut, OptsOutNextCloser}
 use Rattle.dnsv_chain.specs.Trust.{KeptTrust, SecuredIn as KeptIn}
-use Rattle.dnsv_denial.specs.forms.Denials.{IsDelegationAt}
-use Rattle.dnsv_denial.specs.forms.ProofForms.{form_records}
-use Rattle.dnsv_denial.specs.forms.ShownUnsigned.{ShowsDelegation, ShowsOptOut}
+use Rattle.dnsv_proof_forms.specs.forms.Denials.{IsDelegationAt}
+use Rattle.dnsv_proof_forms.specs.forms.ProofForms.{form_records}
+use Rattle.dnsv_proof_forms.specs.forms.ShownUnsigned.{ShowsDelegation, ShowsOptOut}
 use Rattle.dnsv_denial.specs.proving.ShownDenials.{IsFirstShown}
 use Rattle.dnsv_denial.specs.unsigned_cuts.Cuts.{HasUnsignedCut, IsOptOutCut, IsUnsignedDelegationCut, IsUnusableDsCut}
 use Rattle.dnsv_denial.specs.unsigned_cuts.ShownCut.{IsShownCut}
 use Rattle.dnsv_denial.specs.unsigned_cuts.ShownCut.IsShownCut.{no_ds, no_usable_ds, opt_out}
-use Rattle.dnsv_denial.specs.words.EvidenceWords.{evidence_said, number_cmp}
+use Rattle.dnsv_denial.specs.gathering.EvidenceWords.{evidence_said, number_cmp}
 use Rattle.dnsv_denial.specs.declared.proving.shown_denial.ShownDenial.{ShownDenial}
 use Rattle.dnsv_canonical.specs.declared.number.RecordNumber.{RecordNumber}
 use Rattle.dnsv_denial.specs.declared.unsigned_cuts.shown_cut.ShownCut.{ShownCut}

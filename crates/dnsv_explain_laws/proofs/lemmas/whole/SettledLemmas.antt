@@ -5,11 +5,11 @@ use Rattle.dnsv_names.specs.Name.{Labels, rightmost}
 use Rattle.dnsv_canonical.specs.Index.{numbers_at}
 use Rattle.dnsv_verifier.proofs.NumberLemmas.{contains_from_map}
 use Rattle.dnsv_chain.specs.Trust.{SecuredIn as KeptIn}
-use Rattle.dnsv_denial.specs.proving.ProofParts.{form_parts, part_name}
-use Rattle.dnsv_denial.specs.words.EvidenceWords.{evidence_said}
-use Rattle.dnsv_denial.specs.declared.proving.proof_part.PartName.{PartName}
+use Rattle.dnsv_proof_forms.specs.forms.ProofParts.{form_parts, part_name}
+use Rattle.dnsv_denial.specs.gathering.EvidenceWords.{evidence_said}
+use Rattle.dnsv_proof_forms.specs.declared.forms.proof_part.PartName.{PartName}
 use Rattle.dnsv_denial.specs.declared.proving.shown_denial.ShownDenial.{ShownDenial}
-use Rattle.dnsv_denial.specs.declared.proving.proof_part.ProofPart.{ProofPart}
+use Rattle.dnsv_proof_forms.specs.declared.forms.proof_part.ProofPart.{ProofPart}
 use Rattle.dnsv_canonical.specs.declared.number.RecordNumber.{RecordNumber}
 use Rattle.dnsv_denial.specs.declared.unsigned_cuts.shown_cut.ShownCut.{ShownCut}
 use Rattle.dnsv_denial.specs.declared.unsigned_cuts.shown_cut.ShownCut.TheVariants as cut

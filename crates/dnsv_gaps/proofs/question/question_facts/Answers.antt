@@ -4,7 +4,7 @@ use Rattle.dnsv_names.specs.Name.{Labels}
 use Rattle.dnsv_canonical.specs.Rrsets.{ReceivedRrset}
 use Rattle.dnsv_chain.specs.Basis.{basis_by}
 use Rattle.dnsv_chain.specs.Trust.{KeptTrust, SecuredIn}
-use Rattle.dnsv_denial.specs.QuestionHashes.{HashedQuestion}
+use Rattle.dnsv_proof_forms.specs.QuestionHashes.{HashedQuestion}
 use Rattle.dnsv_denial.specs.Viewed.{Viewed}
 use Rattle.dnsv_denial.specs.gathering.ByZone.{AreDenialRecords}
 use Rattle.dnsv_faults.specs.KnownZones.{AreKnownZones}

@@ -7,9 +7,9 @@ use Rattle.std.specs.Prelude.{Contains}
 use Rattle.dnsv_zones.specs.chains.Nsec3Chain.{Parameters}
 use Rattle.dnsv_zones.specs.chains.Rdata.{parameters_of}
 use Rattle.dnsv_denial.specs.gathering.Evidence.{IsNsec3Of}
-use Rattle.dnsv_denial.specs.words.EvidenceWords.{parameters_cmp}
-use Rattle.dnsv_denial.specs.QuestionHashes.{AreUsed}
-use Rattle.dnsv_denial.specs.declared.gathering.parameters.OrderedParameters.{OrderedParameters}
+use Rattle.dnsv_proof_forms.specs.records.ParametersOrder.{parameters_cmp}
+use Rattle.dnsv_proof_forms.specs.QuestionHashes.{AreUsed}
+use Rattle.dnsv_proof_forms.specs.declared.records.parameters.OrderedParameters.{OrderedParameters}
 use Rattle.dnsv_gaps.specs.SourceSearch.{AreNsecSources, zone_in}
 use Rattle.dnsv_gaps.specs.declared.sources.HeldSource.{HeldSource}
 use Rattle.dnsv_gaps.proofs.ZoneLemmas.{AreSourcesTo, all_sources, before_all, every_used, nsecs_first, ordered_of, sources_more, used_there}

@@ -10,8 +10,8 @@ ghost use Rattle.dnsv_gaps.specs.questions.CutSearch.{IsCaseOfCut, IsLowestPlace
 use crate::asked::AskedQuestion;
 use crate::sources::ZoneSource;
 use crate::sources::saying::facts_saying;
-use dnsv_denial::{AskedName, AskedTypes, AskedWord, is_opt_out_source, places_saying};
 use dnsv_names::RecordType;
+use dnsv_proof_forms::{AskedName, AskedTypes, AskedWord, is_opt_out_source, places_saying};
 use dnsv_records::TypeBitmap;
 use dnsv_remedies::{CutCase, OptOutFacts, SignedCutFacts};
 use std::alloc::{AllocError, Global};

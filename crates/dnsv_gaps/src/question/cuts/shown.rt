@@ -7,7 +7,7 @@ ghost use Rattle.dnsv_zones.specs.zones.TypeNumbers.{ds};
 ghost use Rattle.dnsv_names.specs.Order.{IsBelow};
 ghost use Rattle.dnsv_gaps.specs.Asking.{asking};
 ghost use Rattle.dnsv_gaps.specs.SourceSearch.{zone_in};
-ghost use Rattle.dnsv_denial.specs.words.Asked.{IsWithin};
+ghost use Rattle.dnsv_proof_forms.specs.words.Asked.{IsWithin};
 ghost use Rattle.dnsv_gaps.specs.questions.Cuts.{HasDsFromAbove, HasGoal, IsDsFromAbove, IsSeen, IsSeenHere, IsSeenUnsigned, IsThere, lowest_cut};
 ghost use Rattle.dnsv_gaps.specs.questions.CutSearch.{HasOneFromAbove, IsFirstSeen, IsParentZone, IsSaidByOne};
 
@@ -16,8 +16,8 @@ use crate::question::cuts::ParentZone;
 use crate::sources::saying::has_saying;
 use dnsv_canonical::Rrset;
 use dnsv_chain::Anchor;
-use dnsv_denial::{AskedName, AskedTypes, AskedWord};
 use dnsv_names::{Name, RecordType};
+use dnsv_proof_forms::{AskedName, AskedTypes, AskedWord};
 use dnsv_records::Rrsig;
 use std::alloc::{AllocError, Global};
 

@@ -1,7 +1,7 @@
 //! The first closed record above the name: one of a delegation or of a DNAME.
 ghost use Rattle.std.specs.Prelude.{◌≡◌, ◌<◌, ◌∷◌, [], ℕ, IfOk, List, MatchOption, length};
 ghost use Rattle.dnsv_chain.specs.Basis.{basis_by};
-ghost use Rattle.dnsv_denial.specs.proving.Numbers.{record_count};
+ghost use Rattle.dnsv_proof_forms.specs.records.Numbers.{record_count};
 ghost use Rattle.dnsv_gaps.specs.CaseSearch.{AreClosedFactsAt, AreFactsAtPlace, HasNoneClosedAt};
 ghost use Rattle.dnsv_gaps.specs.Cases.{AreClosedFacts, HasNoneClosed};
 ghost use Rattle.dnsv_gaps.specs.SourceSearch.{IsSourceIn, said_in, zone_in};
@@ -9,8 +9,8 @@ ghost use Rattle.dnsv_gaps.specs.SourceSearch.{IsSourceIn, said_in, zone_in};
 use crate::asked::AskedQuestion;
 use crate::parts::facts_of_rrset;
 use crate::sources::ZoneSource;
-use dnsv_denial::{AskedName, AskedTypes, AskedWord, places_saying};
 use dnsv_names::RecordType;
+use dnsv_proof_forms::{AskedName, AskedTypes, AskedWord, places_saying};
 use dnsv_remedies::ClosedFacts;
 use std::alloc::{AllocError, Global};
 

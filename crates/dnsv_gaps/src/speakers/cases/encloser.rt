@@ -11,8 +11,8 @@ use crate::asked::AskedQuestion;
 use crate::sources::ZoneSource;
 use crate::sources::saying::{facts_saying, has_saying};
 use crate::speakers::cases::at_name::records_at;
-use dnsv_denial::{AskedName, AskedTypes, AskedWord, has_encloser, needs_none};
 use dnsv_mending::RrsetFacts;
+use dnsv_proof_forms::{AskedName, AskedTypes, AskedWord, has_encloser, needs_none};
 use dnsv_remedies::{EncloserFacts, SourceCase, WildcardFacts};
 use std::alloc::{AllocError, Global};
 

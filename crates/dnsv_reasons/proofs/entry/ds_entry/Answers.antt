@@ -7,7 +7,7 @@ use Rattle.dnsv_canonical.specs.Canonical.{IsCanonical}
 use Rattle.dnsv_canonical.specs.Rrsets.{ReceivedRrset}
 use Rattle.dnsv_canonical.specs.declared.canonical_order.ReadRecord.{ReadRecord}
 use Rattle.dnsv_canonical.proofs.NumberLemmas.{one_numbered}
-use Rattle.dnsv_denial.proofs.lemmas.gathering.GatherLemmas.{each_at}
+use Rattle.dnsv_proof_forms.proofs.lemmas.PlaceLemmas.{each_at}
 use Rattle.dnsv_lines.specs.declared.line.fault.zone.Entry.{Entry}
 use Rattle.dnsv_reasons.specs.Places.{IsDsEntry, IsPlaced}
 use Rattle.dnsv_reasons.proofs.PlaceLemmas.{none_placed, some_placed}

@@ -2,7 +2,7 @@
 use Rattle.std.proofs.Common.{◌≡◌, ◌∙◌, ◌+◌, ◌-◌, ℕ, List, Option, Some, None, refl, sym, ap, subst}
 use Rattle.std.specs.List.{AllZip, enumerate_from, range_with_len}
 use Rattle.dnsv_names.specs.Name.{Labels, rightmost}
-use Rattle.dnsv_denial.specs.words.EvidenceWords.{Chain}
+use Rattle.dnsv_denial.specs.gathering.EvidenceWords.{Chain}
 use Rattle.dnsv_remedies.specs.declared.facts.cut.CutFacts.{CutFacts}
 use Rattle.dnsv_remedies.specs.declared.facts.cut.CutSource.{CutSource}
 use Rattle.dnsv_remedies.specs.declared.facts.cut.ParentFacts.{ParentFacts}

@@ -11,8 +11,8 @@ use Rattle.dnsv_zones.specs.zones.Types.{IsClosed}
 use Rattle.dnsv_canonical.specs.Rdata.{IsWellFormed}
 use Rattle.dnsv_canonical.specs.declared.number.RecordNumber.{RecordNumber}
 use Rattle.dnsv_canonical.proofs.OrderLemmas.{each_of}
-use Rattle.dnsv_denial.specs.words.EvidenceWords.{Chain}
-use Rattle.dnsv_denial.specs.words.EvidenceWords.Chain.{ByNsec, ByNsec3}
+use Rattle.dnsv_denial.specs.gathering.EvidenceWords.{Chain}
+use Rattle.dnsv_denial.specs.gathering.EvidenceWords.Chain.{ByNsec, ByNsec3}
 use Rattle.dnsv_faults.specs.Rrsets.{AreRrsetFacts}
 use Rattle.dnsv_faults.specs.Signatures.{AreSignatureFacts}
 use Rattle.dnsv_faults.specs.Zones.{AreZoneFacts}

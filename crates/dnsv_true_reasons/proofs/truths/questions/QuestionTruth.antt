@@ -17,8 +17,8 @@ use Rattle.dnsv_canonical.specs.Index.{numbers_at}
 use Rattle.dnsv_canonical.specs.Rrsets.{IsNumbered, ReceivedRrset}
 use Rattle.dnsv_canonical.specs.declared.number.SignatureNumber.{SignatureNumber}
 use Rattle.dnsv_canonical.proofs.OrderLemmas.{each_of}
-use Rattle.dnsv_denial.specs.words.EvidenceWords.{Chain}
-use Rattle.dnsv_denial.specs.words.EvidenceWords.Chain.{ByNsec, ByNsec3}
+use Rattle.dnsv_denial.specs.gathering.EvidenceWords.{Chain}
+use Rattle.dnsv_denial.specs.gathering.EvidenceWords.Chain.{ByNsec, ByNsec3}
 use Rattle.dnsv_faults.specs.KnownZones.{IsKnownZone}
 use Rattle.dnsv_faults.specs.Signatures.{IsSignatureAt}
 use Rattle.dnsv_faults.proofs.lemmas.zones.ClosedLemmas.{contains_of, not_true}

@@ -9,7 +9,7 @@ use Rattle.dnsv_zones.specs.chains.NsecChain.{IsInBitmap}
 use Rattle.dnsv_zones.specs.zones.TypeNumbers.{dname}
 use Rattle.dnsv_zones.specs.zones.Types.{Denies, IsClosed, IsDelegation}
 use Rattle.dnsv_canonical.specs.declared.number.RecordNumber.{RecordNumber}
-use Rattle.dnsv_denial.specs.words.EvidenceWords.{Chain}
+use Rattle.dnsv_denial.specs.gathering.EvidenceWords.{Chain}
 use Rattle.dnsv_faults.proofs.lemmas.zones.ClosedLemmas.{contains_of, not_true}
 use Rattle.dnsv_faults.proofs.lemmas.zones.PlaceLemmas.{contains_at}
 use Rattle.dnsv_faults.proofs.lemmas.zones.TrustLemmas.{zip_left}

@@ -11,8 +11,8 @@ use Rattle.dnsv_zones.specs.zones.TypeNumbers.{cname, ds, ns, soa}
 use Rattle.dnsv_zones.specs.zones.TypeNumbers as types
 use Rattle.dnsv_zones.specs.zones.Types.{Denies, IsClosed, IsDelegation}
 use Rattle.dnsv_canonical.specs.declared.number.RecordNumber.{RecordNumber}
-use Rattle.dnsv_denial.specs.words.EvidenceWords.{Chain}
-use Rattle.dnsv_denial.specs.words.EvidenceWords.Chain.{ByNsec, ByNsec3}
+use Rattle.dnsv_denial.specs.gathering.EvidenceWords.{Chain}
+use Rattle.dnsv_denial.specs.gathering.EvidenceWords.Chain.{ByNsec, ByNsec3}
 use Rattle.dnsv_gaps.specs.Asking.{Asking}
 use Rattle.dnsv_gaps.specs.Cases.{HasNone, HasNoneClosed, IsAt, IsHeld, IsLongestShown}
 use Rattle.dnsv_gaps.specs.Cases.IsHeld.{alias as by_alias, apex as by_apex, asked as by_asked, none as by_none}

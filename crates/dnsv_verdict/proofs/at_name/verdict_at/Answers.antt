@@ -1,6 +1,6 @@
 -- the name of the hashes is the name asked for
 use Rattle.std.proofs.Common.{◌∙◌, ap, subst}
-use Rattle.dnsv_denial.specs.QuestionHashes.{HashedQuestion}
+use Rattle.dnsv_proof_forms.specs.QuestionHashes.{HashedQuestion}
 use Rattle.dnsv_chain.specs.Basis.{basis_of}
 use Rattle.dnsv_verdict.specs.Verdict.{IsVerdictAt}
 use Rattle.dnsv_verdict.proofs.TrailLemmas.{one_name}

@@ -1,6 +1,6 @@
 use Rattle.std.proofs.Common.{refl}
 use Rattle.dnsv_denial.specs.gathering.Evidence.{IsNsecOf}
-use Rattle.dnsv_denial.specs.records.Record.{read_entry}
+use Rattle.dnsv_proof_forms.specs.records.Record.{read_entry}
 use Rattle.dnsv_denial.proofs.lemmas.gathering.Gathering.{all_listed, listed_next, none_listed}
 use Rattle.dnsv_denial.proofs.gathering.nsec.nsecs_of.Goals as goal
 

@@ -1,7 +1,7 @@
 use Rattle.std.proofs.Common.{length, map, refl, arith, ap}
 use Rattle.std.proofs.lemmas.Option.{slice_get_read}
 use Rattle.dnsv_records.specs.Nsec.{IsNsec}
-use Rattle.dnsv_denial.proofs.lemmas.gathering.GatherLemmas.{mapped_at, each_at, mapped_length}
+use Rattle.dnsv_proof_forms.proofs.lemmas.PlaceLemmas.{mapped_at, each_at, mapped_length}
 use Rattle.dnsv_denial.proofs.lemmas.gathering.NsecGather.{nsecs_begin, nsecs_more, nsecs_end}
 use Rattle.dnsv_denial.proofs.gathering.nsec.push_nsecs.Goals as goal
 

@@ -1,6 +1,6 @@
 use Rattle.std.proofs.Common.{refl}
 use Rattle.dnsv_denial.specs.gathering.Evidence.{IsNsec3Of}
-use Rattle.dnsv_denial.specs.records.Record.{read_nsec3}
+use Rattle.dnsv_proof_forms.specs.records.Record.{read_nsec3}
 use Rattle.dnsv_denial.proofs.lemmas.gathering.Gathering.{all_listed, listed_next, none_listed}
 use Rattle.dnsv_denial.proofs.gathering.nsec3.nsec3s_of.Goals as goal
 

@@ -1,7 +1,7 @@
 use Rattle.std.proofs.Common.{length, map, refl, arith, ap}
 use Rattle.std.proofs.lemmas.Option.{slice_get_read}
 use Rattle.dnsv_records.specs.Nsec3.{IsNsec3}
-use Rattle.dnsv_denial.proofs.lemmas.gathering.GatherLemmas.{mapped_at, each_at, mapped_length}
+use Rattle.dnsv_proof_forms.proofs.lemmas.PlaceLemmas.{mapped_at, each_at, mapped_length}
 use Rattle.dnsv_denial.proofs.lemmas.gathering.Nsec3Gather.{nsec3s_begin, nsec3_added, nsec3_passed, nsec3s_end}
 use Rattle.dnsv_denial.proofs.gathering.nsec3.push_nsec3s.Goals as goal
 use Rattle.dnsv_denial.proofs.gathering.nsec3.push_nsec3s.Goals.{in-Some+in-Ok, in_default}

@@ -2,7 +2,7 @@
 use Rattle.std.proofs.Common.{List}
 use Rattle.dnsv_canonical.specs.Rrsets.{IsNumbered, ReceivedRrset}
 use Rattle.dnsv_denial.specs.gathering.Evidence.{IsNsec3Of}
-use Rattle.dnsv_denial.specs.records.Record.{read_nsec3}
+use Rattle.dnsv_proof_forms.specs.records.Record.{read_nsec3}
 use Rattle.dnsv_denial.proofs.lemmas.gathering.Gathering.{Grown, UpTo}
 use Rattle.dnsv_denial.proofs.gathering.nsec3.push_nsec3s.Given as goal
 

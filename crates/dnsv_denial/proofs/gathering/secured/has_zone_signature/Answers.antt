@@ -1,7 +1,7 @@
 use Rattle.std.proofs.Common.{◌≡◌, refl, arith}
 use Rattle.std.proofs.lemmas.Option.{slice_get-get_or}
 use Rattle.dnsv_denial.specs.gathering.Evidence.{HasZoneSignature}
-use Rattle.dnsv_denial.proofs.lemmas.words.FirstLemmas.{none_with}
+use Rattle.dnsv_proof_forms.proofs.lemmas.words.FirstLemmas.{none_with}
 use Rattle.dnsv_denial.proofs.lemmas.gathering.GatherLemmas.{any_of_contains, signature_among, with_number, contained, none_at_all}
 use Rattle.dnsv_denial.proofs.gathering.secured.has_zone_signature.Goals as goal
 

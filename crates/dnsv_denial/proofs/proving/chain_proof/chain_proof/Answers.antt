@@ -2,16 +2,17 @@ use Rattle.std.proofs.Common.{◌≡◌, ◌<◌, List, map, sym, ap, ◌∙◌,
 use Rattle.std.specs.List.{AllByRecursion}
 use Rattle.dnsv_names.specs.Name.{rightmost}
 use Rattle.dnsv_chain.specs.Trust.{SecuredIn}
-use Rattle.dnsv_denial.specs.forms.ProofForms.{form_records}
-use Rattle.dnsv_denial.specs.forms.ShownUnsigned.{ShowsDenial}
+use Rattle.dnsv_proof_forms.specs.forms.ProofForms.{form_records}
+use Rattle.dnsv_proof_forms.specs.forms.ShownUnsigned.{ShowsDenial}
 use Rattle.dnsv_denial.specs.proving.FirstProof.{AreRecordsOf, ProofRecords}
-use Rattle.dnsv_denial.specs.proving.Numbers.{numbers_of, number_at, record_count}
-use Rattle.dnsv_denial.specs.words.ChainSaid.{chain_said}
-use Rattle.dnsv_denial.specs.words.EvidenceWords.{evidence_said, number_cmp}
+use Rattle.dnsv_proof_forms.specs.records.Numbers.{numbers_of, number_at, record_count}
+use Rattle.dnsv_proof_forms.specs.words.ChainSaid.{chain_said}
+use Rattle.dnsv_denial.specs.gathering.EvidenceWords.{evidence_said, number_cmp}
 use Rattle.dnsv_canonical.specs.declared.number.RecordNumber.{RecordNumber}
-use Rattle.dnsv_denial.proofs.lemmas.proving.ChainProofLemmas.{all_labels, chain_alike, chain_bound, chain_kinds, chain_order}
-use Rattle.dnsv_denial.proofs.lemmas.forms.DenialLemmas.{form_by_place, shown_places}
-use Rattle.dnsv_denial.proofs.lemmas.forms.ShowsLemmas.{records_mapped, shown_by_number}
+use Rattle.dnsv_denial.proofs.lemmas.proving.ChainProofLemmas.{all_labels, chain_alike, chain_kinds, chain_order}
+use Rattle.dnsv_proof_forms.proofs.lemmas.forms.BoundLemmas.{chain_bound}
+use Rattle.dnsv_proof_forms.proofs.lemmas.forms.DenialLemmas.{form_by_place, shown_places}
+use Rattle.dnsv_proof_forms.proofs.lemmas.forms.ShowsLemmas.{records_mapped, shown_by_number}
 use Rattle.dnsv_denial.proofs.proving.chain_proof.chain_proof.Goals as goal
 
 pub returns-in_default : goal.returns-in_default

@@ -4,7 +4,7 @@ use Rattle.dnsv_names.specs.Tree.TreeLaws.{at_or_below_trans}
 use Rattle.dnsv_chain.specs.Trust.{SecuredIn}
 use Rattle.dnsv_denial.specs.proving.FirstProof.{CanProveNoCloser}
 use Rattle.dnsv_denial.specs.proving.ShownDenials.{IsShownNoCloser}
-use Rattle.dnsv_denial.specs.declared.forms.denial.Denial.TheVariants.{NoCloser}
+use Rattle.dnsv_proof_forms.specs.declared.forms.denial.Denial.TheVariants.{NoCloser}
 use Rattle.dnsv_denial.proofs.lemmas.proving.RespelledZoneLemmas.{first_closer, none_closer}
 use Rattle.dnsv_denial.proofs.lemmas.proving.FirstProofLemmas.{kept_at, led_at}
 use Rattle.dnsv_denial.proofs.proving.first_proof.no_closer.Goals as goal

@@ -2,7 +2,7 @@ use Rattle.std.proofs.Common.{◌≡◌, ◌+◌, ◌≤◌, ℕ, List, [], ◌�
 use Rattle.std.proofs.lemmas.List.{take_more, take_all}
 use Rattle.std.specs.List.{list_any}
 use Rattle.std.specs.List.Sorted.{IsPermutation}
-use Rattle.dnsv_denial.specs.proving.Numbers.{numbers_of, number_at}
+use Rattle.dnsv_proof_forms.specs.records.Numbers.{numbers_of, number_at}
 use Rattle.dnsv_canonical.specs.declared.number.RecordNumber.{RecordNumber}
 use Rattle.dnsv_denial.proofs.lemmas.proving.NumberLemmas.{AreDistinctOf, number_eq, no_numbers, one_more, known_already, in_order}
 use Rattle.dnsv_denial.proofs.proving.numbers.record_numbers.Goals as goal

@@ -1,6 +1,6 @@
 use Rattle.std.proofs.Common.{map, take, ◌≤◌}
 use Rattle.arrayvec.specs.ArrayVec.{array_vec_len}
-use Rattle.dnsv_denial.specs.proving.Numbers.{numbers_of, number_at}
+use Rattle.dnsv_proof_forms.specs.records.Numbers.{numbers_of, number_at}
 use Rattle.dnsv_denial.proofs.lemmas.proving.NumberLemmas.{AreDistinctOf}
 use Rattle.dnsv_denial.proofs.proving.numbers.record_numbers.Given as goal
 

@@ -3,7 +3,7 @@ use Rattle.std.proofs.lemmas.Option.{slice_get_within}
 use Rattle.dnsv_chain.specs.Trust.{SecuredIn}
 use Rattle.dnsv_denial.specs.proving.ChainOf.{StandsAs}
 use Rattle.dnsv_denial.specs.proving.ZoneChains.{chain_at, chains_of}
-use Rattle.dnsv_denial.proofs.lemmas.words.FirstLemmas.{none_with}
+use Rattle.dnsv_proof_forms.proofs.lemmas.words.FirstLemmas.{none_with}
 use Rattle.dnsv_denial.proofs.lemmas.proving.ZoneChainLemmas.{chain_count, chain_there}
 use Rattle.dnsv_denial.proofs.lemmas.proving.ZoneProofLemmas.{first_of_zone, none_of_zone}
 use Rattle.dnsv_denial.proofs.proving.zone_proof.zone_proof.Goals as goal

@@ -22,4 +22,4 @@ pub returns : goal.returns
 returns c = λ trust rrsets found.
     cut_left_out (SecuredIn trust) rrsets c.args.name.now c.args.no_ds c.args.no_usable_ds c.args.opt_out found
     c.in-Some-opt_out.labels c.next_closer.result c.in_default.is c.in_default-no_usable_ds.is c.in-Some-opt_out.is
-    c.next_closer.ensures
+    c.next_closer.ensures.value

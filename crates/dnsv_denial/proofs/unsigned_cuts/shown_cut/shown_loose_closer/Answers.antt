@@ -1,7 +1,7 @@
 use Rattle.dnsv_chain.specs.Trust.{SecuredIn}
 use Rattle.dnsv_denial.specs.unsigned_cuts.Cuts.{HasOptedOutNextCloser}
 use Rattle.dnsv_denial.specs.unsigned_cuts.ShownCut.{IsShownOptOutCloser}
-use Rattle.dnsv_denial.specs.declared.forms.denial.Denial.TheVariants.{OptOutCloser}
+use Rattle.dnsv_proof_forms.specs.declared.forms.denial.Denial.TheVariants.{OptOutCloser}
 use Rattle.dnsv_denial.proofs.lemmas.proving.RespelledZoneLemmas.{first_out, none_out}
 use Rattle.dnsv_denial.proofs.lemmas.proving.FirstProofLemmas.{kept_at, led_at}
 use Rattle.dnsv_denial.proofs.lemmas.unsigned_cuts.OptOutNextCloserLemmas.{opt_out_within}

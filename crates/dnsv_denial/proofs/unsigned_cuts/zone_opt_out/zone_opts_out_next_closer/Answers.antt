@@ -4,7 +4,7 @@ use Rattle.std.proofs.lemmas.Option.{slice_get_within}
 use Rattle.dnsv_chain.specs.Trust.{SecuredIn}
 use Rattle.dnsv_denial.specs.proving.ZoneChains.{chain_at, chains_of}
 use Rattle.dnsv_denial.specs.unsigned_cuts.ShownCuts.{OptsOutNextCloserOf}
-use Rattle.dnsv_denial.proofs.lemmas.words.FirstLemmas.{none_with}
+use Rattle.dnsv_proof_forms.proofs.lemmas.words.FirstLemmas.{none_with}
 use Rattle.dnsv_denial.proofs.lemmas.proving.ZoneChainLemmas.{chain_count, chain_there}
 use Rattle.dnsv_denial.proofs.lemmas.unsigned_cuts.OptOutNextCloserLemmas.{chain_leaves, none_opt_out, opt_out_by_chain}
 use Rattle.dnsv_denial.proofs.unsigned_cuts.zone_opt_out.zone_opts_out_next_closer.Goals as goal

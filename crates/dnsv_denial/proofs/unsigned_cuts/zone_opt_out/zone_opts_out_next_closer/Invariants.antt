@@ -6,7 +6,7 @@ use Rattle.dnsv_chain.specs.Trust.{KeptTrust, SecuredIn}
 use Rattle.dnsv_denial.specs.gathering.Kept.{IsZoneOf}
 use Rattle.dnsv_denial.specs.proving.ZoneChains.{chains_of}
 use Rattle.dnsv_denial.specs.unsigned_cuts.ShownCuts.{OptsOutNextCloserOf}
-use Rattle.dnsv_denial.specs.words.EvidenceWords.{Chain}
+use Rattle.dnsv_denial.specs.gathering.EvidenceWords.{Chain}
 use Rattle.dnsv_denial.proofs.unsigned_cuts.zone_opt_out.zone_opts_out_next_closer.Given as goal
 
 abbrev pub invariant-loop-number : goal.invariant-loop-number

@@ -3,7 +3,7 @@ use Rattle.dnsv_names.specs.Name.{rightmost}
 use Rattle.dnsv_chain.specs.Trust.{SecuredIn}
 use Rattle.dnsv_denial.specs.unsigned_cuts.Cuts.{HasOptedOutNextCloser}
 use Rattle.dnsv_denial.proofs.meaning.CutMeaningLemmas.{next_closer_means}
-use Rattle.dnsv_denial.proofs.lemmas.words.FirstLemmas.{if_some}
+use Rattle.dnsv_proof_forms.proofs.lemmas.words.FirstLemmas.{if_some}
 use Rattle.dnsv_denial.proofs.view.View.loose_closer.Goals as goal
 
 pub returns-clause-meaning : goal.returns-clause-meaning

@@ -5,7 +5,7 @@ use Rattle.dnsv_chain.specs.Trust.{SecuredIn}
 use Rattle.dnsv_denial.specs.proving.FirstProof.{CanProveNoData, IsFirstNoData}
 use Rattle.dnsv_denial.specs.proving.ShownDenials.{IsShownNoData}
 use Rattle.dnsv_denial.proofs.lemmas.proving.FirstProofLemmas.{proof_of_no_data}
-use Rattle.dnsv_denial.proofs.lemmas.words.FirstLemmas.{if_some, match_by}
+use Rattle.dnsv_proof_forms.proofs.lemmas.words.FirstLemmas.{if_some, match_by}
 use Rattle.dnsv_denial.proofs.meaning.ProofMeaningLemmas.{first_no_data_means}
 use Rattle.dnsv_denial.proofs.meaning.JustChainProofs.{can_be, exactly_where, just_no_data, some_where}
 use Rattle.dnsv_denial.proofs.meaning.WholeChainProofs.{without_opt_out_no_data}

@@ -4,7 +4,7 @@ use Rattle.dnsv_chain.specs.Trust.{SecuredIn}
 use Rattle.dnsv_denial.specs.proving.FirstProof.{CanProveNoName, IsFirstNoName}
 use Rattle.dnsv_denial.specs.proving.ShownDenials.{IsShownNoName}
 use Rattle.dnsv_denial.proofs.lemmas.proving.FirstProofLemmas.{proof_of_no_name}
-use Rattle.dnsv_denial.proofs.lemmas.words.FirstLemmas.{if_some, match_by}
+use Rattle.dnsv_proof_forms.proofs.lemmas.words.FirstLemmas.{if_some, match_by}
 use Rattle.dnsv_denial.proofs.meaning.ProofMeaningLemmas.{first_no_name_means}
 use Rattle.dnsv_denial.proofs.meaning.JustChainProofs.{can_be, exactly_where, just_no_name, some_where}
 use Rattle.dnsv_denial.proofs.meaning.WholeChainProofs.{without_opt_out_no_name}

@@ -2,7 +2,7 @@ use Rattle.dnsv_chain.specs.Trust.{SecuredIn}
 use Rattle.dnsv_denial.specs.proving.FirstProof.{CanProveNoCloser, IsFirstNoCloser}
 use Rattle.dnsv_denial.specs.proving.ShownDenials.{IsShownNoCloser}
 use Rattle.dnsv_denial.proofs.lemmas.proving.RespelledZoneLemmas.{closer_of_shown}
-use Rattle.dnsv_denial.proofs.lemmas.words.FirstLemmas.{if_some}
+use Rattle.dnsv_proof_forms.proofs.lemmas.words.FirstLemmas.{if_some}
 use Rattle.dnsv_denial.proofs.view.View.shown_no_closer.Goals as goal
 
 pub returns-clause-proof : goal.returns-clause-proof

@@ -2,7 +2,7 @@ use Rattle.dnsv_chain.specs.Trust.{SecuredIn}
 use Rattle.dnsv_denial.specs.proving.FirstProof.{CanProveNoName, IsFirstNoName}
 use Rattle.dnsv_denial.specs.proving.ShownDenials.{IsShownNoName}
 use Rattle.dnsv_denial.proofs.lemmas.proving.FirstProofLemmas.{proof_of_no_name}
-use Rattle.dnsv_denial.proofs.lemmas.words.FirstLemmas.{if_some}
+use Rattle.dnsv_proof_forms.proofs.lemmas.words.FirstLemmas.{if_some}
 use Rattle.dnsv_denial.proofs.view.View.shown_no_name.Goals as goal
 
 pub returns-clause-first : goal.returns-clause-first

@@ -2,7 +2,7 @@ use Rattle.dnsv_chain.specs.Trust.{SecuredIn}
 use Rattle.dnsv_denial.specs.unsigned_cuts.Cuts.{HasUnsignedCut, IsUnsignedCut}
 use Rattle.dnsv_denial.specs.unsigned_cuts.ShownCut.{IsShownCut, cut_name}
 use Rattle.dnsv_denial.proofs.lemmas.unsigned_cuts.ShownCutLemmas.{cut_of_shown}
-use Rattle.dnsv_denial.proofs.lemmas.words.FirstLemmas.{if_some}
+use Rattle.dnsv_proof_forms.proofs.lemmas.words.FirstLemmas.{if_some}
 use Rattle.dnsv_denial.proofs.view.View.shown_unsigned_cut.Goals as goal
 
 pub returns-clause-first : goal.returns-clause-first

@@ -4,7 +4,7 @@ use Rattle.dnsv_denial.specs.proving.FirstProof.{CanProveNoData, CanProveNoName}
 use Rattle.dnsv_denial.specs.unsigned_cuts.CutMeaning.{MeansCut}
 use Rattle.dnsv_denial.specs.unsigned_cuts.Cuts.{HasUnsignedCut, IsUnsignedCut}
 use Rattle.dnsv_denial.proofs.meaning.CutMeaningLemmas.{cut_means}
-use Rattle.dnsv_denial.proofs.lemmas.words.FirstLemmas.{if_some}
+use Rattle.dnsv_proof_forms.proofs.lemmas.words.FirstLemmas.{if_some}
 use Rattle.dnsv_denial.proofs.meaning.JustChainProofs.{some_where}
 use Rattle.dnsv_denial.proofs.meaning.WholeChainProofs.{no_data_or_cut, no_name_or_cut, whole_cut}
 use Rattle.dnsv_denial.proofs.view.View.unsigned_cut.Goals as goal

@@ -1,6 +1,6 @@
 use Rattle.std.proofs.Common.{Option, Some, None, refl, sym, subst, ◌∙◌}
 use Rattle.dnsv_names.specs.Name.{Labels}
-use Rattle.dnsv_denial.specs.declared.proving.proof_part.PartName.{PartName}
+use Rattle.dnsv_proof_forms.specs.declared.forms.proof_part.PartName.{PartName}
 use Rattle.dnsv_derivations.specs.Denials.{FitsCase, IsCaseFor}
 use Rattle.dnsv_derivations.specs.Saying.{Adds}
 use Rattle.dnsv_derivations.specs.unsigned_cuts.UnsignedCuts.{IsCaseTold}

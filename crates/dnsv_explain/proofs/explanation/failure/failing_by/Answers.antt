@@ -3,7 +3,7 @@ use Rattle.std.proofs.Common.{◌≡◌, ◌∙◌, ap, subst, sym}
 use Rattle.std.specs.Prelude.{IfOk}
 use Rattle.dnsv_chain.specs.Basis.{CaseContents}
 use Rattle.dnsv_chain.specs.Trust.{SecuredIn}
-use Rattle.dnsv_denial.specs.QuestionHashes.{HashedQuestion}
+use Rattle.dnsv_proof_forms.specs.QuestionHashes.{HashedQuestion}
 use Rattle.dnsv_denial.specs.gathering.ByZone.{AreDenialRecords}
 use Rattle.dnsv_reasons.specs.Failures.{AreFailures, asking_of}
 use Rattle.dnsv_explain.proofs.explanation.failure.failing_by.Goals as goal

@@ -3,7 +3,7 @@ use Rattle.std.proofs.lemmas.List.{map-append, take_all, take_more}
 use Rattle.std.proofs.lemmas.List.Elements.{Contains-get_or}
 use Rattle.dnsv_canonical.proofs.OrderLemmas.{each_of}
 use Rattle.dnsv_canonical.specs.declared.number.RecordNumber.{RecordNumber}
-use Rattle.dnsv_denial.specs.proving.Numbers.{number_at, numbers_of, record_count}
+use Rattle.dnsv_proof_forms.specs.records.Numbers.{number_at, numbers_of, record_count}
 use Rattle.dnsv_gaps.proofs.sources.saying.numbers_at.Goals as goal
 
 pub number-requires : goal.number-requires

@@ -1,5 +1,5 @@
 use Rattle.std.proofs.Common.{◌≡◌, map, take}
-use Rattle.dnsv_denial.specs.proving.Numbers.{number_at, numbers_of}
+use Rattle.dnsv_proof_forms.specs.records.Numbers.{number_at, numbers_of}
 use Rattle.dnsv_gaps.proofs.sources.saying.numbers_at.Given as goal
 
 -- those at the places so far

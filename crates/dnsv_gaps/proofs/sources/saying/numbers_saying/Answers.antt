@@ -1,7 +1,7 @@
 use Rattle.std.proofs.Common.{◌<◌, ℕ, List, ap, map, subst, sym, ◌∙◌}
 use Rattle.std.specs.List.{AllByRecursion}
 use Rattle.dnsv_canonical.proofs.OrderLemmas.{each_member}
-use Rattle.dnsv_denial.specs.proving.Numbers.{number_at, numbers_of, record_count}
+use Rattle.dnsv_proof_forms.specs.records.Numbers.{number_at, numbers_of, record_count}
 use Rattle.dnsv_gaps.proofs.SayingLemmas.{all_in_evidence, saying, zone}
 use Rattle.dnsv_gaps.proofs.sources.saying.numbers_saying.Goals as goal
 

@@ -2,7 +2,7 @@ use Rattle.std.proofs.Common.{length, map, refl, arith, ap, subst, sym}
 use Rattle.std.proofs.lemmas.Option.{slice_get_read}
 use Rattle.dnsv_names.specs.Name.{Labels}
 use Rattle.dnsv_records.specs.Nsec3.{IsNsec3}
-use Rattle.dnsv_denial.proofs.lemmas.gathering.GatherLemmas.{each_at, mapped_at, mapped_length}
+use Rattle.dnsv_proof_forms.proofs.lemmas.PlaceLemmas.{each_at, mapped_at, mapped_length}
 use Rattle.dnsv_gaps.specs.UnusableSearch.{IsInFront}
 use Rattle.dnsv_gaps.proofs.UnusableLemmas.{unused_added, unused_begin, unused_end, unused_passed}
 use Rattle.dnsv_gaps.proofs.sources.unusable.push_unusable.Goals as goal

@@ -6,7 +6,7 @@ use Rattle.dnsv_canonical.specs.Rrsets.{IsNumbered}
 use Rattle.dnsv_canonical.specs.declared.number.RecordNumber.{RecordNumber}
 use Rattle.dnsv_faults.specs.Rrsets.{AreRrsetFacts}
 use Rattle.dnsv_names.specs.Name.{rightmost}
-use Rattle.dnsv_denial.specs.proving.Numbers.{number_at, numbers_of}
+use Rattle.dnsv_proof_forms.specs.records.Numbers.{number_at, numbers_of}
 use Rattle.dnsv_gaps.specs.Asking.{asking}
 use Rattle.dnsv_gaps.specs.SourceSearch.{said_in}
 use Rattle.dnsv_gaps.specs.questions.Cuts.{IsHeldInstead, IsLowestAt}

@@ -1,7 +1,7 @@
 use Rattle.std.proofs.Common.{◌<◌, List, ℕ, subst, sym}
 use Rattle.std.specs.List.{AllByRecursion, AllZip}
 use Rattle.dnsv_canonical.proofs.OrderLemmas.{each_member}
-use Rattle.dnsv_denial.specs.proving.Numbers.{record_count}
+use Rattle.dnsv_proof_forms.specs.records.Numbers.{record_count}
 use Rattle.dnsv_gaps.specs.CaseSearch.{IsHeldBy}
 use Rattle.dnsv_gaps.proofs.CaseLemmas.{all_held}
 use Rattle.dnsv_gaps.proofs.SayingLemmas.{zone}

@@ -4,7 +4,7 @@ use Rattle.std.proofs.lemmas.List.Elements.{Contains-get_or}
 use Rattle.std.specs.List.{AllZip}
 use Rattle.dnsv_canonical.proofs.OrderLemmas.{each_of}
 use Rattle.dnsv_chain.proofs.ZipLemmas.{zip_more}
-use Rattle.dnsv_denial.specs.proving.Numbers.{record_count}
+use Rattle.dnsv_proof_forms.specs.records.Numbers.{record_count}
 use Rattle.dnsv_lines.specs.declared.line.fault.denial.WhySource.{WhySource}
 use Rattle.dnsv_gaps.specs.CaseSearch.{IsHeldBy}
 use Rattle.dnsv_gaps.proofs.speakers.cases.at_name.held_by_each.Goals as goal

@@ -1,7 +1,7 @@
 use Rattle.std.proofs.Common.{subst}
 use Rattle.dnsv_names.specs.Name.{Labels, rightmost}
 use Rattle.dnsv_zones.specs.forms.RecordWords.{words}
-use Rattle.dnsv_denial.specs.words.ChainSaid.{chain_said}
+use Rattle.dnsv_proof_forms.specs.words.ChainSaid.{chain_said}
 use Rattle.std.proofs.Common.{◌↔◌, IsTrue}
 use Rattle.dnsv_gaps.proofs.CaseLemmas.{shown_alike}
 use Rattle.dnsv_gaps.proofs.speakers.cases.encloser.is_shown.Goals as goal

@@ -1,7 +1,7 @@
 use Rattle.std.proofs.Common.{◌↔◌, [], IsTrue, List, subst, sym, ◌∙◌}
 use Rattle.std.proofs.lemmas.Bool.{false≢true}
 use Rattle.dnsv_names.specs.Name.{Labels, rightmost}
-use Rattle.dnsv_denial.specs.words.ChainSaid.{chain_said}
+use Rattle.dnsv_proof_forms.specs.words.ChainSaid.{chain_said}
 use Rattle.dnsv_chain.specs.Basis.{basis_by}
 use Rattle.dnsv_mending.specs.declared.facts.signature.RrsetFacts.{RrsetFacts}
 use Rattle.dnsv_gaps.specs.Cases.{AreShowing}

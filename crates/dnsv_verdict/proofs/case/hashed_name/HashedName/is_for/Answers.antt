@@ -1,7 +1,7 @@
 use Rattle.std.proofs.Common.{◌≡◌, ◌∙◌, ap, sym}
 use Rattle.dnsv_names.specs.Name.{wire}
 use Rattle.dnsv_names.specs.Name.WireLaws.{wire-injective}
-use Rattle.dnsv_denial.specs.QuestionHashes.{HashedQuestion}
+use Rattle.dnsv_proof_forms.specs.QuestionHashes.{HashedQuestion}
 use Rattle.dnsv_verdict.proofs.case.hashed_name.HashedName.is_for.Goals as goal
 
 pub returns : goal.returns

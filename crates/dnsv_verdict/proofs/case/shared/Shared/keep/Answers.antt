@@ -1,5 +1,5 @@
 use Rattle.std.proofs.Common.{List, subst, sym}
-use Rattle.dnsv_denial.specs.QuestionHashes.{HashedQuestion}
+use Rattle.dnsv_proof_forms.specs.QuestionHashes.{HashedQuestion}
 use Rattle.dnsv_verdict.proofs.SharedLemmas.{one_hashed_more}
 use Rattle.dnsv_verdict.specs.Shared.{AreHashedIn}
 use Rattle.dnsv_verdict.proofs.case.shared.Shared.keep.Goals as goal

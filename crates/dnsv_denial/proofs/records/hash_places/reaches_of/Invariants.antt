@@ -1,6 +1,0 @@
--- the reaches so far
-use Rattle.dnsv_denial.proofs.lemmas.records.HashPlaceLemmas.{AreReachesTo}
-use Rattle.dnsv_denial.proofs.records.hash_places.reaches_of.Given as goal
-
-abbrev pub invariant-loop-each : goal.invariant-loop-each
-invariant-loop-each l = AreReachesTo l.places l.each-index l.reach l.reaches.items

@@ -1,7 +1,0 @@
--- Denials, and which records of one chain make their forms.
-pub mod ByWildcard
-pub mod Denials
-pub mod EndLimits
-pub mod EndPlace
-pub mod ProofForms
-pub mod ShownUnsigned
