@@ -1,4 +1,4 @@
--- How the hashes of a question are kept. No public clause cites this module.
+-- How the hashes of a question are kept, and lent to views (RFC 5155 5).
 use Rattle.std.specs.Prelude.{◌↔◌, List, Contains, map}
 use Rattle.std.specs.List.{AllByRecursion}
 use Rattle.std.specs.List.Sorted.{IsStrictlySortedBy}
