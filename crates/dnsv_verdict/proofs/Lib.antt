@@ -1,3 +1,4 @@
+pub mod AlikeLemmas
 pub mod CaseLemmas
 mod MeaningLemmas
 pub mod OfCase

@@ -1,4 +1,5 @@
-use Rattle.dnsv_moment_laws.proofs.lemmas.AlikeLemmas.{refusal_alike, said_alike}
+use Rattle.dnsv_moment_laws.proofs.lemmas.AlikeLemmas.{alike_by, said_alike}
+use Rattle.dnsv_verdict.proofs.AlikeLemmas.{refusal_to}
 use Rattle.dnsv_moment_laws.proofs.validity.what_is_said_depends_on_what_is_asked.Goals as goal
 
 pub returns-clause-said : goal.returns-clause-said
@@ -7,4 +8,4 @@ returns-clause-said c = λ format basis other name t said alike.
 
 pub returns-clause-refused : goal.returns-clause-refused
 returns-clause-refused c = λ basis other name t error alike.
-    refusal_alike c.trust_depends_on_what_is_asked.ensures.numbers basis other alike name t error
+    refusal_to basis basis.moment other (alike_by c.trust_depends_on_what_is_asked.ensures.numbers basis other alike) name t error

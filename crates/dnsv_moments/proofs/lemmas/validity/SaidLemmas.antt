@@ -10,7 +10,8 @@ use Rattle.dnsv_verdict.specs.declared.verdict.Verdict.{Verdict}
 use Rattle.dnsv_moments.specs.Dates.{AreTimesOf, times_of}
 use Rattle.dnsv_timeline.specs.Timeline.{DependsOn}
 use Rattle.dnsv_timeline.specs.declared.times.Times.{Times}
-use Rattle.dnsv_moments.proofs.lemmas.validity.MomentLemmas.{refused_to, same_by_times, verdict_of_to}
+use Rattle.dnsv_moments.proofs.lemmas.validity.MomentLemmas.{alike_at, same_by_times}
+use Rattle.dnsv_verdict.proofs.AlikeLemmas.{refused_to, verdict_of_to}
 use Rattle.dnsv_moments.proofs.lemmas.validity.ToldLemmas.{derivation_of, links_derived}
 use Rattle.dnsv_moments.specs.validity.Said.{IsRefusalSaid, IsSaid, IsSaidAt, IsVerdictSaid, Said}
 use Rattle.dnsv_holding.specs.Derived.{alias_of}
@@ -24,7 +25,7 @@ module _ (basis : Basis) (other : ℕ) (same : AreSignaturesSameValid basis.rrse
     links = is.links;
     last = is.last;
     verdict = is.verdict;
-    is = verdict_of_to basis other same name t is.links is.last is.verdict is.is;
+    is = verdict_of_to basis other basis.meaning (alike_at basis other same) name t is.links is.last is.verdict is.is;
     told = is.told;
     lines = is.lines;
     derived = derivation_of basis other same t is.links is.last is.verdict is.lines is.derived;
@@ -34,7 +35,7 @@ module _ (basis : Basis) (other : ℕ) (same : AreSignaturesSameValid basis.rrse
   refusal_said : (said : Said) → IsRefusalSaid basis name t said → IsRefusalSaid (at_moment basis other) name t said
   refusal_said said is = record {
     error = is.error;
-    is = refused_to basis other same name t is.error is.is;
+    is = refused_to basis other basis.meaning (alike_at basis other same) name t is.error is.is;
     told = is.told;
     lines = is.lines;
     derived = links_derived basis other same (is.is.links ++ alias_of is.is.last is.is.k is.is.s ∷ []) is.lines is.derived;

@@ -1,5 +1,5 @@
 -- What is told of a question's way and its verdict is the same at each moment at which the same signatures are valid.
-use Rattle.std.proofs.Common.{◌≡◌, ℕ, List, [], ◌∷◌, ◌++◌, None, refl, sym, subst}
+use Rattle.std.proofs.Common.{◌≡◌, ℕ, List, [], ◌∷◌, None, refl, sym, subst}
 use Rattle.dnsv_names.specs.Name.{Labels, rightmost}
 use Rattle.dnsv_canonical.specs.Rrsets.{ReceivedRrset}
 use Rattle.dnsv_canonical.specs.declared.number.SignatureNumber.{SignatureNumber}
@@ -10,16 +10,16 @@ use Rattle.dnsv_chain.specs.declared.anchor.Anchor.{Anchor}
 use Rattle.dnsv_denial.specs.declared.proving.shown_denial.ShownDenial.{ShownDenial}
 use Rattle.dnsv_denial.specs.declared.unsigned_cuts.shown_cut.ShownCut.{ShownCut}
 use Rattle.dnsv_denial.specs.declared.unsigned_cuts.shown_cut.ShownCut.TheVariants as cut
-use Rattle.dnsv_chain.specs.Basis.{Basis, basis_of}
+use Rattle.dnsv_chain.specs.Basis.{Basis}
 use Rattle.dnsv_verdict.specs.declared.link.Link.{Link}
 use Rattle.dnsv_verdict.specs.declared.verdict.Verdict.{Verdict}
 use Rattle.dnsv_verdict.specs.declared.verdict.Verdict.TheVariants.{SecureAnswer, SecureAlias, SecureNoName, SecureNoData, Insecure, Pending, Bogus, Indeterminate}
 use Rattle.dnsv_derivations.specs.Denials.{IsDenialTold, IsExpandedTold, IsProofWithParts}
 use Rattle.dnsv_derivations.specs.Explained.{Explained, Setting, setting_in}
 use Rattle.dnsv_derivations.specs.Saying.{AreBoth, AreEach}
-use Rattle.dnsv_derivations.specs.derivations.OwnDerivations.{AreRecordsDerived, IsSignatureTold, IsTrustIn}
+use Rattle.dnsv_derivations.specs.derivations.OwnDerivations.{AreRecordsDerived, IsSignatureTold}
 use Rattle.dnsv_derivations.specs.unsigned_cuts.ShownCuts.{IsCutTold}
-use Rattle.dnsv_derivations.specs.unsigned_cuts.UnsignedCuts.{AreAllTold, IsCaseTold, IsFirstUnusable, IsUnusableSet, IsUnusableTold}
+use Rattle.dnsv_derivations.specs.unsigned_cuts.UnsignedCuts.{AreAllTold, IsCaseTold, IsUnusableSet, IsUnusableTold}
 use Rattle.dnsv_lines.specs.declared.line.Line.{Line}
 use Rattle.dnsv_lines.specs.declared.line.Line.TheVariants as line
 use Rattle.dnsv_lines.specs.declared.line.cut.InsecureCase.TheVariants as case
@@ -28,8 +28,9 @@ use Rattle.dnsv_holding.specs.Holding.{IsHopeTold, IsLinkTold, IsNoDataTold, IsN
 use Rattle.dnsv_holding.specs.Holding.IsSetTold.{as_owned, by_wildcard}
 use Rattle.dnsv_holding.specs.Holding.IsUnsignedFromTold.{by_cut, by_wildcard as loosely}
 use Rattle.dnsv_moments.proofs.lemmas.validity.DerivationLemmas.{both_too, each_too, has_secured, lowest_secured, records_derived, setting_at, signature_told, trust_too}
-use Rattle.dnsv_moments.proofs.lemmas.validity.MomentLemmas.{StayValid, asked_at, settled_as}
-use Rattle.dnsv_holding.specs.Derived.{AreLinksDerived, AreLinksTold, IsDerivationOf, IsDerivationTold, explained_with}
+use Rattle.dnsv_moments.proofs.lemmas.validity.MomentLemmas.{StayValid, alike_at, asked_at}
+use Rattle.dnsv_verdict.proofs.AlikeLemmas.{settled_as}
+use Rattle.dnsv_holding.specs.Derived.{AreLinksDerived, IsDerivationOf, IsDerivationTold, explained_with}
 use Rattle.dnsv_moments.specs.validity.SameValid.{AreSignaturesSameValid, at_moment}
 
 module _ (rrsets : List ReceivedRrset) (anchors : List Anchor) (meaning : Entry → Answer) (todo : List Entry) (moment other : ℕ)
@@ -182,8 +183,9 @@ module _ (explained : Explained) (other : ℕ) (to : StayValid explained.rrsets 
       → IsHopeTold (explained_at explained other) name t unknown before lines
   hope_too name t unknown before lines told = record {
     verdict = told.verdict;
-    is = settled_as (basis_in (hoped explained unknown)) other
-        (λ rrset rrsig among its. (to rrset rrsig among its, from rrset rrsig among its)) name t told.verdict told.is;
+    is = settled_as (basis_in (hoped explained unknown)) other (basis_in (hoped explained unknown)).meaning
+        (alike_at (basis_in (hoped explained unknown)) other (λ rrset rrsig among its. (to rrset rrsig among its, from rrset rrsig among its)))
+        name t told.verdict told.is;
     kind = told.kind;
     its_kind = told.its_kind;
     told = both_too {First = λ older newer. newer ≡ line.Hope told.kind ∷ []}
