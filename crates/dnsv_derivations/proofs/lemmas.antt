@@ -2,6 +2,7 @@
 pub mod AnswerLemmas
 pub mod IndexLemmas
 pub mod NumberedLemmas
+pub mod OneListLemmas
 pub mod PlaceLemmas
 pub mod RisingLemmas
 pub mod SayingLemmas

@@ -2,6 +2,7 @@ pub mod Denials
 pub mod Digests
 pub mod Explained
 pub mod Following
+pub mod Listing
 pub mod Places
 pub mod Rising
 pub mod Saying

@@ -10,7 +10,7 @@ use Rattle.dnsv_verdict.specs.declared.verdict.Verdict.TheVariants.{Bogus, Indet
 use Rattle.dnsv_reasons.specs.Failures.{AreFailures, Asking}
 use Rattle.dnsv_derivations.specs.Explained.{Explained, Setting, setting_in}
 use Rattle.dnsv_derivations.specs.Saying.{AreBoth}
-use Rattle.dnsv_holding.specs.KeyLines.{AreLinesOfKeysAsked}
+use Rattle.dnsv_keys_in_question.specs.KeyLines.{AreLinesOfKeysAsked}
 use Rattle.dnsv_lines.specs.declared.line.Line.{Line}
 use Rattle.dnsv_holding.specs.Holding.{IsHoldingTold}
 

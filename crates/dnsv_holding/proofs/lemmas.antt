@@ -1,4 +1,3 @@
 -- What proofs of functions and laws rest on.
-pub mod keys
 pub mod marks
 pub mod telling

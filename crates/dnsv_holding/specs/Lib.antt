@@ -3,8 +3,6 @@ pub mod Derived
 pub mod Explained
 pub mod Holding
 pub mod Judged
-pub mod KeyLines
-pub mod Listing
 pub mod Marked
 pub mod OnWay
 pub mod SharedWays

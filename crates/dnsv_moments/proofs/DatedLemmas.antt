@@ -10,7 +10,7 @@ use Rattle.dnsv_moments.specs.Dates.{times_of}
 use Rattle.dnsv_moments.specs.declared.dated.DatedSignature.{DatedSignature}
 use Rattle.dnsv_derivations.proofs.lemmas.intervals.ShownLemmas.{no_times, some_times}
 use Rattle.dnsv_derivations.proofs.lemmas.one.TrustedLemmas.{one_signature_at}
-use Rattle.dnsv_holding.proofs.lemmas.keys.OneListLemmas.{IsOneList, one_of_each}
+use Rattle.dnsv_derivations.proofs.lemmas.OneListLemmas.{IsOneList, one_of_each}
 use Rattle.dnsv_moments.specs.Dated.{AddsDated, AreDated, AreDatedAs, IsDated}
 
 module _ (rrsets : List ReceivedRrset) (numbers : List SignatureNumber) where

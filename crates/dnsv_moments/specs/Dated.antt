@@ -6,7 +6,7 @@ use Rattle.dnsv_canonical.specs.Rrsets.{IsNumbered, ReceivedRrset}
 use Rattle.dnsv_canonical.specs.declared.number.SignatureNumber.{SignatureNumber}
 use Rattle.dnsv_moments.specs.Dates.{times_of}
 use Rattle.dnsv_moments.specs.declared.dated.DatedSignature.{DatedSignature}
-use Rattle.dnsv_holding.specs.Listing.{AreOfEach}
+use Rattle.dnsv_derivations.specs.Listing.{AreOfEach}
 
 -- the signature with the number has these times
 pub record IsDated (rrsets : List ReceivedRrset) (number : SignatureNumber) (dated : DatedSignature) : Type 0 where

@@ -8,7 +8,8 @@ ghost use Rattle.dnsv_explain.specs.Explanation.{IsFailureTold};
 ghost use Rattle.dnsv_derivations.specs.Saying.{Adds};
 
 use dnsv_derivations::Evidence;
-use dnsv_holding::{At, add_keys_in_question};
+use dnsv_holding::At;
+use dnsv_keys_in_question::add_keys_in_question;
 use dnsv_lines::Line;
 use dnsv_names::{Name, RecordType};
 use dnsv_proof_forms::Hashes;

@@ -4,7 +4,7 @@ use Rattle.std.proofs.lemmas.List.Elements.{Contains-append_cases}
 use Rattle.std.specs.List.{Contains}
 use Rattle.dnsv_canonical.specs.Rrsets.{IsNumbered}
 use Rattle.dnsv_verifier.proofs.NumberLemmas.{contains_from_map}
-use Rattle.dnsv_holding.specs.Listing.{AreOfNumbered, AreWhere}
+use Rattle.dnsv_derivations.specs.Listing.{AreOfNumbered, AreWhere}
 use Rattle.dnsv_lines.specs.declared.line.Line.{Line}
 use Rattle.dnsv_explain_laws.proofs.holding.MemberLemmas.{first_or_rest, member_of, none_in, numbered_from}
 

@@ -5,7 +5,7 @@ use Rattle.std.specs.List.{Contains, slice_get}
 use Rattle.dnsv_canonical.specs.Rrsets.{IsNumbered, ReceivedRrset}
 use Rattle.dnsv_chain.specs.Trusted.{IsKeyOf}
 use Rattle.dnsv_verifier.specs.Admissible.{DnskeyRecord, IsKeyAmong}
-use Rattle.dnsv_holding.specs.Listing.{AreOfNumbered}
+use Rattle.dnsv_derivations.specs.Listing.{AreOfNumbered}
 use Rattle.dnsv_derivations.proofs.lemmas.NumberedLemmas.{among}
 
 -- ---- members of lists

@@ -11,8 +11,8 @@ use Rattle.dnsv_moments.specs.declared.dated.DatedSignature.{DatedSignature}
 use Rattle.dnsv_timeline.specs.declared.stretch.Stretch.{Stretch}
 use Rattle.dnsv_questions.specs.declared.format.Format.{Format}
 use Rattle.dnsv_derivations.proofs.lemmas.one.TrustedLemmas.{one_signature_at}
-use Rattle.dnsv_holding.proofs.lemmas.keys.OneListLemmas.{IsOneList, one_of_each}
-use Rattle.dnsv_holding.specs.Listing.{AreOfEach}
+use Rattle.dnsv_derivations.proofs.lemmas.OneListLemmas.{IsOneList, one_of_each}
+use Rattle.dnsv_derivations.specs.Listing.{AreOfEach}
 use Rattle.dnsv_moments.specs.validity.Said.{Said}
 use Rattle.dnsv_moments.proofs.DatedLemmas.{one_dated}
 use Rattle.dnsv_moments.specs.texts.Pieces.{ArePieces, GoOn, Piece, begun, longer}

@@ -12,7 +12,7 @@ use Rattle.dnsv_moments.specs.declared.texts.borders.Border.{Border}
 use Rattle.dnsv_moments.specs.declared.dated.DatedSignature.{DatedSignature}
 use Rattle.dnsv_moments.specs.declared.texts.borders.Edge.{Edge}
 use Rattle.dnsv_moments.specs.declared.texts.borders.Edge.TheVariants.{Begins, Ends}
-use Rattle.dnsv_holding.specs.Listing.{AreOfEach}
+use Rattle.dnsv_derivations.specs.Listing.{AreOfEach}
 use Rattle.dnsv_moments.specs.Dated.{AreDated}
 use Rattle.dnsv_moments.specs.declared.texts.shown.ShownBorder.{ShownBorder}
 

@@ -1,6 +1,6 @@
 //! Border lines: what is shown of a signature that ends or begins.
 ghost use Rattle.std.specs.Prelude.{◌≡◌, IfOk, MatchOption, OnOk};
-ghost use Rattle.dnsv_holding.specs.Listing.{AreOfEach};
+ghost use Rattle.dnsv_derivations.specs.Listing.{AreOfEach};
 ghost use Rattle.dnsv_lines.specs.Sentence.{said_sentence};
 ghost use Rattle.dnsv_lines.specs.declared.line.fault.signature.ShownSignature.{ShownSignature};
 ghost use Rattle.dnsv_moments.specs.texts.Following.{AddsShown};

@@ -22,8 +22,8 @@ use Rattle.dnsv_holding.specs.Explained.{hoped}
 use Rattle.dnsv_holding.specs.Holding.{IsEnd, IsEndTold, IsHoldingTold, IsHopeTold, IsLinkTold, IsSetTold, IsSettledTold, IsVerdictTold, IsWayTold, its_setting, signature_of}
 use Rattle.dnsv_explain.specs.Explanation.{IsExplanation, IsFailureTold, asking_in}
 use Rattle.dnsv_holding.specs.Holding.IsSetTold.{as_owned, by_wildcard}
-use Rattle.dnsv_holding.specs.KeyLines.{AreLinesOfKeysAsked, AreLinesOfSet, IsInQuestion, IsKeyLine}
-use Rattle.dnsv_holding.specs.Listing.{AreOfNumbered}
+use Rattle.dnsv_keys_in_question.specs.KeyLines.{AreLinesOfKeysAsked, AreLinesOfSet, IsInQuestion, IsKeyLine}
+use Rattle.dnsv_derivations.specs.Listing.{AreOfNumbered}
 use Rattle.dnsv_explain_laws.proofs.holding.EachLemmas.{Each, both_each, mapped_each, numbered_each, one_each, where_each}
 use Rattle.dnsv_explain.proofs.lemmas.telling.ExplanationLemmas.{explanation_follows}
 use Rattle.dnsv_explain.proofs.lemmas.telling.QuietLemmas.{IsFault, failures_fault}

@@ -7,8 +7,8 @@ use Rattle.dnsv_verifier.specs.Admissible.{DnskeyRecord}
 use Rattle.dnsv_derivations.specs.Explained.{Setting}
 use Rattle.dnsv_explain.specs.Explanation.{IsFailureTold, asking_in}
 use Rattle.dnsv_derivations.specs.Following.{EachFollows, Follows}
-use Rattle.dnsv_holding.specs.KeyLines.{AreLinesOfSet, IsKeyLine}
-use Rattle.dnsv_holding.specs.Listing.{AreOfNumbered}
+use Rattle.dnsv_keys_in_question.specs.KeyLines.{AreLinesOfSet, IsKeyLine}
+use Rattle.dnsv_derivations.specs.Listing.{AreOfNumbered}
 use Rattle.dnsv_lines.specs.declared.line.Line.{Line}
 use Rattle.dnsv_lines.specs.declared.line.Line.TheVariants as line
 pub use Rattle.dnsv_reasons.proofs.lemmas.FaultLemmas.{IsFault, failures_fault}

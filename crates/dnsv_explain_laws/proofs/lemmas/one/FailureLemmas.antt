@@ -4,7 +4,7 @@ use Rattle.dnsv_names.specs.Name.{Labels}
 use Rattle.dnsv_reasons.proofs.lemmas.OneFailures.{one_failures}
 use Rattle.dnsv_derivations.specs.Explained.{Setting}
 use Rattle.dnsv_explain.specs.Explanation.{IsFailureTold, asking_in}
-use Rattle.dnsv_holding.specs.KeyLines.{AreLinesOfKeysAsked}
+use Rattle.dnsv_keys_in_question.specs.KeyLines.{AreLinesOfKeysAsked}
 use Rattle.dnsv_lines.specs.declared.line.Line.{Line}
 use Rattle.dnsv_explain_laws.proofs.lemmas.one.OneKeyLemmas.{one_keys_asked}
 use Rattle.dnsv_derivations.proofs.lemmas.one.StepLemmas.{IsOne}

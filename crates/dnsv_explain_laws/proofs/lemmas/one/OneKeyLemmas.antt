@@ -13,12 +13,12 @@ use Rattle.dnsv_canonical.specs.declared.number.RecordNumber.{RecordNumber}
 use Rattle.dnsv_verifier.specs.Admissible.{DnskeyRecord}
 use Rattle.dnsv_derivations.specs.Explained.{Setting}
 use Rattle.dnsv_derivations.specs.derivations.WaySearch.{AreKeysInOrder}
-use Rattle.dnsv_holding.specs.KeyLines.{AreLinesOfKeysAsked, AreLinesOfSet, IsInQuestion, IsKeyLine, IsLowestDs, IsLowestOf, IsMatchedByAnchor, IsShownKey}
-use Rattle.dnsv_holding.specs.Listing.{AreOfNumbered}
+use Rattle.dnsv_keys_in_question.specs.KeyLines.{AreLinesOfKeysAsked, AreLinesOfSet, IsInQuestion, IsKeyLine, IsLowestDs, IsLowestOf, IsMatchedByAnchor, IsShownKey}
+use Rattle.dnsv_derivations.specs.Listing.{AreOfNumbered}
 use Rattle.dnsv_lines.specs.declared.line.Line.{Line}
 use Rattle.dnsv_lines.specs.declared.line.Line.TheVariants as line
 use Rattle.dnsv_lines.specs.declared.line.fault.key.ShownKey.{ShownKey}
-use Rattle.dnsv_holding.proofs.lemmas.keys.OneListLemmas.{IsOneList, one_numbered, one_where}
+use Rattle.dnsv_derivations.proofs.lemmas.OneListLemmas.{IsOneList, one_numbered, one_where}
 use Rattle.dnsv_derivations.proofs.lemmas.one.StepLemmas.{even}
 
 -- a key has one name

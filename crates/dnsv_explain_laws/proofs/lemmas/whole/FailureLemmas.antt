@@ -10,8 +10,8 @@ use Rattle.dnsv_canonical.specs.declared.number.RecordNumber.{RecordNumber}
 use Rattle.dnsv_derivations.specs.Explained.{Setting}
 use Rattle.dnsv_explain.specs.Explanation.{IsFailureTold, asking_in}
 use Rattle.dnsv_reasons.specs.laws.Once.{AreOnce}
-use Rattle.dnsv_holding.specs.KeyLines.{AreLinesOfKeysAsked, AreLinesOfSet, IsKeyLine}
-use Rattle.dnsv_holding.specs.Listing.{AreOfNumbered}
+use Rattle.dnsv_keys_in_question.specs.KeyLines.{AreLinesOfKeysAsked, AreLinesOfSet, IsKeyLine}
+use Rattle.dnsv_derivations.specs.Listing.{AreOfNumbered}
 use Rattle.dnsv_lines.specs.declared.line.Line.{Line}
 use Rattle.dnsv_lines.specs.declared.line.Line.TheVariants as line
 use Rattle.dnsv_reasons.proofs.lemmas.OnceLemmas.{failures_differ}

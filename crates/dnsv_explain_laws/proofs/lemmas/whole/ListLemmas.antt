@@ -6,7 +6,7 @@ use Rattle.std.specs.List.{AllPairs, Contains}
 use Rattle.std.specs.List.Sorted.{IsStrictlyIncreasing}
 use Rattle.dnsv_verifier.proofs.NumberLemmas.{contains_from_map, contains_map}
 use Rattle.dnsv_reasons.specs.laws.Once.{AreOnce}
-use Rattle.dnsv_holding.specs.Listing.{AreOfNumbered}
+use Rattle.dnsv_derivations.specs.Listing.{AreOfNumbered}
 use Rattle.dnsv_explain_laws.proofs.holding.MemberLemmas.{none_in}
 
 -- ---- two lists

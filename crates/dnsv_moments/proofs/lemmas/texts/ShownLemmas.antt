@@ -10,7 +10,7 @@ use Rattle.dnsv_lines.specs.declared.line.fault.signature.ShownSignature.{ShownS
 use Rattle.dnsv_moments.specs.Dates.{times_of}
 use Rattle.dnsv_moments.specs.declared.texts.borders.Border.{Border}
 use Rattle.dnsv_derivations.proofs.lemmas.intervals.ShownLemmas.{rdata_at}
-use Rattle.dnsv_holding.specs.Listing.{AreOfEach}
+use Rattle.dnsv_derivations.specs.Listing.{AreOfEach}
 use Rattle.dnsv_moments.proofs.DatedLemmas.{none_dated}
 use Rattle.dnsv_moments.specs.texts.Following.{AddsShown}
 use Rattle.dnsv_moments.specs.texts.Shown.{AreShownAs, IsSignatureShown, shown_of}

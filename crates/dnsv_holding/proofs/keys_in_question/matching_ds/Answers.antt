@@ -1,8 +1,0 @@
-use Rattle.std.proofs.Common.{subst}
-use Rattle.dnsv_derivations.specs.Explained.{setting_in}
-use Rattle.dnsv_holding.specs.KeyLines.{IsLowestDs}
-use Rattle.dnsv_holding.proofs.keys_in_question.matching_ds.Goals as goal
-
-pub returns : goal.returns
-returns c =
-    subst (λ key. IsLowestDs (setting_in c.args.evidence.now) key c.in_ok-lowest.lowest) c.new-digested.ensures c.in_ok-lowest.ensures

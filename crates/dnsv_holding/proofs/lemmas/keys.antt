@@ -1,5 +1,0 @@
--- The keys that what fails is a matter of, by numbers.
-pub mod ListingLemmas
-pub mod LowestLemmas
-pub mod OneListLemmas
-pub mod ShownKeyLemmas
