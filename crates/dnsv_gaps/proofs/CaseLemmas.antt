@@ -17,7 +17,7 @@ use Rattle.dnsv_canonical.specs.declared.number.RecordNumber.{RecordNumber}
 use Rattle.dnsv_proof_forms.proofs.lemmas.words.IndexLemmas.{SayAlike, SaysAlike}
 use Rattle.dnsv_proof_forms.specs.records.Numbers.{number_at, numbers_of, record_count}
 use Rattle.dnsv_proof_forms.specs.words.ChainSaid.{IsTypesAt, chain_said}
-use Rattle.dnsv_denial.specs.gathering.EvidenceWords.{number_cmp}
+use Rattle.dnsv_proof_forms.specs.records.Numbers.{number_cmp}
 use Rattle.dnsv_proof_forms.specs.words.SaidAt.{AreAllPlaces}
 use Rattle.dnsv_proof_forms.specs.declared.words.asked.AskedName.TheVariants.{Above, Wildcard}
 use Rattle.dnsv_proof_forms.specs.declared.words.asked.AskedName.{AskedName}

@@ -15,7 +15,7 @@ use Rattle.dnsv_canonical.specs.declared.number.RecordNumber.{RecordNumber}
 use Rattle.dnsv_records.specs.OctetLaws.{recursion-append}
 use Rattle.dnsv_denial.proofs.lemmas.gathering.AlikeLemmas.{before_less, in_order}
 use Rattle.dnsv_proof_forms.specs.records.Numbers.{number_at}
-use Rattle.dnsv_denial.specs.gathering.EvidenceWords.{number_cmp}
+use Rattle.dnsv_proof_forms.specs.records.Numbers.{number_cmp}
 use Rattle.dnsv_denial.proofs.lemmas.proving.ZoneChainLemmas.{there_or}
 
 pub rising_push : {K : Type 0} (c : K → K → Ordering) (xs : List K) (z : K) → IsStrictlySortedBy c xs

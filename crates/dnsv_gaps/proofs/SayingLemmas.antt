@@ -11,7 +11,7 @@ use Rattle.dnsv_proof_forms.proofs.lemmas.words.IndexLemmas.{SayAlike, SaysAlike
 use Rattle.dnsv_proof_forms.specs.records.Numbers.{number_at, numbers_of, record_count}
 use Rattle.dnsv_proof_forms.specs.words.Asked.{asked_name, said_word}
 use Rattle.dnsv_proof_forms.specs.words.ChainSaid.{chain_said}
-use Rattle.dnsv_denial.specs.gathering.EvidenceWords.{number_cmp}
+use Rattle.dnsv_proof_forms.specs.records.Numbers.{number_cmp}
 use Rattle.dnsv_proof_forms.specs.words.SaidAt.{AreAllPlaces}
 use Rattle.dnsv_proof_forms.specs.declared.words.asked.AskedName.{AskedName}
 use Rattle.dnsv_proof_forms.specs.declared.words.asked.AskedWord.{AskedWord}

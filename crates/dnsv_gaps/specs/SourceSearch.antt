@@ -14,7 +14,8 @@ use Rattle.dnsv_proof_forms.specs.records.AskedHash.{HasHashesOf}
 use Rattle.dnsv_proof_forms.specs.records.Record.{read_nsec3}
 use Rattle.dnsv_proof_forms.specs.words.Asked.{asked_name, said_word}
 use Rattle.dnsv_proof_forms.specs.words.ChainSaid.{HasHashes}
-use Rattle.dnsv_denial.specs.gathering.EvidenceWords.{Chain, number_cmp}
+use Rattle.dnsv_denial.specs.gathering.EvidenceWords.{Chain}
+use Rattle.dnsv_proof_forms.specs.records.Numbers.{number_cmp}
 use Rattle.dnsv_proof_forms.specs.words.SaidAt.{IsSaidAt}
 use Rattle.dnsv_denial.specs.gathering.EvidenceWords.Chain.{ByNsec, ByNsec3}
 use Rattle.dnsv_proof_forms.specs.declared.records.chain_records.ChainRecords.{ChainRecords}

@@ -18,7 +18,8 @@ use Rattle.dnsv_canonical.proofs.CanonicalLemmas.{rising_unique, Contains-from_m
 use Rattle.dnsv_canonical.specs.Rrsets.{ReceivedRrset}
 use Rattle.dnsv_denial.specs.proving.FirstProof.{AreRecordsOf, CanBeProved, IsFirstNoData, IsFirstNoName, IsFirstProof, ProofRecords, StandsBy}
 use Rattle.dnsv_denial.specs.unsigned_cuts.Cuts.{no_ds, no_usable_ds, opt_out, IsUnsignedDelegationCut, IsUnusableDsCut, IsOptOutCut, IsFewest, IsMost, IsUnsignedCut, HasUnsignedCut}
-use Rattle.dnsv_denial.specs.gathering.EvidenceWords.{Chain, GoesBefore, nsec_first, by_parameters, evidence_said, number_cmp}
+use Rattle.dnsv_denial.specs.gathering.EvidenceWords.{Chain, GoesBefore, nsec_first, by_parameters, evidence_said}
+use Rattle.dnsv_proof_forms.specs.records.Numbers.{number_cmp}
 use Rattle.dnsv_proof_forms.specs.records.ParametersOrder.{parameters_cmp}
 use Rattle.dnsv_denial.specs.gathering.EvidenceWords.Chain.{ByNsec, ByNsec3}
 use Rattle.dnsv_canonical.specs.declared.number.RecordNumber.{RecordNumber}

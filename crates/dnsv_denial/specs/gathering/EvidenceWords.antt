@@ -1,7 +1,5 @@
 -- What the records of a zone among the evidence say of names, each by its number.
 use Rattle.std.specs.Prelude.{◌≡◌, ℕ, List}
-use Rattle.std.specs.Ordering.{nat_cmp, ordering_then}
-use Rattle.std.specs.declared.cmp.Ordering.{Ordering}
 use Rattle.std.specs.declared.cmp.Ordering.TheVariants.{Less}
 use Rattle.dnsv_names.specs.Name.{Labels}
 use Rattle.dnsv_zones.specs.chains.HashedNames.{sha1_hash}
@@ -43,10 +41,6 @@ pub data Chain : Type 0 where
 abbrev pub evidence_said : (ℕ → ℕ → Type 0) → List ReceivedRrset → Labels → Chain → RecordWords RecordNumber
 evidence_said Secured rrsets zone ByNsec = nsec_said Secured rrsets zone
 evidence_said Secured rrsets zone (ByNsec3 parameters) = nsec3_said Secured rrsets zone parameters
-
--- by RRset, and then by place
-abbrev pub number_cmp : RecordNumber → RecordNumber → Ordering
-number_cmp a b = ordering_then (nat_cmp a.rrset b.rrset) (nat_cmp a.place b.place)
 
 -- the chain of NSEC records goes before those of NSEC3 records, and these are in the order of their parameters
 pub data GoesBefore : Chain → Chain → Type 0 where

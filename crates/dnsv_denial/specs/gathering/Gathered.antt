@@ -9,7 +9,7 @@ use Rattle.dnsv_zones.specs.Any.{Any}
 use Rattle.dnsv_canonical.specs.Rrsets.{ReceivedRrset}
 use Rattle.dnsv_denial.specs.gathering.Evidence.{IsNsecAt, IsNsecOf, IsNsec3At, IsNsec3Of, IsSecuredBy}
 use Rattle.dnsv_proof_forms.specs.records.Record.{read_entry, read_nsec3}
-use Rattle.dnsv_denial.specs.gathering.EvidenceWords.{number_cmp}
+use Rattle.dnsv_proof_forms.specs.records.Numbers.{number_cmp}
 use Rattle.dnsv_proof_forms.specs.declared.records.entry.NsecEntry.{NsecEntry}
 use Rattle.dnsv_proof_forms.specs.declared.records.entry.Nsec3Entry.{Nsec3Entry}
 use Rattle.dnsv_canonical.specs.declared.number.RecordNumber.{RecordNumber}

@@ -10,7 +10,8 @@ use Rattle.dnsv_proof_forms.specs.forms.ShownUnsigned.{ShowsDenial}
 use Rattle.dnsv_denial.specs.gathering.Gathered.{AreNsecsOf, AreNsec3sOf}
 use Rattle.dnsv_denial.specs.proving.FirstProof.{AreRecordsOf}
 use Rattle.dnsv_denial.specs.proving.ShownDenials.{kind_of}
-use Rattle.dnsv_denial.specs.gathering.EvidenceWords.{Chain, evidence_said, number_cmp}
+use Rattle.dnsv_denial.specs.gathering.EvidenceWords.{Chain, evidence_said}
+use Rattle.dnsv_proof_forms.specs.records.Numbers.{number_cmp}
 use Rattle.dnsv_denial.specs.gathering.EvidenceWords.Chain.{ByNsec, ByNsec3}
 use Rattle.dnsv_proof_forms.specs.declared.forms.denial.Denial.{Denial}
 use Rattle.dnsv_denial.specs.declared.proving.shown_denial.ShownDenial.{ShownDenial}

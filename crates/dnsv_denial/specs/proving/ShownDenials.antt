@@ -6,7 +6,8 @@ use Rattle.dnsv_zones.specs.forms.RecordWords.{RecordWords, words}
 use Rattle.dnsv_canonical.specs.Rrsets.{ReceivedRrset}
 use Rattle.dnsv_proof_forms.specs.forms.ProofForms.{ShowsNoName, ShowsNoData, ShowsNoCloser, form_records}
 use Rattle.dnsv_denial.specs.proving.FirstProof.{AreRecordsOf, IsFirstOfZone}
-use Rattle.dnsv_denial.specs.gathering.EvidenceWords.{Chain, GoesBefore, evidence_said, number_cmp}
+use Rattle.dnsv_denial.specs.gathering.EvidenceWords.{Chain, GoesBefore, evidence_said}
+use Rattle.dnsv_proof_forms.specs.records.Numbers.{number_cmp}
 use Rattle.dnsv_denial.specs.gathering.EvidenceWords.Chain.{ByNsec, ByNsec3}
 use Rattle.dnsv_proof_forms.specs.declared.forms.proof_form.ProofForm.{ProofForm}
 use Rattle.dnsv_denial.specs.declared.proving.shown_denial.ShownDenial.{ShownDenial}

@@ -8,7 +8,8 @@ use Rattle.dnsv_proof_forms.specs.forms.ProofForms.{form_records}
 use Rattle.dnsv_proof_forms.specs.forms.ShownUnsigned.{ShowsDelegation, ShowsOptOut, ShowsOptOutCloser}
 use Rattle.dnsv_denial.specs.proving.ShownDenials.{IsFirstShown, kind_of}
 use Rattle.dnsv_denial.specs.unsigned_cuts.Cuts.{IsFewest, IsMost, IsOptOutCut, IsUnsignedDelegationCut, IsUnusableDsCut}
-use Rattle.dnsv_denial.specs.gathering.EvidenceWords.{Chain, GoesBefore, evidence_said, number_cmp}
+use Rattle.dnsv_denial.specs.gathering.EvidenceWords.{Chain, GoesBefore, evidence_said}
+use Rattle.dnsv_proof_forms.specs.records.Numbers.{number_cmp}
 use Rattle.dnsv_denial.specs.declared.proving.shown_denial.ShownDenial.{ShownDenial}
 use Rattle.dnsv_denial.specs.declared.unsigned_cuts.shown_cut.ShownCut.{ShownCut}
 use Rattle.dnsv_denial.specs.declared.unsigned_cuts.shown_cut.ShownCut.TheVariants.{NoDs, NoUsableDs, OptOut}

@@ -10,7 +10,7 @@ ghost use Rattle.dnsv_proof_forms.specs.KeptHashes.{IsSetOf};
 ghost use Rattle.dnsv_denial.specs.proving.ChainOf.{CanBeShown};
 ghost use Rattle.dnsv_denial.specs.proving.FirstProof.{CanProveNoCloser};
 ghost use Rattle.dnsv_denial.specs.proving.ShownDenials.{IsFirstShown, IsShownNoCloser};
-ghost use Rattle.dnsv_denial.specs.gathering.EvidenceWords.{number_cmp};
+ghost use Rattle.dnsv_proof_forms.specs.records.Numbers.{number_cmp};
 
 use crate::gathering::zone_records::ZoneRecords;
 use crate::proving::shown_denial::ShownDenial;

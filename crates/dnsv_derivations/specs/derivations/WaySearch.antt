@@ -12,7 +12,7 @@ use Rattle.dnsv_chain.specs.Ds.{IsMatch}
 use Rattle.dnsv_chain.specs.Trusted.{IsKeyOf, IsTrusted}
 use Rattle.dnsv_chain.specs.declared.anchor.Anchor.{Anchor}
 use Rattle.dnsv_chain.specs.declared.anchor.Anchor.TheVariants as anchor
-use Rattle.dnsv_denial.specs.gathering.EvidenceWords.{number_cmp}
+use Rattle.dnsv_proof_forms.specs.records.Numbers.{number_cmp}
 use Rattle.dnsv_derivations.specs.Explained.{IsTodo, Setting}
 use Rattle.dnsv_derivations.specs.Following.{IsGoodUnder, IsNamed}
 use Rattle.dnsv_derivations.specs.derivations.NewKeys.{AreNewKeys}

@@ -16,7 +16,7 @@ use Rattle.dnsv_proof_forms.specs.records.Numbers.{number_at, numbers_of, record
 use Rattle.dnsv_proof_forms.specs.records.Record.{read_nsec3}
 use Rattle.dnsv_proof_forms.specs.words.Asked.{said_word}
 use Rattle.dnsv_proof_forms.specs.words.ChainSaid.{IsOptOutOfChain, IsTypesAt, chain_said}
-use Rattle.dnsv_denial.specs.gathering.EvidenceWords.{number_cmp}
+use Rattle.dnsv_proof_forms.specs.records.Numbers.{number_cmp}
 use Rattle.dnsv_proof_forms.specs.words.SaidAt.{AreAllPlaces}
 use Rattle.dnsv_proof_forms.specs.declared.records.chain_records.ChainRecords.{ChainRecords}
 use Rattle.dnsv_proof_forms.specs.declared.records.chain_records.ChainRecords.TheVariants.{Nsec, Nsec3}

@@ -15,7 +15,7 @@ use Rattle.dnsv_proof_forms.specs.declared.words.asked.AskedWord.{AskedWord}
 use Rattle.dnsv_proof_forms.specs.declared.words.asked.AskedWord.TheVariants as word
 use Rattle.dnsv_remedies.specs.declared.facts.cut.CutCase.{CutCase}
 use Rattle.dnsv_gaps.specs.Asking.{Asking, IsAsked, asking}
-use Rattle.dnsv_denial.specs.gathering.EvidenceWords.{number_cmp}
+use Rattle.dnsv_proof_forms.specs.records.Numbers.{number_cmp}
 use Rattle.dnsv_gaps.specs.Cases.{IsAt}
 use Rattle.dnsv_gaps.specs.questions.Cuts.{HasOptOut, IsCutCase, IsNext, IsSeen, IsShown, lowest_cut}
 use Rattle.dnsv_gaps.specs.SourceSearch.{AreHeldSources, chain_of, held_chain, said_in, zone_in}

@@ -13,7 +13,8 @@ use Rattle.dnsv_zones.specs.zones.TypeNumbers.{ds, ns, soa}
 use Rattle.dnsv_zones.specs.zones.Types.{IsDelegation, IsUnsignedDelegation}
 use Rattle.dnsv_canonical.specs.Rrsets.{ReceivedRrset}
 use Rattle.dnsv_canonical.specs.declared.number.RecordNumber.{RecordNumber}
-use Rattle.dnsv_denial.specs.gathering.EvidenceWords.{Chain, number_cmp}
+use Rattle.dnsv_denial.specs.gathering.EvidenceWords.{Chain}
+use Rattle.dnsv_proof_forms.specs.records.Numbers.{number_cmp}
 use Rattle.dnsv_denial.specs.gathering.EvidenceWords.Chain.{ByNsec, ByNsec3}
 use Rattle.dnsv_chain.specs.Basis.{Basis, HasAnchor}
 use Rattle.dnsv_verifier.specs.Admissible.{IsSignatureOf}

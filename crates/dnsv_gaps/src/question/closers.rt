@@ -2,7 +2,7 @@
 ghost use Rattle.std.specs.Prelude.{◌≡◌, ◌↔◌, ◌≤◌, ◌<◌, ◌+◌, Contains, IfOk, IsTrue, length};
 ghost use Rattle.std.specs.List.{AllByRecursion};
 ghost use Rattle.std.specs.List.Sorted.{IsStrictlySortedBy};
-ghost use Rattle.dnsv_denial.specs.gathering.EvidenceWords.{number_cmp};
+ghost use Rattle.dnsv_proof_forms.specs.records.Numbers.{number_cmp};
 ghost use Rattle.dnsv_proof_forms.specs.words.Asked.{IsWithin};
 ghost use Rattle.dnsv_faults.specs.KnownZones.{IsGoal};
 ghost use Rattle.dnsv_chain.specs.Basis.{basis_by};

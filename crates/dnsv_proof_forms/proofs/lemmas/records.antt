@@ -3,4 +3,5 @@ pub mod HashCountLemmas
 pub mod HashIndexLemmas
 pub mod HashLemmas
 pub mod HashPlaceLemmas
+pub mod OrderedLemmas
 pub mod ParametersLemmas

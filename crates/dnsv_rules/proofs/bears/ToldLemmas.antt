@@ -11,7 +11,7 @@ use Rattle.dnsv_proof_forms.specs.forms.ProofForms.ShowsNoName.{no_name as name_
 use Rattle.dnsv_denial.specs.proving.FirstProof.{AreRecordsOf}
 use Rattle.dnsv_proof_forms.specs.forms.ProofParts.{encloser_part, encloser_relation, form_parts, part_by, wildcard_parts}
 use Rattle.dnsv_proof_forms.specs.records.RecordsAt.{listed}
-use Rattle.dnsv_denial.specs.gathering.EvidenceWords.{number_cmp}
+use Rattle.dnsv_proof_forms.specs.records.Numbers.{number_cmp}
 use Rattle.dnsv_zones.specs.forms.RecordWords.{RecordWords}
 use Rattle.dnsv_proof_forms.specs.declared.forms.proof_form.ProofForm.{ProofForm}
 use Rattle.dnsv_proof_forms.specs.declared.forms.proof_form.ProofForm.TheVariants as shown_form

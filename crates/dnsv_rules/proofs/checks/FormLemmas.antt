@@ -21,7 +21,8 @@ use Rattle.dnsv_proof_forms.specs.forms.ShownUnsigned.ShowsOptOutCloser.{opt_out
 use Rattle.dnsv_proof_forms.specs.forms.ProofParts.{encloser_part, form_parts, wildcard_parts}
 use Rattle.dnsv_denial.specs.proving.ShownDenials.{kind_of}
 use Rattle.dnsv_proof_forms.specs.records.RecordsAt.{listed}
-use Rattle.dnsv_denial.specs.gathering.EvidenceWords.{Chain, evidence_said, number_cmp}
+use Rattle.dnsv_denial.specs.gathering.EvidenceWords.{Chain, evidence_said}
+use Rattle.dnsv_proof_forms.specs.records.Numbers.{number_cmp}
 use Rattle.dnsv_denial.specs.gathering.EvidenceWords.Chain.{ByNsec, ByNsec3}
 use Rattle.dnsv_proof_forms.specs.declared.forms.proof_form.ProofForm.{ProofForm}
 use Rattle.dnsv_proof_forms.specs.declared.forms.proof_form.ProofForm.TheVariants.{NoCloser}

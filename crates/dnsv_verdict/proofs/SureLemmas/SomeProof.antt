@@ -19,7 +19,8 @@ use Rattle.dnsv_canonical.specs.Rrsets.{ReceivedRrset}
 use Rattle.dnsv_denial.specs.gathering.Evidence.{IsNsec3Of}
 use Rattle.dnsv_denial.specs.proving.FirstProof.{AreRecordsOf, CanBeProved, CanProveNoData, CanProveNoName, IsFirstNoData, IsFirstNoName, IsFirstOfZone, IsFirstProof, ProofRecords, StandsBy}
 use Rattle.dnsv_denial.specs.unsigned_cuts.Cuts.{no_ds, no_usable_ds, opt_out, IsUnsignedDelegationCut, IsUnusableDsCut, IsOptOutCut, IsUnsignedCut, HasUnsignedCut}
-use Rattle.dnsv_denial.specs.gathering.EvidenceWords.{Chain, GoesBefore, nsec_first, by_parameters, evidence_said, nsec3_said, number_cmp}
+use Rattle.dnsv_denial.specs.gathering.EvidenceWords.{Chain, GoesBefore, nsec_first, by_parameters, evidence_said, nsec3_said}
+use Rattle.dnsv_proof_forms.specs.records.Numbers.{number_cmp}
 use Rattle.dnsv_proof_forms.specs.records.ParametersOrder.{parameters_cmp}
 use Rattle.dnsv_denial.specs.gathering.EvidenceWords.Chain.{ByNsec, ByNsec3}
 use Rattle.dnsv_denial.proofs.lemmas.gathering.NameHashesLemmas.{member_at}

@@ -20,7 +20,8 @@ use Rattle.dnsv_denial.specs.gathering.Gathered.{AreAll, AreNsecsOf, AreNsec3sOf
 use Rattle.dnsv_proof_forms.specs.records.AskedHash.{hash_of}
 use Rattle.dnsv_proof_forms.specs.records.Record.{read_entry, read_nsec3}
 use Rattle.dnsv_proof_forms.specs.words.ChainSaid.{chain_said}
-use Rattle.dnsv_denial.specs.gathering.EvidenceWords.{number_cmp, nsec_said, nsec3_said}
+use Rattle.dnsv_denial.specs.gathering.EvidenceWords.{nsec_said, nsec3_said}
+use Rattle.dnsv_proof_forms.specs.records.Numbers.{number_cmp}
 use Rattle.dnsv_proof_forms.specs.words.SaidAt.{IsSaidAt}
 use Rattle.dnsv_proof_forms.specs.declared.records.entry.NsecEntry.{NsecEntry}
 use Rattle.dnsv_proof_forms.specs.declared.records.entry.Nsec3Entry.{Nsec3Entry}

@@ -21,7 +21,7 @@ use Rattle.dnsv_canonical.specs.Rrsets.{IsNumbered, ReceivedRrset}
 use Rattle.dnsv_canonical.proofs.CanonicalLemmas.{canonical_unique}
 use Rattle.dnsv_denial.specs.gathering.Evidence.{IsRecordAt, IsNsecOf}
 use Rattle.dnsv_denial.specs.gathering.Gathered.{AreAll}
-use Rattle.dnsv_denial.specs.gathering.EvidenceWords.{number_cmp}
+use Rattle.dnsv_proof_forms.specs.records.Numbers.{number_cmp}
 use Rattle.dnsv_canonical.specs.declared.number.RecordNumber.{RecordNumber}
 use Rattle.dnsv_canonical.proofs.OrderLemmas.{each_kept}
 use Rattle.dnsv_canonical.proofs.NumberLemmas.{one_numbered}

@@ -15,7 +15,7 @@ use Rattle.dnsv_denial.specs.gathering.Evidence.{IsRecordAt, IsNsecAt, IsNsecOf,
 use Rattle.std.specs.declared.cmp.Ordering.TheVariants.{Less}
 use Rattle.dnsv_denial.specs.gathering.Gathered.{AreNsecs, AreNsecsOf, IsDenialType}
 use Rattle.dnsv_proof_forms.specs.records.Record.{read_entry}
-use Rattle.dnsv_denial.specs.gathering.EvidenceWords.{number_cmp}
+use Rattle.dnsv_proof_forms.specs.records.Numbers.{number_cmp}
 use Rattle.dnsv_proof_forms.specs.declared.records.entry.NsecEntry.{NsecEntry}
 use Rattle.dnsv_canonical.specs.declared.number.RecordNumber.{RecordNumber}
 use Rattle.dnsv_denial.proofs.lemmas.gathering.EvidenceLemmas.{one_nsec_of, nsec_forms, same_rrset_less, all_joined, all_none, all_single, all_said}

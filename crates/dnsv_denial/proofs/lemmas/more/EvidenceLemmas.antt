@@ -9,7 +9,8 @@ use Rattle.dnsv_canonical.specs.Rrsets.{IsNumbered, ReceivedRrset}
 use Rattle.dnsv_denial.specs.gathering.Evidence.{IsNsecOf, IsNsec3Of, IsRecordAt, IsSecuredBy}
 use Rattle.dnsv_denial.specs.proving.FirstProof.{CanProveNoCloser, CanProveNoData, CanProveNoName, IsFirstNoData, IsFirstNoName, IsFirstProof, ProofRecords}
 use Rattle.dnsv_denial.specs.unsigned_cuts.Cuts.{no_ds, no_usable_ds, opt_out, IsUnsignedDelegationCut, IsUnusableDsCut, IsOptOutCut, IsFewest, IsMost, IsUnsignedCut, HasUnsignedCut, HasOptedOutNextCloser}
-use Rattle.dnsv_denial.specs.gathering.EvidenceWords.{Chain, SaidByNsec, SaidByNsec3, evidence_said, number_cmp}
+use Rattle.dnsv_denial.specs.gathering.EvidenceWords.{Chain, SaidByNsec, SaidByNsec3, evidence_said}
+use Rattle.dnsv_proof_forms.specs.records.Numbers.{number_cmp}
 use Rattle.dnsv_denial.specs.gathering.EvidenceWords.Chain.{ByNsec, ByNsec3}
 use Rattle.dnsv_canonical.specs.declared.number.RecordNumber.{RecordNumber}
 use Rattle.dnsv_denial.proofs.lemmas.more.FormLemmas.{SaysNoLess, no_name_to, no_data_to, no_closer_to, cut_to, opts_out_to, no_name_parts_to, no_data_parts_to}

@@ -17,7 +17,8 @@ use Rattle.dnsv_denial.specs.gathering.Kept.{AreZones, IsZoneOf, IsZoneProof}
 use Rattle.dnsv_denial.specs.proving.ChainOf.{CanBeShown, StandsAs}
 use Rattle.dnsv_denial.specs.proving.FirstProof.{IsFirstNoData, IsFirstNoName, IsFirstProof}
 use Rattle.dnsv_denial.specs.proving.ShownDenials.{IsFirstShown, IsShownNoData, IsShownNoName}
-use Rattle.dnsv_denial.specs.gathering.EvidenceWords.{Chain, evidence_said, number_cmp}
+use Rattle.dnsv_denial.specs.gathering.EvidenceWords.{Chain, evidence_said}
+use Rattle.dnsv_proof_forms.specs.records.Numbers.{number_cmp}
 use Rattle.dnsv_proof_forms.specs.declared.forms.denial.Denial.{Denial}
 use Rattle.dnsv_proof_forms.specs.declared.forms.proof_form.ProofForm.{ProofForm}
 use Rattle.dnsv_canonical.specs.declared.number.RecordNumber.{RecordNumber}

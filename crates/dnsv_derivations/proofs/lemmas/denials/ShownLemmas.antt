@@ -13,7 +13,8 @@ use Rattle.dnsv_denial.specs.gathering.Evidence.{IsSecuredBy}
 use Rattle.dnsv_proof_forms.specs.records.RecordsAt.{listed}
 use Rattle.dnsv_proof_forms.specs.forms.ProofParts.{encloser_part, form_parts, opt_out_parts, part_by, part_name}
 use Rattle.dnsv_denial.specs.proving.ShownDenials.{IsFirstShown, kind_of}
-use Rattle.dnsv_denial.specs.gathering.EvidenceWords.{Chain, evidence_said, number_cmp}
+use Rattle.dnsv_denial.specs.gathering.EvidenceWords.{Chain, evidence_said}
+use Rattle.dnsv_proof_forms.specs.records.Numbers.{number_cmp}
 use Rattle.dnsv_proof_forms.specs.declared.forms.proof_form.ProofForm.{ProofForm}
 use Rattle.dnsv_proof_forms.specs.declared.forms.proof_form.ProofForm.TheVariants as form
 use Rattle.dnsv_proof_forms.specs.declared.forms.proof_part.PartName.{PartName}

@@ -14,7 +14,8 @@ use Rattle.dnsv_denial.specs.proving.ShownDenials.{IsFirstShown, IsShownNoCloser
 use Rattle.dnsv_denial.specs.unsigned_cuts.Cuts.{HasUnsignedCut, IsOptOutCut, IsUnsignedDelegationCut, IsUnusableDsCut}
 use Rattle.dnsv_denial.specs.unsigned_cuts.ShownCut.{IsShownCut, IsShownOptOutCloser}
 use Rattle.dnsv_denial.specs.unsigned_cuts.ShownCut.IsShownCut.{no_ds, no_usable_ds, opt_out}
-use Rattle.dnsv_denial.specs.gathering.EvidenceWords.{Chain, GoesBefore, evidence_said, number_cmp}
+use Rattle.dnsv_denial.specs.gathering.EvidenceWords.{Chain, GoesBefore, evidence_said}
+use Rattle.dnsv_proof_forms.specs.records.Numbers.{number_cmp}
 use Rattle.dnsv_proof_forms.specs.declared.forms.proof_form.ProofForm.{ProofForm}
 use Rattle.dnsv_denial.specs.declared.proving.shown_denial.ShownDenial.{ShownDenial}
 use Rattle.dnsv_canonical.specs.declared.number.RecordNumber.{RecordNumber}

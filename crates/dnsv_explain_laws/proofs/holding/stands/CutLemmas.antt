@@ -11,7 +11,8 @@ use Rattle.dnsv_denial.specs.proving.ShownDenials.{IsFirstShown}
 use Rattle.dnsv_denial.specs.unsigned_cuts.Cuts.{HasUnsignedCut, IsOptOutCut, IsUnsignedDelegationCut, IsUnusableDsCut}
 use Rattle.dnsv_denial.specs.unsigned_cuts.ShownCut.{IsShownCut}
 use Rattle.dnsv_denial.specs.unsigned_cuts.ShownCut.IsShownCut.{no_ds, no_usable_ds, opt_out}
-use Rattle.dnsv_denial.specs.gathering.EvidenceWords.{evidence_said, number_cmp}
+use Rattle.dnsv_denial.specs.gathering.EvidenceWords.{evidence_said}
+use Rattle.dnsv_proof_forms.specs.records.Numbers.{number_cmp}
 use Rattle.dnsv_denial.specs.declared.proving.shown_denial.ShownDenial.{ShownDenial}
 use Rattle.dnsv_canonical.specs.declared.number.RecordNumber.{RecordNumber}
 use Rattle.dnsv_denial.specs.declared.unsigned_cuts.shown_cut.ShownCut.{ShownCut}

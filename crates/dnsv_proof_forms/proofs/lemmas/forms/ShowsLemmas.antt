@@ -23,7 +23,7 @@ use Rattle.dnsv_proof_forms.specs.forms.ShownUnsigned.ShowsOptOut.{opt_out, wild
 use Rattle.dnsv_proof_forms.specs.forms.ShownUnsigned.ShowsOptOutCloser.{opt_out_closer}
 use Rattle.dnsv_proof_forms.specs.records.Numbers.{number_at}
 use Rattle.dnsv_proof_forms.specs.records.RecordsAt.{listed}
-use Rattle.dnsv_denial.specs.gathering.EvidenceWords.{number_cmp}
+use Rattle.dnsv_proof_forms.specs.records.Numbers.{number_cmp}
 use Rattle.dnsv_proof_forms.specs.declared.forms.denial.Denial.{Denial}
 use Rattle.dnsv_proof_forms.specs.declared.forms.denial.Denial.TheVariants as denied
 use Rattle.dnsv_proof_forms.specs.declared.forms.proof_form.ProofForm.{ProofForm}

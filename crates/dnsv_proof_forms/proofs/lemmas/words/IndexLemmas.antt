@@ -10,7 +10,7 @@ use Rattle.dnsv_zones.specs.forms.Parts.{IsFirstToSay}
 use Rattle.dnsv_zones.specs.forms.RecordWords.{RecordWords, words}
 use Rattle.dnsv_zones.proofs.lemmas.chains.MoreLemmas.{SayMore}
 use Rattle.dnsv_proof_forms.specs.records.Numbers.{number_at}
-use Rattle.dnsv_denial.specs.gathering.EvidenceWords.{number_cmp}
+use Rattle.dnsv_proof_forms.specs.records.Numbers.{number_cmp}
 use Rattle.dnsv_canonical.specs.declared.number.RecordNumber.{RecordNumber}
 
 -- the places are those of the numbers

@@ -9,7 +9,7 @@ use Rattle.dnsv_names.specs.declared.number.RecordType.{RecordType}
 use Rattle.dnsv_zones.specs.forms.Parts.{IsFirstToSay}
 use Rattle.dnsv_zones.specs.forms.RecordWords.{RecordWords}
 use Rattle.dnsv_canonical.specs.declared.number.RecordNumber.{RecordNumber}
-use Rattle.dnsv_denial.specs.gathering.EvidenceWords.{number_cmp}
+use Rattle.dnsv_proof_forms.specs.records.Numbers.{number_cmp}
 use Rattle.dnsv_lines.specs.declared.line.fault.denial.WhySource.{WhySource}
 use Rattle.dnsv_remedies.specs.declared.facts.denial.RecordsAt.{RecordsAt}
 use Rattle.dnsv_remedies.specs.declared.facts.denial.RecordsAt.TheVariants as records

@@ -11,7 +11,8 @@ use Rattle.dnsv_canonical.specs.declared.number.RecordNumber.{RecordNumber}
 use Rattle.dnsv_denial.proofs.lemmas.gathering.EvidenceLemmas.{one_nsec_of}
 use Rattle.dnsv_denial.proofs.lemmas.gathering.NumberedLemmas.{one_nsec3_of}
 use Rattle.dnsv_denial.proofs.lemmas.proving.ZoneChainLemmas.{no_circle}
-use Rattle.dnsv_denial.specs.gathering.EvidenceWords.{Chain, GoesBefore, number_cmp}
+use Rattle.dnsv_denial.specs.gathering.EvidenceWords.{Chain, GoesBefore}
+use Rattle.dnsv_proof_forms.specs.records.Numbers.{number_cmp}
 use Rattle.dnsv_denial.specs.gathering.EvidenceWords.Chain.{ByNsec, ByNsec3}
 use Rattle.dnsv_remedies.specs.declared.facts.name.UnusableFacts.{UnusableFacts}
 use Rattle.dnsv_verdict.proofs.OneProof.{number_total}

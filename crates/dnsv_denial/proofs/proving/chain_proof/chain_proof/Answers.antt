@@ -7,7 +7,8 @@ use Rattle.dnsv_proof_forms.specs.forms.ShownUnsigned.{ShowsDenial}
 use Rattle.dnsv_denial.specs.proving.FirstProof.{AreRecordsOf, ProofRecords}
 use Rattle.dnsv_proof_forms.specs.records.Numbers.{numbers_of, number_at, record_count}
 use Rattle.dnsv_proof_forms.specs.words.ChainSaid.{chain_said}
-use Rattle.dnsv_denial.specs.gathering.EvidenceWords.{evidence_said, number_cmp}
+use Rattle.dnsv_denial.specs.gathering.EvidenceWords.{evidence_said}
+use Rattle.dnsv_proof_forms.specs.records.Numbers.{number_cmp}
 use Rattle.dnsv_canonical.specs.declared.number.RecordNumber.{RecordNumber}
 use Rattle.dnsv_denial.proofs.lemmas.proving.ChainProofLemmas.{all_labels, chain_alike, chain_kinds, chain_order}
 use Rattle.dnsv_proof_forms.proofs.lemmas.forms.BoundLemmas.{chain_bound}

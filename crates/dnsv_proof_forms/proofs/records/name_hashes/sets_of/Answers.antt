@@ -3,7 +3,7 @@ use Rattle.std.specs.Prelude.{Contains}
 use Rattle.std.specs.List.Sorted.{IsStrictlySortedBy}
 use Rattle.dnsv_zones.specs.chains.Rdata.{parameters_of}
 use Rattle.dnsv_proof_forms.specs.records.ParametersOrder.{parameters_cmp}
-use Rattle.dnsv_denial.proofs.lemmas.gathering.GatherZoneLemmas.{all_sets, no_sets, set_more}
+use Rattle.dnsv_proof_forms.proofs.lemmas.records.OrderedLemmas.{all_sets, no_sets, set_more}
 use Rattle.dnsv_proof_forms.proofs.lemmas.records.HashCountLemmas.{none_counted, one_counted}
 use Rattle.dnsv_proof_forms.proofs.records.name_hashes.sets_of.Goals as goal
 

@@ -2,7 +2,7 @@
 use Rattle.std.proofs.Common.{◌≡◌, map}
 use Rattle.dnsv_names.specs.Count.{counted}
 use Rattle.dnsv_zones.specs.chains.HashedNames.{hashes_for}
-use Rattle.dnsv_denial.proofs.lemmas.gathering.GatherZoneLemmas.{AreSetsTo}
+use Rattle.dnsv_proof_forms.proofs.lemmas.records.OrderedLemmas.{AreSetsTo}
 use Rattle.dnsv_proof_forms.proofs.records.name_hashes.sets_of.Given as goal
 
 abbrev pub invariant-loop-each : goal.invariant-loop-each

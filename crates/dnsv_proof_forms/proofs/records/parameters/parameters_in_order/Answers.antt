@@ -2,7 +2,7 @@ use Rattle.std.proofs.Common.{◌↔◌, map, ◌∙◌, subst}
 use Rattle.std.specs.Prelude.{Contains}
 use Rattle.std.proofs.lemmas.List.{take_all}
 use Rattle.std.proofs.lemmas.List.Filters.{dedup_is}
-use Rattle.dnsv_denial.proofs.lemmas.gathering.GatherZoneLemmas.{members_in_order, put_in_order}
+use Rattle.dnsv_proof_forms.proofs.lemmas.records.OrderedLemmas.{members_in_order, put_in_order}
 use Rattle.dnsv_proof_forms.proofs.records.parameters.parameters_in_order.Goals as goal
 
 pub returns-clause-order : goal.returns-clause-order
