@@ -20,7 +20,6 @@ pub use records::entry::{Nsec3Entry, NsecEntry};
 pub use records::hashed_records::HashedRecords;
 pub use records::name_hashes::NameHashes;
 pub use records::nsec3_entries::Nsec3Entries;
-pub use records::numbers::record_number;
 pub use records::parameters::{OrderedParameters, parameters_in_order};
 pub use words::all::places_saying;
 pub use words::asked::{AskedName, AskedTypes, AskedWord};

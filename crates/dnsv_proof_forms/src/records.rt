@@ -6,5 +6,4 @@ pub mod hash_places;
 pub mod hashed_records;
 pub mod name_hashes;
 pub mod nsec3_entries;
-pub mod numbers;
 pub mod parameters;

@@ -15,9 +15,7 @@ use crate::proving::proof::Proof;
 use crate::proving::shown_denial::ShownDenial;
 use dnsv_canonical::RecordNumber;
 use dnsv_names::Name;
-use dnsv_proof_forms::{
-    ChainKind, ChainRecords, Denial, ProofForm, WildcardParts, form_places, record_number,
-};
+use dnsv_proof_forms::{ChainKind, ChainRecords, Denial, ProofForm, WildcardParts, form_places};
 
 /// How the denial is shown by the records of a chain of the zone, or `None` where they prove none.
 pub fn chain_proof(
@@ -61,10 +59,8 @@ fn numbered(form: ProofForm<usize>, records: &ChainRecords<'_>) -> ProofForm<Rec
 {
     match form {
         ProofForm::NoName(parts) => ProofForm::NoName(numbered_parts(parts, records)),
-        ProofForm::NoData(place) => ProofForm::NoData(record_number(place, records)),
-        ProofForm::EmptyNonTerminal(place) => {
-            ProofForm::EmptyNonTerminal(record_number(place, records))
-        }
+        ProofForm::NoData(place) => ProofForm::NoData(records.number(place)),
+        ProofForm::EmptyNonTerminal(place) => { ProofForm::EmptyNonTerminal(records.number(place)) }
         ProofForm::WildcardNoData(parts) => {
             ProofForm::WildcardNoData(numbered_parts(parts, records))
         }
@@ -74,11 +70,11 @@ fn numbered(form: ProofForm<usize>, records: &ChainRecords<'_>) -> ProofForm<Rec
             next_closer,
         } => ProofForm::NoCloser {
             labels,
-            next_closer: record_number(next_closer, records),
+            next_closer: records.number(next_closer),
         },
         ProofForm::Delegation { labels, delegation } => ProofForm::Delegation {
             labels,
-            delegation: record_number(delegation, records),
+            delegation: records.number(delegation),
         },
         ProofForm::OptOut {
             labels,
@@ -87,7 +83,7 @@ fn numbered(form: ProofForm<usize>, records: &ChainRecords<'_>) -> ProofForm<Rec
         } => ProofForm::OptOut {
             labels,
             encloser: numbered_encloser(encloser, records),
-            next_closer: record_number(next_closer, records),
+            next_closer: records.number(next_closer),
         },
         ProofForm::WildcardOptOut(parts) => {
             ProofForm::WildcardOptOut(numbered_parts(parts, records))
@@ -97,7 +93,7 @@ fn numbered(form: ProofForm<usize>, records: &ChainRecords<'_>) -> ProofForm<Rec
             next_closer,
         } => ProofForm::OptOutCloser {
             labels,
-            next_closer: record_number(next_closer, records),
+            next_closer: records.number(next_closer),
         },
     }
 }
@@ -113,8 +109,8 @@ fn numbered_parts(
     WildcardParts {
         labels: parts.labels,
         encloser: numbered_encloser(parts.encloser, records),
-        next_closer: record_number(parts.next_closer, records),
-        wildcard: record_number(parts.wildcard, records),
+        next_closer: records.number(parts.next_closer),
+        wildcard: records.number(parts.wildcard),
     }
 }
 
@@ -126,5 +122,5 @@ fn numbered_encloser(encloser: Option<usize>, records: &ChainRecords<'_>) -> Opt
     let Some(place) = encloser else {
         return None;
     };
-    Some(record_number(place, records))
+    Some(records.number(place))
 }

@@ -6,7 +6,7 @@ ghost use Rattle.dnsv_proof_forms.specs.records.Numbers.{numbers_of, number_at, 
 
 use arrayvec::ArrayVec;
 use dnsv_canonical::RecordNumber;
-use dnsv_proof_forms::{ChainRecords, Places, record_number};
+use dnsv_proof_forms::{ChainRecords, Places};
 
 /// The numbers of the chain's records at these places, each once and rising.
 pub fn record_numbers(places: &Places, records: &ChainRecords<'_>) -> ArrayVec<RecordNumber, 3>
@@ -15,7 +15,7 @@ pub fn record_numbers(places: &Places, records: &ChainRecords<'_>) -> ArrayVec<R
 {
     let mut numbers = ArrayVec::new();
     for place in places.iter() {
-        let number = record_number(*place, records);
+        let number = records.number(*place);
         if !numbers.contains(&number) {
             numbers.push(number);
         }

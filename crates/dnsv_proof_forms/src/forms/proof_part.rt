@@ -11,7 +11,7 @@ use dnsv_canonical::RecordNumber;
 use dnsv_names::Name;
 
 /// What a part of a proof speaks of, by the question's name.
-#[derive(Clone, Copy, Debug, Default, PartialEq, Eq)]
+#[derive(Clone, Copy, Debug, Default)]
 pub enum PartName {
     /// The closest encloser: so many of the question's rightmost labels (RFC 5155 1.3).
     ClosestEncloser(usize),
@@ -75,7 +75,7 @@ fn wildcard(name: &Name, labels: usize) -> Name
 }
 
 /// How a record is related to the name that it speaks of.
-#[derive(Clone, Copy, Debug, Default, PartialEq, Eq)]
+#[derive(Clone, Copy, Debug, Default)]
 pub enum PartRelation {
     /// Its owner, or its hash, is the name's.
     Matched,
@@ -93,7 +93,7 @@ pub enum PartRelation {
 }
 
 /// One part of a proof.
-#[derive(Clone, Copy, Debug, Default, PartialEq, Eq)]
+#[derive(Clone, Copy, Debug, Default)]
 pub struct ProofPart {
     /// What it speaks of.
     pub name: PartName,

@@ -1,12 +1,12 @@
 //! The records of one chain of a zone, as a proof is looked for among them.
 ghost use Rattle.std.specs.FinSet as set;
-ghost use Rattle.std.specs.Prelude.{◌≡◌, ◌<◌, length};
+ghost use Rattle.std.specs.Prelude.{◌≡◌, ◌<◌, length, map};
+ghost use Rattle.dnsv_proof_forms.specs.records.Numbers.{number_at};
 ghost use Rattle.dnsv_proof_forms.specs.records.Record.{read_entry, read_nsec3};
 ghost use Rattle.dnsv_proof_forms.specs.words.SaidAt.{IsSaidAt};
 
 use crate::records::entry::{Nsec3Entry, NsecEntry};
 use crate::records::hashed_records::HashedRecords;
-use crate::records::numbers::record_number;
 use dnsv_canonical::RecordNumber;
 use dnsv_records::TypeBitmap;
 
@@ -20,7 +20,7 @@ pub enum ChainRecords<'a> {
 }
 
 impl<'a> ChainRecords<'a> {
-    ghost use Rattle.dnsv_proof_forms.specs.records.Numbers.{numbers_of, number_at, record_count};
+    ghost use Rattle.dnsv_proof_forms.specs.records.Numbers.{numbers_of, record_count};
     ghost use Rattle.dnsv_proof_forms.specs.words.ChainSaid.{IsTypesAt};
 
     /// The number of the record at the place.
@@ -28,7 +28,10 @@ impl<'a> ChainRecords<'a> {
         requires { place < record_count self.now }
         ensures { result ≡ number_at (numbers_of self.now) place }
     {
-        record_number(place, self)
+        match self {
+            ChainRecords::Nsec(entries) => nsec_number(place, entries),
+            ChainRecords::Nsec3(hashed) => nsec3_number(place, hashed.entries.as_slice()),
+        }
     }
 
     /// The types that the record at the place lists.
@@ -41,6 +44,22 @@ impl<'a> ChainRecords<'a> {
             ChainRecords::Nsec3(hashed) => nsec3_types(place, hashed.entries.as_slice()),
         }
     }
+}
+
+/// The number of the NSEC record at the place.
+fn nsec_number(place: usize, entries: &[NsecEntry<'_>]) -> RecordNumber
+    requires { place < length entries.now }
+    ensures { result ≡ number_at (map (λ entry. entry.number) entries.now) place }
+{
+    entries[place].number
+}
+
+/// The number of the NSEC3 record at the place.
+fn nsec3_number(place: usize, entries: &[Nsec3Entry<'_>]) -> RecordNumber
+    requires { place < length entries.now }
+    ensures { result ≡ number_at (map (λ entry. entry.number) entries.now) place }
+{
+    entries[place].number
 }
 
 /// The types that the NSEC record at the place lists.

@@ -22,14 +22,14 @@ loop-place-preserved c =
     let p : ℕ = get_or places i 0 in
     let numbers = c.loop-place.numbers.items in
     let next : take (i + 1) places ≡ take i places ++ p ∷ [] = take_more places i 0 c.loop-place-test.true in
-    let any : list_any (λ y. number_eq y c.record_number-number.result) numbers ≡ c.contains.result =
-    subst (λ xs. list_any (λ y. number_eq y c.record_number-number.result) xs ≡ c.contains.result) c.deref.ensures.0 (sym c.contains.ensures.value) in
+    let any : list_any (λ y. number_eq y c.number-number.result) numbers ≡ c.contains.result =
+    subst (λ xs. list_any (λ y. number_eq y c.number-number.result) xs ≡ c.contains.result) c.deref.ensures.0 (sym c.contains.ensures.value) in
     let known : list_any (λ y. number_eq y (at p)) numbers ≡ c.contains.result =
-    subst (λ n. list_any (λ y. number_eq y n) numbers ≡ c.contains.result) c.record_number-number.ensures any in
+    subst (λ n. list_any (λ y. number_eq y n) numbers ≡ c.contains.result) c.number-number.ensures any in
     let So_far : List RecordNumber → Type 0 = λ xs. AreDistinctOf (map at (take (i + 1) places)) xs × (length xs ≤ i + 1) in
     elim c.if-not-contains.branch [
       | then-not-contains w ↦
-          subst So_far (sym (ap (λ v. v.items) w.numbers-is ∙ w.push.ensures.items ∙ ap (λ n. numbers ++ n ∷ []) c.record_number-number.ensures))
+          subst So_far (sym (ap (λ v. v.items) w.numbers-is ∙ w.push.ensures.items ∙ ap (λ n. numbers ++ n ∷ []) c.number-number.ensures))
           (one_more places at i p numbers next c.loop-place.invariant.0 (known ∙ w.if-not-contains.true), omega (arith, length-append numbers (at p ∷ []), c.loop-place.invariant.1))
       | else-not-contains w ↦
           subst So_far (sym (ap (λ v. v.items) w.numbers-is))
