@@ -86,7 +86,7 @@ impl<'a> CaseFacts<'a> {
     }
 
     /// What the verifier says, and at which moment.
-    pub(crate) fn table(&self) -> &Table<'a>
+    pub fn table(&self) -> &Table<'a>
         ensures { result.now ≡ self.now.table }
     {
         self.table
@@ -101,7 +101,7 @@ impl<'a> CaseFacts<'a> {
     }
 
     /// The keys that the signature names: those of its signer with its tag and its algorithm.
-    pub(crate) fn named_by(&self, rrsig: &Rrsig<'_>) -> &[PlacedKey<'a>]
+    pub fn named_by(&self, rrsig: &Rrsig<'_>) -> &[PlacedKey<'a>]
         ensures { AreNamedOf self.now.rrsets rrsig.now result.now }
     {
         self.keys.named_by(rrsig)

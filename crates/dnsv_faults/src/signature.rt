@@ -13,9 +13,9 @@ ghost use Rattle.dnsv_zone_keys.specs.Keys.KeySearch.{AreNamedOf, HasZoneKey};
 ghost use Rattle.dnsv_faults.specs.Signatures.{AreSignatureFacts, IsSignatureAt};
 
 use crate::case_facts::CaseFacts;
+use crate::known::has_rrset;
 use crate::signature::named::named_keys;
 use crate::signature::words::signature_faults;
-use crate::zone::known::has_rrset;
 use dnsv_canonical::{Rrset, SignatureNumber};
 use dnsv_mending::SignatureFacts;
 use dnsv_names::RecordType;

@@ -1,6 +1,6 @@
 -- What fails, where nothing answers a question: what is told by what is so of its zones and of what may answer or deny it.
 use Rattle.std.specs.Prelude.{◌≡◌, List}
-use Rattle.dnsv_faults.specs.Zones.{AreZoneFacts}
+use Rattle.dnsv_zone_faults.specs.Zones.{AreZoneFacts}
 pub use Rattle.dnsv_gaps.specs.Asking.{Asking, asking_of}
 use Rattle.dnsv_gaps.specs.questions.Questions.{AreQuestionFacts}
 use Rattle.dnsv_lines.specs.declared.line.Line.{Line}

@@ -16,7 +16,7 @@ use Rattle.dnsv_canonical.specs.declared.number.SignatureNumber.{SignatureNumber
 use Rattle.dnsv_chain.specs.Anchor.{anchor_owner}
 use Rattle.dnsv_chain.specs.declared.anchor.Anchor.{Anchor}
 use Rattle.dnsv_chain.specs.declared.anchor.Anchor.TheVariants as given
-use Rattle.dnsv_faults.specs.Groups.{anchor_wanted}
+use Rattle.dnsv_zone_faults.specs.Groups.{anchor_wanted}
 use Rattle.dnsv_zone_keys.specs.Vouchers.{wanted_key}
 use Rattle.dnsv_lines.specs.declared.line.derivation.KeyName.{KeyName}
 use Rattle.dnsv_lines.specs.declared.line.fault.signature.ShownSignature.{ShownSignature}

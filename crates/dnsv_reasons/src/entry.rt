@@ -6,11 +6,11 @@ ghost use Rattle.dnsv_records.specs.Ds.{IsDs};
 
 use dnsv_canonical::{Capture, RecordNumber, Rrset, in_canonical_order, numbered};
 use dnsv_chain::Anchor;
-use dnsv_faults::anchor_key_name;
 use dnsv_gaps::AskedQuestion;
 use dnsv_lines::{Entry, EntryNumber, KeyName};
 use dnsv_names::RecordType;
 use dnsv_records::{DigestType, Ds};
+use dnsv_zone_faults::anchor_key_name;
 use std::alloc::{AllocError, Global};
 
 /// The trust anchor or the DS record with the number, if there is one.

@@ -21,6 +21,7 @@ use dnsv_mending::levels_of;
 use dnsv_names::{Name, RecordType};
 use dnsv_proof_forms::Hashes;
 use dnsv_remedies::{QuestionFacts, Remedy, Said, lines_told, question_remedy};
+use dnsv_zone_faults::zone_facts;
 use std::alloc::{AllocError, Global};
 
 /// What fails of the question of a name and a type, where nothing answers it: the least that has to be mended, from the root
@@ -68,7 +69,7 @@ fn told<'s, 'a>(
     requires hashes { hashes.now ≡ record { rrsets = facts.now.rrsets; name = name.now } }
     ensures { IfOk result (λ told. AreToldOf (asking_of facts.now name.now rtype.0) told.items) }
 {
-    let zones = facts.zone_facts(alloc, name, rtype)?;
+    let zones = zone_facts(alloc, facts, name, rtype)?;
     let question = question_facts(alloc, capture, denials, facts, hashes, name, rtype)?;
     let levels = levels_of(alloc, question.is_anchored, &zones)?;
     let remedy = question_remedy(alloc, &levels, &question)?;

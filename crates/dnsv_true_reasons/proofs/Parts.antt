@@ -26,8 +26,8 @@ use Rattle.dnsv_remedies.specs.Reasons.{AreOf, IsOf, IsPart}
 use Rattle.dnsv_remedies.proofs.Once.{not_false}
 use Rattle.dnsv_faults.specs.Rrsets.{AreRrsetFacts}
 use Rattle.dnsv_faults.specs.Signatures.{AreSignatureFacts, IsSignatureAt}
-use Rattle.dnsv_faults.proofs.lemmas.zones.ClosedLemmas.{among_of, contains_of, not_true, off_by}
-use Rattle.dnsv_faults.proofs.lemmas.zones.TrustLemmas.{number_of, numbered_among, or_cases, signature_known, zip_left}
+use Rattle.dnsv_zone_faults.proofs.lemmas.zones.ClosedLemmas.{among_of, contains_of, not_true, off_by}
+use Rattle.dnsv_zone_faults.proofs.lemmas.zones.TrustLemmas.{number_of, numbered_among, or_cases, signature_known, zip_left}
 use Rattle.dnsv_canonical.proofs.NumberLemmas.{one_numbered}
 use Rattle.dnsv_gaps.specs.Asking.{Asking}
 use Rattle.dnsv_gaps.specs.Denials.{HasSigner, IsDenialNumber, IsDenialOf, IsStrayOf}

@@ -45,9 +45,9 @@ use Rattle.dnsv_remedies.specs.declared.facts.question.QuestionFacts.{QuestionFa
 use Rattle.dnsv_remedies.specs.declared.said.Said.{Said}
 use Rattle.dnsv_faults.specs.Rrsets.{AreRrsetFacts}
 use Rattle.dnsv_faults.specs.Signatures.{AreSignatureFacts}
-use Rattle.dnsv_faults.proofs.lemmas.zones.ClosedLemmas.{among_of, contains_of}
-use Rattle.dnsv_faults.proofs.lemmas.zones.PlaceLemmas.{contains_at}
-use Rattle.dnsv_faults.proofs.lemmas.zones.TrustLemmas.{zip_left}
+use Rattle.dnsv_zone_faults.proofs.lemmas.zones.ClosedLemmas.{among_of, contains_of}
+use Rattle.dnsv_zone_faults.proofs.lemmas.zones.PlaceLemmas.{contains_at}
+use Rattle.dnsv_zone_faults.proofs.lemmas.zones.TrustLemmas.{zip_left}
 use Rattle.dnsv_canonical.proofs.NumberLemmas.{one_numbered}
 use Rattle.dnsv_gaps.proofs.QuestionLemmas.CloserLemmas.{fewer_counted}
 use Rattle.dnsv_gaps.specs.Asking.{Asking}

@@ -10,8 +10,8 @@ use Rattle.dnsv_mending.specs.Zone.{levels_of}
 use Rattle.dnsv_chain.specs.Basis.{HasAnchor}
 use Rattle.dnsv_verdict.specs.Verdict.{IsVerdictAt}
 use Rattle.dnsv_verdict.specs.declared.verdict.Verdict.TheVariants.{Bogus}
-use Rattle.dnsv_faults.proofs.lemmas.zones.InPlaceLemmas.{in_place}
-use Rattle.dnsv_faults.proofs.lemmas.zones.WholeLemmas.{whole}
+use Rattle.dnsv_zone_faults.proofs.lemmas.zones.InPlaceLemmas.{in_place}
+use Rattle.dnsv_zone_faults.proofs.lemmas.zones.WholeLemmas.{whole}
 use Rattle.dnsv_gaps.specs.Asking.{Asking}
 use Rattle.dnsv_reasons.specs.Failures.{AreFailures}
 use Rattle.dnsv_remedies.specs.Question.{lines_told, question_remedy}

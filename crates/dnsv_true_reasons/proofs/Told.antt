@@ -17,7 +17,7 @@ use Rattle.dnsv_remedies.specs.declared.facts.question.QuestionFacts.{QuestionFa
 use Rattle.dnsv_remedies.specs.declared.said.Said.{Said}
 use Rattle.dnsv_remedies.specs.declared.said.Said.TheVariants as said
 use Rattle.dnsv_remedies.proofs.Once.{only_told}
-use Rattle.dnsv_faults.specs.Zones.{AreZoneFacts}
+use Rattle.dnsv_zone_faults.specs.Zones.{AreZoneFacts}
 use Rattle.dnsv_gaps.specs.Asking.{Asking}
 use Rattle.dnsv_gaps.specs.questions.Questions.{AreQuestionFacts}
 use Rattle.dnsv_reasons.specs.Lines.{AreSaidLines, IsSaidLine, IsTrustLine}

@@ -37,12 +37,12 @@ use Rattle.dnsv_remedies.specs.declared.facts.denial.SpeakerFacts.{SpeakerFacts}
 use Rattle.dnsv_remedies.specs.declared.facts.denial.WildcardFacts.{WildcardFacts}
 use Rattle.dnsv_remedies.specs.declared.facts.denial.WildcardFacts.TheVariants as wildcard
 use Rattle.dnsv_remedies.specs.declared.facts.question.QuestionFacts.{QuestionFacts}
-use Rattle.dnsv_faults.specs.Dnskeys.{AreDnskeyFacts}
+use Rattle.dnsv_zone_faults.specs.Dnskeys.{AreDnskeyFacts}
 use Rattle.dnsv_faults.specs.Signatures.{IsSignatureAt}
-use Rattle.dnsv_faults.specs.Zones.{AreZoneFacts}
-use Rattle.dnsv_faults.proofs.lemmas.zones.ClosedLemmas.{among_of, closed_signature, contains_of}
-use Rattle.dnsv_faults.proofs.lemmas.zones.InPlaceLemmas.{at_or_above, signer_there}
-use Rattle.dnsv_faults.proofs.lemmas.zones.TrustLemmas.{number_of, zip_right}
+use Rattle.dnsv_zone_faults.specs.Zones.{AreZoneFacts}
+use Rattle.dnsv_zone_faults.proofs.lemmas.zones.ClosedLemmas.{among_of, closed_signature, contains_of}
+use Rattle.dnsv_zone_faults.proofs.lemmas.zones.InPlaceLemmas.{at_or_above, signer_there}
+use Rattle.dnsv_zone_faults.proofs.lemmas.zones.TrustLemmas.{number_of, zip_right}
 use Rattle.dnsv_canonical.proofs.NumberLemmas.{one_numbered}
 use Rattle.dnsv_gaps.specs.Asking.{Asking}
 use Rattle.dnsv_gaps.specs.Cases.{AreRecordsAt, AreShowing, AreWildcardFacts, IsBestCover, IsRuledOut, IsSourceCase}

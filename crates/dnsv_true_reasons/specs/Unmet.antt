@@ -1,6 +1,6 @@
 -- When nothing that is found proves a question.
 use Rattle.std.specs.Prelude.{List}
-use Rattle.dnsv_faults.specs.Zones.{AreZoneFacts}
+use Rattle.dnsv_zone_faults.specs.Zones.{AreZoneFacts}
 use Rattle.dnsv_gaps.specs.Asking.{Asking}
 use Rattle.dnsv_gaps.specs.questions.Questions.{AreQuestionFacts}
 use Rattle.dnsv_mending.specs.declared.facts.zone.ZoneFacts.{ZoneFacts}

@@ -4,7 +4,7 @@ ghost use Rattle.std.specs.List.{AllByRecursion};
 ghost use Rattle.dnsv_canonical.specs.Rdata.{IsWellFormed};
 ghost use Rattle.dnsv_gaps.specs.Asking.{Asking};
 ghost use Rattle.dnsv_gaps.specs.questions.Questions.{AreQuestionFacts};
-ghost use Rattle.dnsv_faults.specs.Zones.{AreZoneFacts};
+ghost use Rattle.dnsv_zone_faults.specs.Zones.{AreZoneFacts};
 ghost use Rattle.dnsv_lines.specs.declared.line.Line.{Line};
 ghost use Rattle.dnsv_lines.specs.declared.line.Line.TheVariants as line;
 ghost use Rattle.dnsv_lines.specs.declared.line.fault.Reason.{Reason};

@@ -8,6 +8,7 @@ use Rattle.dnsv_zones.specs.chains.Nsec3Chain.{Nsec3Record}
 use Rattle.dnsv_zones.specs.chains.Rdata.{parameters_of}
 use Rattle.dnsv_canonical.specs.Rrsets.{ReceivedRrset}
 use Rattle.dnsv_chain.specs.Trust.{KeptTrust, SecuredIn}
+use Rattle.dnsv_proof_forms.specs.KeptHashes.{IsSetOf}
 use Rattle.dnsv_denial.specs.gathering.Evidence.{IsNsec3At}
 use Rattle.dnsv_denial.specs.gathering.ByZone.{AreSecuredRecords}
 use Rattle.dnsv_denial.specs.proving.ChainOf.{IsShownBy, StandsAs}

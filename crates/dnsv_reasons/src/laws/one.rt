@@ -11,7 +11,7 @@ ghost use Rattle.dnsv_mending.specs.declared.facts.zone.ZoneFacts.{ZoneFacts};
 ghost use Rattle.dnsv_chain.specs.Basis.{Basis};
 ghost use Rattle.dnsv_faults.specs.Rrsets.{AreRrsetFacts};
 ghost use Rattle.dnsv_faults.specs.Signatures.{AreSignatureFacts};
-ghost use Rattle.dnsv_faults.specs.Zones.{AreZoneFacts};
+ghost use Rattle.dnsv_zone_faults.specs.Zones.{AreZoneFacts};
 ghost use Rattle.dnsv_remedy_laws.specs.AlikeZones.{AreAlikeRrsets, AreAlikeSignatures, AreAlikeZones};
 ghost use Rattle.dnsv_reasons.specs.Failures.{AreFailures};
 

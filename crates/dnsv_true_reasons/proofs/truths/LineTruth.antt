@@ -16,7 +16,7 @@ use Rattle.dnsv_canonical.proofs.CanonicalLemmas.{canonical_unique}
 use Rattle.dnsv_chain.specs.Anchor.{anchor_owner}
 use Rattle.dnsv_chain.specs.declared.anchor.Anchor.{Anchor}
 use Rattle.dnsv_chain.specs.declared.anchor.Anchor.TheVariants as given
-use Rattle.dnsv_faults.specs.Groups.{anchor_wanted}
+use Rattle.dnsv_zone_faults.specs.Groups.{anchor_wanted}
 use Rattle.dnsv_zone_keys.specs.Vouchers.{wanted_key}
 use Rattle.dnsv_zone_keys.specs.Vouchers.Wanted.{by_digest}
 use Rattle.dnsv_canonical.proofs.NumberLemmas.{one_numbered}

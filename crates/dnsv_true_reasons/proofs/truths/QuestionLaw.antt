@@ -5,8 +5,8 @@ use Rattle.std.specs.Prelude.{⊤, Contains}
 use Rattle.dnsv_names.specs.Name.{Labels, rightmost}
 use Rattle.dnsv_chain.specs.Trusted.{IsSecured}
 use Rattle.dnsv_denial.specs.gathering.EvidenceWords.{Chain}
-use Rattle.dnsv_faults.proofs.lemmas.zones.ClosedLemmas.{contains_of}
-use Rattle.dnsv_faults.proofs.lemmas.zones.TrustLemmas.{zip_left}
+use Rattle.dnsv_zone_faults.proofs.lemmas.zones.ClosedLemmas.{contains_of}
+use Rattle.dnsv_zone_faults.proofs.lemmas.zones.TrustLemmas.{zip_left}
 use Rattle.dnsv_gaps.specs.Asking.{Asking}
 use Rattle.dnsv_gaps.specs.Speakers.{AreSourceFacts}
 use Rattle.dnsv_gaps.specs.Sources.{source_said}

@@ -7,8 +7,8 @@ use Rattle.dnsv_names.specs.Name.{rightmost}
 use Rattle.dnsv_names.specs.Tree.AncestorLaws.{rightmost_all}
 use Rattle.dnsv_names.specs.Tree.TreeLaws.{at_or_below_trans, same_at_or_below}
 use Rattle.dnsv_canonical.proofs.OrderLemmas.{each_kept, each_of}
-use Rattle.dnsv_faults.specs.Zones.{AreZoneFacts}
-use Rattle.dnsv_faults.proofs.lemmas.zones.InPlaceLemmas.{at_or_above}
+use Rattle.dnsv_zone_faults.specs.Zones.{AreZoneFacts}
+use Rattle.dnsv_zone_faults.proofs.lemmas.zones.InPlaceLemmas.{at_or_above}
 use Rattle.dnsv_gaps.specs.Asking.{Asking}
 use Rattle.dnsv_gaps.specs.questions.Questions.{AreQuestionFacts}
 use Rattle.dnsv_lines.specs.declared.line.Line.{Line}

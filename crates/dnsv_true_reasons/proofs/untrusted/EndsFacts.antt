@@ -29,7 +29,7 @@ use Rattle.dnsv_remedies.specs.declared.facts.denial.WildcardFacts.TheVariants a
 use Rattle.dnsv_remedies.specs.declared.facts.question.QuestionFacts.{QuestionFacts}
 use Rattle.dnsv_faults.specs.Rrsets.{AreRrsetFacts}
 use Rattle.dnsv_faults.specs.Signatures.{IsSignatureAt}
-use Rattle.dnsv_faults.specs.Zones.{AreZoneFacts}
+use Rattle.dnsv_zone_faults.specs.Zones.{AreZoneFacts}
 use Rattle.dnsv_gaps.specs.Asking.{Asking}
 use Rattle.dnsv_gaps.specs.Cases.{AreRecordsAt, AreShowing, AreWildcardFacts, IsAt, IsBestCover, IsRuledOut, IsSourceCase}
 use Rattle.dnsv_gaps.specs.Cases.AreShowing.{needless, by_records}

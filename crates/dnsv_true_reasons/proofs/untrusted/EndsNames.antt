@@ -33,15 +33,15 @@ use Rattle.dnsv_mending.specs.declared.facts.zone.DsFacts.{DsFacts}
 use Rattle.dnsv_mending.specs.declared.facts.zone.ZoneFacts.{ZoneFacts}
 use Rattle.dnsv_mending.specs.declared.told.Told.{Told}
 use Rattle.dnsv_mending.specs.declared.told.Told.TheVariants as told
-use Rattle.dnsv_faults.specs.Dnskeys.{AreDnskeyFacts, IsOwnSignature}
-use Rattle.dnsv_faults.specs.Groups.{AreDsFacts}
+use Rattle.dnsv_zone_faults.specs.Dnskeys.{AreDnskeyFacts, IsOwnSignature}
+use Rattle.dnsv_zone_faults.specs.Groups.{AreDsFacts}
 use Rattle.dnsv_faults.specs.Rrsets.{AreRrsetFacts}
 use Rattle.dnsv_faults.specs.Signatures.{AreSignatureFacts, IsSignatureAt}
-use Rattle.dnsv_faults.specs.Zones.{AreZoneFacts}
-use Rattle.dnsv_faults.proofs.lemmas.zones.ClosedLemmas.{contains_of}
-use Rattle.dnsv_faults.proofs.lemmas.zones.InPlaceLemmas.{at_or_above, in_place}
-use Rattle.dnsv_faults.proofs.lemmas.zones.TrustLemmas.{zip_left}
-use Rattle.dnsv_faults.proofs.lemmas.zones.ZoneLemmas.{held_at}
+use Rattle.dnsv_zone_faults.specs.Zones.{AreZoneFacts}
+use Rattle.dnsv_zone_faults.proofs.lemmas.zones.ClosedLemmas.{contains_of}
+use Rattle.dnsv_zone_faults.proofs.lemmas.zones.InPlaceLemmas.{at_or_above, in_place}
+use Rattle.dnsv_zone_faults.proofs.lemmas.zones.TrustLemmas.{zip_left}
+use Rattle.dnsv_zone_faults.proofs.lemmas.zones.ZoneLemmas.{held_at}
 use Rattle.dnsv_gaps.specs.Asking.{Asking}
 use Rattle.dnsv_reasons.specs.Lines.{IsTrustLine}
 use Rattle.dnsv_reasons.specs.Places.{IsEntry, IsShown}

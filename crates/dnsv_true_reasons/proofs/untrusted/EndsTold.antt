@@ -28,10 +28,10 @@ use Rattle.dnsv_remedies.specs.declared.facts.question.QuestionFacts.{QuestionFa
 use Rattle.dnsv_remedies.specs.declared.said.Said.{Said}
 use Rattle.dnsv_remedies.specs.declared.said.Said.TheVariants as said
 use Rattle.dnsv_remedies.proofs.Once.{each_told, only_told, unanchored_reasons}
-use Rattle.dnsv_faults.proofs.lemmas.zones.ClosedLemmas.{off_by}
-use Rattle.dnsv_faults.proofs.lemmas.zones.TrustLemmas.{number_of}
-use Rattle.dnsv_faults.proofs.lemmas.zones.WholeLemmas.{whole}
-use Rattle.dnsv_faults.proofs.lemmas.zones.MatchLemmas.{first_or_later}
+use Rattle.dnsv_zone_faults.proofs.lemmas.zones.ClosedLemmas.{off_by}
+use Rattle.dnsv_zone_faults.proofs.lemmas.zones.TrustLemmas.{number_of}
+use Rattle.dnsv_zone_faults.proofs.lemmas.zones.WholeLemmas.{whole}
+use Rattle.dnsv_zone_faults.proofs.lemmas.zones.MatchLemmas.{first_or_later}
 use Rattle.dnsv_canonical.proofs.NumberLemmas.{one_numbered}
 use Rattle.dnsv_gaps.specs.Asking.{Asking}
 use Rattle.dnsv_reasons.specs.Failures.{AreFailures}

@@ -9,7 +9,7 @@ use Rattle.dnsv_canonical.specs.Rrsets.{IsNumbered, ReceivedRrset}
 use Rattle.dnsv_canonical.specs.declared.number.RecordNumber.{RecordNumber}
 use Rattle.dnsv_chain.specs.Anchor.{anchor_owner}
 use Rattle.dnsv_chain.specs.declared.anchor.Anchor.{Anchor}
-use Rattle.dnsv_faults.specs.Groups.{anchor_wanted}
+use Rattle.dnsv_zone_faults.specs.Groups.{anchor_wanted}
 use Rattle.dnsv_zone_keys.specs.Vouchers.{HasNoKey, HasTag, HasUnknownDigest, IsIgnoredBeside, IsMatchOf, IsVoucherFault, IsWantedBy, Wanted, wanted_key}
 use Rattle.dnsv_zone_keys.specs.Vouchers.Wanted.{by_digest, whole_key}
 use Rattle.dnsv_lines.specs.declared.line.fault.zone.EntryFault.{EntryFault}

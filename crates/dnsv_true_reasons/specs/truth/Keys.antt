@@ -5,7 +5,7 @@ use Rattle.dnsv_records.specs.Dnskey.KeyTag.{key_tag_of}
 use Rattle.dnsv_records.specs.declared.rrsig.Rrsig.{Rrsig}
 use Rattle.dnsv_canonical.specs.Rrsets.{IsNumbered, ReceivedRrset}
 use Rattle.dnsv_chain.specs.Trusted.{IsKeyOf}
-use Rattle.dnsv_faults.specs.Dnskeys.{MayBeBy}
+use Rattle.dnsv_zone_faults.specs.Dnskeys.{MayBeBy}
 use Rattle.dnsv_zone_keys.specs.Vouchers.{Wanted}
 use Rattle.dnsv_lines.specs.declared.line.fault.zone.EntryNumber.{EntryNumber}
 use Rattle.dnsv_lines.specs.declared.line.fault.zone.KeyWithoutSignature.{KeyWithoutSignature}

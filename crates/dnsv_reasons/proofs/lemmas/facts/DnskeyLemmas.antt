@@ -17,11 +17,11 @@ use Rattle.dnsv_mending.specs.declared.facts.keys.DnskeyFacts.{DnskeyFacts}
 use Rattle.dnsv_mending.specs.declared.facts.keys.HeldKey.{HeldKey}
 use Rattle.dnsv_mending.specs.declared.facts.keys.SelfSignature.{SelfSignature}
 use Rattle.dnsv_zone_keys.specs.Answers.{IsKeyAnswer}
-use Rattle.dnsv_faults.specs.Dnskeys.{AreAllDnskeyFacts, AreDnskeyFacts, AreHeldKeys, AreOwnSignatures, IsHeldKey, IsNamedIn, IsOwnSignature, signature_number}
+use Rattle.dnsv_zone_faults.specs.Dnskeys.{AreAllDnskeyFacts, AreDnskeyFacts, AreHeldKeys, AreOwnSignatures, IsHeldKey, IsNamedIn, IsOwnSignature, signature_number}
 use Rattle.dnsv_zone_keys.specs.Keys.{IsZoneKey}
 use Rattle.dnsv_faults.specs.Signatures.{AreSignatureFaults, IsSignatureAt}
 use Rattle.dnsv_canonical.proofs.NumberLemmas.{one_numbered}
-use Rattle.dnsv_faults.proofs.lemmas.zones.PlaceLemmas.{placed_once, same_record}
+use Rattle.dnsv_zone_faults.proofs.lemmas.zones.PlaceLemmas.{placed_once, same_record}
 use Rattle.dnsv_remedy_laws.specs.AlikeZones.{AreAlikeDnskeys, AreAlikeHeldKeys}
 use Rattle.dnsv_reasons.proofs.lemmas.facts.AnswerLemmas.{one_answer}
 use Rattle.dnsv_reasons.proofs.lemmas.facts.ListLemmas.{alike_zip, one_by_number, one_test}

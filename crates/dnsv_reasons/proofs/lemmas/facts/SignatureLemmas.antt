@@ -12,7 +12,7 @@ use Rattle.dnsv_mending.specs.declared.facts.signature.SignatureFaults.{Signatur
 use Rattle.dnsv_zone_keys.specs.Keys.{HasKeys, IsKeyPlaced, NamesKey, NamesZoneKey}
 use Rattle.dnsv_faults.specs.Signatures.{AreNamedKeys, AreSignatureFacts, AreSignatureFaults, IsNamedKey, IsSignatureAt}
 use Rattle.dnsv_canonical.proofs.NumberLemmas.{one_numbered}
-use Rattle.dnsv_faults.proofs.lemmas.zones.PlaceLemmas.{placed_rdata, read_same}
+use Rattle.dnsv_zone_faults.proofs.lemmas.zones.PlaceLemmas.{placed_rdata, read_same}
 use Rattle.dnsv_remedy_laws.specs.AlikeZones.{AreAlikeSignatures}
 use Rattle.dnsv_reasons.proofs.lemmas.facts.AnswerLemmas.{answered_too, one_answer}
 use Rattle.dnsv_reasons.proofs.lemmas.facts.ListLemmas.{one_by_number, one_test}

@@ -17,7 +17,7 @@ use Rattle.dnsv_lines.specs.declared.line.fault.zone.EntryNumber.TheVariants as 
 use Rattle.dnsv_lines.specs.declared.line.fault.zone.WhyEntry.{WhyEntry}
 use Rattle.dnsv_mending.specs.declared.facts.keys.VoucherFacts.{VoucherFacts}
 use Rattle.dnsv_mending.specs.declared.facts.zone.DsFacts.{DsFacts}
-use Rattle.dnsv_faults.specs.Groups.{AreAllDsFacts, AreAnchorFacts, AreAnchorFactsFrom, AreDsFacts, AreRecordFacts, anchor_wanted}
+use Rattle.dnsv_zone_faults.specs.Groups.{AreAllDsFacts, AreAnchorFacts, AreAnchorFactsFrom, AreDsFacts, AreRecordFacts, anchor_wanted}
 use Rattle.dnsv_zone_keys.specs.Vouchers.{AreMatches, AreVoucherFacts, IsVoucherFault, Wanted, voucher_faults}
 use Rattle.dnsv_zone_keys.specs.Vouchers.Wanted.{by_digest}
 use Rattle.dnsv_canonical.proofs.NumberLemmas.{one_numbered}

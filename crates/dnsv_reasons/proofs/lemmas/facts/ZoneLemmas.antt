@@ -7,7 +7,7 @@ use Rattle.dnsv_chain.specs.Basis.{Basis}
 use Rattle.dnsv_mending.specs.declared.facts.zone.ZoneFacts.{ZoneFacts}
 use Rattle.dnsv_mending.specs.declared.facts.zone.ZoneKey.{ZoneKey}
 use Rattle.dnsv_faults.specs.KnownZones.{IsKnownZone}
-use Rattle.dnsv_faults.specs.Zones.{AreFactsOfZone, AreZoneFacts, AreZoneKeyFacts, IsAnchored, IsHolder, IsZoneKeyFacts}
+use Rattle.dnsv_zone_faults.specs.Zones.{AreFactsOfZone, AreZoneFacts, AreZoneKeyFacts, IsAnchored, IsHolder, IsZoneKeyFacts}
 use Rattle.dnsv_zone_keys.proofs.lemmas.ZoneKeyLemmas.{one_zone_keys}
 use Rattle.dnsv_remedy_laws.specs.AlikeZones.{AreAlikeKeys, AreAlikeZones}
 use Rattle.dnsv_reasons.proofs.lemmas.facts.DnskeyLemmas.{one_all_dnskey_facts}

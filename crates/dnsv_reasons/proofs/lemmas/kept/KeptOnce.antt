@@ -14,8 +14,8 @@ use Rattle.dnsv_canonical.proofs.IndexLemmas.InOrder.{each_get}
 use Rattle.dnsv_canonical.proofs.OrderLemmas.{each_kept, zip_at}
 use Rattle.dnsv_canonical.proofs.NumberLemmas.{each_number, IsOneAt, one_numbered}
 use Rattle.dnsv_chain.specs.Basis.{Basis}
-use Rattle.dnsv_faults.specs.Dnskeys.{AreDnskeyFacts, AreHeldKeys}
-use Rattle.dnsv_faults.specs.Zones.{AreFactsOfZone, AreZoneFacts}
+use Rattle.dnsv_zone_faults.specs.Dnskeys.{AreDnskeyFacts, AreHeldKeys}
+use Rattle.dnsv_zone_faults.specs.Zones.{AreFactsOfZone, AreZoneFacts}
 use Rattle.dnsv_mending.specs.Mend.{Mended}
 use Rattle.dnsv_mending.specs.Ways.{IsAmong}
 use Rattle.dnsv_mending.specs.Zone.{dnskey_mend, levels_of, standing_of}

@@ -21,8 +21,8 @@ use Rattle.dnsv_denial.specs.gathering.EvidenceWords.{Chain}
 use Rattle.dnsv_denial.specs.gathering.EvidenceWords.Chain.{ByNsec, ByNsec3}
 use Rattle.dnsv_faults.specs.KnownZones.{IsKnownZone}
 use Rattle.dnsv_faults.specs.Signatures.{IsSignatureAt}
-use Rattle.dnsv_faults.proofs.lemmas.zones.ClosedLemmas.{contains_of, not_true}
-use Rattle.dnsv_faults.proofs.lemmas.zones.TrustLemmas.{number_of, zip_left}
+use Rattle.dnsv_zone_faults.proofs.lemmas.zones.ClosedLemmas.{contains_of, not_true}
+use Rattle.dnsv_zone_faults.proofs.lemmas.zones.TrustLemmas.{number_of, zip_left}
 use Rattle.dnsv_canonical.proofs.NumberLemmas.{each_number, IsOneAt, one_numbered}
 use Rattle.dnsv_gaps.specs.Asking.{Asking}
 use Rattle.dnsv_gaps.specs.Sources.{HasRecords}

@@ -10,9 +10,9 @@ use Rattle.dnsv_zones.specs.zones.TypeNumbers.{dname}
 use Rattle.dnsv_zones.specs.zones.Types.{Denies, IsClosed, IsDelegation}
 use Rattle.dnsv_canonical.specs.declared.number.RecordNumber.{RecordNumber}
 use Rattle.dnsv_denial.specs.gathering.EvidenceWords.{Chain}
-use Rattle.dnsv_faults.proofs.lemmas.zones.ClosedLemmas.{contains_of, not_true}
-use Rattle.dnsv_faults.proofs.lemmas.zones.PlaceLemmas.{contains_at}
-use Rattle.dnsv_faults.proofs.lemmas.zones.TrustLemmas.{zip_left}
+use Rattle.dnsv_zone_faults.proofs.lemmas.zones.ClosedLemmas.{contains_of, not_true}
+use Rattle.dnsv_zone_faults.proofs.lemmas.zones.PlaceLemmas.{contains_at}
+use Rattle.dnsv_zone_faults.proofs.lemmas.zones.TrustLemmas.{zip_left}
 use Rattle.dnsv_gaps.specs.Asking.{Asking}
 use Rattle.dnsv_gaps.specs.Cases.{AreClosedFacts, AreRecordsAt, AreWildcardFacts, HasNone, IsAt, IsBestCover, IsDenying, IsHeld, IsHeldAt, IsRuledOut, IsSourceCase, why_held}
 use Rattle.dnsv_gaps.specs.Sources.{AreSources, HasRecords, source_said}

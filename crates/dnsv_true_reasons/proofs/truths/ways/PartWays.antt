@@ -27,7 +27,7 @@ use Rattle.dnsv_remedies.specs.Parts.{or_missing, part, part_of_one, within_kept
 use Rattle.dnsv_remedies.specs.Remedy.{missing}
 use Rattle.dnsv_remedies.specs.declared.said.Said.{Said}
 use Rattle.dnsv_remedies.specs.declared.said.Said.TheVariants as said
-use Rattle.dnsv_faults.proofs.lemmas.zones.ClosedLemmas.{good_by}
+use Rattle.dnsv_zone_faults.proofs.lemmas.zones.ClosedLemmas.{good_by}
 use Rattle.dnsv_true_reasons.proofs.truths.ways.MendLines.{Kept, Lines, all_or_else, of_both, of_fault, of_least, of_telling, of_untold}
 use Rattle.dnsv_true_reasons.proofs.truths.ways.MendLines as lines
 use Rattle.dnsv_true_reasons.proofs.truths.ways.PartTold.{IsOfPart}

@@ -16,7 +16,7 @@ use Rattle.dnsv_mending.specs.declared.told.Told.{Told}
 use Rattle.dnsv_mending.specs.declared.told.Told.TheVariants as told
 use Rattle.dnsv_mending.proofs.AllWays.{all_after, all_append, all_flat, all_if}
 use Rattle.dnsv_mending.proofs.DearLines.{no_lines}
-use Rattle.dnsv_faults.proofs.lemmas.zones.ClosedLemmas.{good_by}
+use Rattle.dnsv_zone_faults.proofs.lemmas.zones.ClosedLemmas.{good_by}
 use Rattle.dnsv_true_reasons.proofs.truths.ways.MendLines.{Kept, Lines, all_or_else, of_both, of_fault, of_following, of_telling, of_untold}
 use Rattle.dnsv_true_reasons.proofs.truths.ways.MendLines as lines
 use Rattle.dnsv_true_reasons.proofs.truths.ways.Told.{IsOfRrset, IsOfSignature}

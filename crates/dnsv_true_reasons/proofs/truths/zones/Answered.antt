@@ -20,9 +20,9 @@ use Rattle.dnsv_canonical.proofs.OrderLemmas.{each_of}
 use Rattle.dnsv_zone_keys.specs.Answers.{IsAnswered, IsKeyAnswer}
 use Rattle.dnsv_zone_keys.specs.Keys.{IsKeyPlaced}
 use Rattle.dnsv_faults.specs.Signatures.{AreSignatureFaults, IsMeant, IsSignatureAt, expired, not_yet}
-use Rattle.dnsv_faults.proofs.lemmas.zones.PlaceLemmas.{contains_at}
-use Rattle.dnsv_faults.proofs.lemmas.zones.TrustLemmas.{numbered_among, true_by}
-use Rattle.dnsv_faults.proofs.lemmas.zones.InPlaceLemmas.{stands_in}
+use Rattle.dnsv_zone_faults.proofs.lemmas.zones.PlaceLemmas.{contains_at}
+use Rattle.dnsv_zone_faults.proofs.lemmas.zones.TrustLemmas.{numbered_among, true_by}
+use Rattle.dnsv_zone_faults.proofs.lemmas.zones.InPlaceLemmas.{stands_in}
 use Rattle.dnsv_canonical.proofs.NumberLemmas.{each_number, IsOneAt, one_numbered}
 use Rattle.dnsv_mending.specs.declared.facts.signature.KeyAnswer.TheVariants as said
 use Rattle.dnsv_mending.specs.declared.facts.signature.SignatureFaults.{SignatureFaults}

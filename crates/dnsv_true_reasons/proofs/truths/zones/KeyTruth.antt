@@ -7,9 +7,9 @@ use Rattle.dnsv_canonical.specs.Rdata.{IsWellFormed}
 use Rattle.dnsv_canonical.specs.Rrsets.{IsNumbered, ReceivedRrset}
 use Rattle.dnsv_canonical.proofs.OrderLemmas.{each_of}
 use Rattle.dnsv_zone_keys.specs.Answers.{IsAnswered, IsKeyAnswer}
-use Rattle.dnsv_faults.specs.Dnskeys.{AreDnskeyFacts, AreHeldKeys, IsHeldKey, IsOwnSignature, signature_number}
-use Rattle.dnsv_faults.proofs.lemmas.zones.ClosedLemmas.{contains_of}
-use Rattle.dnsv_faults.proofs.lemmas.zones.TrustLemmas.{number_of, numbered_among}
+use Rattle.dnsv_zone_faults.specs.Dnskeys.{AreDnskeyFacts, AreHeldKeys, IsHeldKey, IsOwnSignature, signature_number}
+use Rattle.dnsv_zone_faults.proofs.lemmas.zones.ClosedLemmas.{contains_of}
+use Rattle.dnsv_zone_faults.proofs.lemmas.zones.TrustLemmas.{number_of, numbered_among}
 use Rattle.dnsv_lines.specs.declared.line.fault.signature.WhySignature.{WhySignature}
 use Rattle.dnsv_lines.specs.declared.line.fault.signature.WhySignature.TheVariants as why
 use Rattle.dnsv_mending.specs.Faults.{answer_lines, fault_lines}

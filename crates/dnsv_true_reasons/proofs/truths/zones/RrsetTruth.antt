@@ -13,10 +13,10 @@ use Rattle.dnsv_canonical.specs.Rrsets.{IsNumbered, ReceivedRrset}
 use Rattle.dnsv_canonical.proofs.OrderLemmas.{each_of}
 use Rattle.dnsv_faults.specs.Rrsets.{AreRrsetFacts}
 use Rattle.dnsv_faults.specs.Signatures.{AreSignatureFacts}
-use Rattle.dnsv_faults.specs.Zones.{AreZoneFacts}
-use Rattle.dnsv_faults.proofs.lemmas.zones.ClosedLemmas.{contains_of}
-use Rattle.dnsv_faults.proofs.lemmas.zones.InPlaceLemmas.{at_or_above}
-use Rattle.dnsv_faults.proofs.lemmas.zones.TrustLemmas.{numbered_among, zip_left}
+use Rattle.dnsv_zone_faults.specs.Zones.{AreZoneFacts}
+use Rattle.dnsv_zone_faults.proofs.lemmas.zones.ClosedLemmas.{contains_of}
+use Rattle.dnsv_zone_faults.proofs.lemmas.zones.InPlaceLemmas.{at_or_above}
+use Rattle.dnsv_zone_faults.proofs.lemmas.zones.TrustLemmas.{numbered_among, zip_left}
 use Rattle.dnsv_mending.specs.Mend.{is_none}
 use Rattle.dnsv_mending.specs.Ways.{IsAmong}
 use Rattle.dnsv_mending.specs.declared.facts.signature.RrsetFacts.{RrsetFacts}

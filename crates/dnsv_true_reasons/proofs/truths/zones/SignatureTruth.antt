@@ -13,11 +13,11 @@ use Rattle.dnsv_canonical.specs.declared.number.SignatureNumber.{SignatureNumber
 use Rattle.dnsv_canonical.proofs.OrderLemmas.{each_of}
 use Rattle.dnsv_chain.specs.Trusted.{IsGoodByTrust, IsSecured}
 use Rattle.dnsv_zone_keys.specs.Answers.{IsKeyAnswer}
-use Rattle.dnsv_faults.specs.Dnskeys.{AreDnskeyFacts}
+use Rattle.dnsv_zone_faults.specs.Dnskeys.{AreDnskeyFacts}
 use Rattle.dnsv_faults.specs.Signatures.{AreSignatureFacts, AreSignatureFaults, IsNamedKey, times_of}
-use Rattle.dnsv_faults.specs.Zones.{AreZoneFacts}
-use Rattle.dnsv_faults.proofs.lemmas.zones.ClosedLemmas.{closed_signature, contains_of}
-use Rattle.dnsv_faults.proofs.lemmas.zones.TrustLemmas.{zip_left}
+use Rattle.dnsv_zone_faults.specs.Zones.{AreZoneFacts}
+use Rattle.dnsv_zone_faults.proofs.lemmas.zones.ClosedLemmas.{closed_signature, contains_of}
+use Rattle.dnsv_zone_faults.proofs.lemmas.zones.TrustLemmas.{zip_left}
 use Rattle.dnsv_canonical.proofs.NumberLemmas.{each_number, IsOneAt, one_numbered}
 use Rattle.dnsv_lines.specs.declared.line.fault.signature.SignatureTimes.{SignatureTimes}
 use Rattle.dnsv_lines.specs.declared.line.fault.signature.WhySignature.{WhySignature}

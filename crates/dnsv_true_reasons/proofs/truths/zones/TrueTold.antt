@@ -7,7 +7,7 @@ use Rattle.dnsv_canonical.specs.Rrsets.{IsNumbered, ReceivedRrset}
 use Rattle.dnsv_canonical.specs.declared.number.RecordNumber.{RecordNumber}
 use Rattle.dnsv_canonical.specs.declared.number.SignatureNumber.{SignatureNumber}
 use Rattle.dnsv_chain.specs.Trusted.{IsKeyOf}
-use Rattle.dnsv_faults.specs.Dnskeys.{MayBeBy}
+use Rattle.dnsv_zone_faults.specs.Dnskeys.{MayBeBy}
 use Rattle.dnsv_faults.specs.Signatures.{IsSignatureAt}
 use Rattle.dnsv_zone_keys.specs.Vouchers.{IsVoucherFault, Wanted}
 use Rattle.dnsv_lines.specs.declared.line.fault.signature.WhySignature.{WhySignature}

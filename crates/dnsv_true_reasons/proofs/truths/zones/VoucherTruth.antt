@@ -13,12 +13,12 @@ use Rattle.dnsv_records.specs.declared.ds.Ds.{Ds}
 use Rattle.dnsv_canonical.specs.Rrsets.{ReceivedRrset}
 use Rattle.dnsv_chain.specs.Anchor.{anchor_owner}
 use Rattle.dnsv_chain.specs.declared.anchor.Anchor.{Anchor}
-use Rattle.dnsv_faults.specs.Groups.{AreAnchorFactsFrom, AreRecordFacts, anchor_wanted}
+use Rattle.dnsv_zone_faults.specs.Groups.{AreAnchorFactsFrom, AreRecordFacts, anchor_wanted}
 use Rattle.dnsv_zone_keys.specs.Keys.{IsKeyPlaced}
 use Rattle.dnsv_zone_keys.specs.Vouchers.{AreVoucherFacts, HasNoKey, HasSuchKey, IsFirstOf, IsMatchOf, IsVoucherFault, IsWantedBy, HasTag, Wanted, voucher_faults, wanted_key}
 use Rattle.dnsv_zone_keys.specs.Vouchers.Wanted.{by_digest, whole_key}
 use Rattle.dnsv_zone_keys.proofs.lemmas.VoucherLemmas.{match_wanted, wanted_tag}
-use Rattle.dnsv_faults.proofs.lemmas.zones.MatchLemmas.{nothing_said}
+use Rattle.dnsv_zone_faults.proofs.lemmas.zones.MatchLemmas.{nothing_said}
 use Rattle.dnsv_zone_keys.proofs.lemmas.ZoneKeyLemmas.{placed_same}
 use Rattle.dnsv_lines.specs.declared.line.derivation.KeyName.{KeyName}
 use Rattle.dnsv_lines.specs.declared.line.fault.zone.EntryNumber.{EntryNumber}

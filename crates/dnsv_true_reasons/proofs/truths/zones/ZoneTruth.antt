@@ -16,18 +16,18 @@ use Rattle.dnsv_canonical.proofs.CanonicalLemmas.{canonical_unique}
 use Rattle.dnsv_canonical.specs.Canonical.{IsCanonical}
 use Rattle.dnsv_canonical.proofs.OrderLemmas.{each_of}
 use Rattle.dnsv_chain.proofs.ChainLemmas.{same_ds}
-use Rattle.dnsv_faults.specs.Dnskeys.{AreDnskeyFacts}
-use Rattle.dnsv_faults.specs.Groups.{AreDsFacts, anchor_wanted}
+use Rattle.dnsv_zone_faults.specs.Dnskeys.{AreDnskeyFacts}
+use Rattle.dnsv_zone_faults.specs.Groups.{AreDsFacts, anchor_wanted}
 use Rattle.dnsv_faults.specs.KnownZones.{HasRrset}
 use Rattle.dnsv_zone_keys.specs.Vouchers.{AreVoucherFacts, IsVoucherFault, Wanted, voucher_faults}
 use Rattle.dnsv_zone_keys.specs.Vouchers.Wanted.{by_digest}
-use Rattle.dnsv_faults.specs.Zones.{AreFactsOfZone, AreZoneFacts}
-use Rattle.dnsv_faults.proofs.lemmas.zones.ClosedLemmas.{among_of, contains_of}
-use Rattle.dnsv_faults.proofs.lemmas.zones.MatchLemmas.{anchor_known, record_known}
-use Rattle.dnsv_faults.proofs.lemmas.zones.PlaceLemmas.{at_some, same_record}
-use Rattle.dnsv_faults.proofs.lemmas.zones.TrustLemmas.{number_of, numbered_among, zip_left, zip_right}
-use Rattle.dnsv_faults.proofs.lemmas.zones.ZoneLemmas.{has_held}
-use Rattle.dnsv_faults.proofs.lemmas.zones.InPlaceLemmas.{first_of as first_in}
+use Rattle.dnsv_zone_faults.specs.Zones.{AreFactsOfZone, AreZoneFacts}
+use Rattle.dnsv_zone_faults.proofs.lemmas.zones.ClosedLemmas.{among_of, contains_of}
+use Rattle.dnsv_zone_faults.proofs.lemmas.zones.MatchLemmas.{anchor_known, record_known}
+use Rattle.dnsv_zone_faults.proofs.lemmas.zones.PlaceLemmas.{at_some, same_record}
+use Rattle.dnsv_zone_faults.proofs.lemmas.zones.TrustLemmas.{number_of, numbered_among, zip_left, zip_right}
+use Rattle.dnsv_zone_faults.proofs.lemmas.zones.ZoneLemmas.{has_held}
+use Rattle.dnsv_zone_faults.proofs.lemmas.zones.InPlaceLemmas.{first_of as first_in}
 use Rattle.dnsv_canonical.proofs.NumberLemmas.{each_number, IsOneAt, one_numbered}
 use Rattle.dnsv_lines.specs.declared.line.derivation.KeyName.{KeyName}
 use Rattle.dnsv_lines.specs.declared.line.fault.zone.EntryNumber.{EntryNumber}

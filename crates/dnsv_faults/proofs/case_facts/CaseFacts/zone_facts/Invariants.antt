@@ -1,7 +1,0 @@
-use Rattle.dnsv_chain.specs.Basis.{basis_by}
-use Rattle.dnsv_faults.proofs.lemmas.zones.ZoneLemmas.{AreZonesTo}
-use Rattle.dnsv_faults.proofs.case_facts.CaseFacts.zone_facts.Given as goal
-
--- those so far
-abbrev pub invariant-loop-labels : goal.invariant-loop-labels
-invariant-loop-labels l = AreZonesTo (basis_by l.self) l.name l.fn.rtype.0 l.labels l.zones.items

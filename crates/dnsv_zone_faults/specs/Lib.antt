@@ -1,0 +1,3 @@
+pub mod Dnskeys
+pub mod Groups
+pub mod Zones
