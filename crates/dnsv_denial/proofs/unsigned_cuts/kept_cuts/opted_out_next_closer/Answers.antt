@@ -15,20 +15,11 @@ returns-then-not-zone_opts_out_next_closer c = λ trust rrsets view has.
     (kept_of_opt_out (SecuredIn trust) rrsets c.args.name.now c.args.labels c.args.zone.now c.index-zones-labels.result.zone kept.0 below has) in
     let fails = c.if-not-zone_opts_out_next_closer.true in cc
 
-pub next_closer-requires : goal.next_closer-requires
-next_closer-requires c =
-    let trust = c.requires.0 in
-    let rrsets = c.requires.1 in
-    let view = c.requires.2 in
-    let below = c.is_at_or_below.ensures.at_or_below.0 c.if-not-is_at_or_below.false in
-    let kept = kept_at (SecuredIn trust) rrsets c.args.name.now c.args.zone.now c.args.zones.now c.labels.result c.index-zones-labels.result view.are_zones below c.labels.ensures.count c.index-zones-labels.is in
-    ((c.zone_opts_out_next_closer.ensures trust rrsets kept.1 (view.are_sets trust)).0 c.if-not-zone_opts_out_next_closer.false).above.proper
-
 pub returns : goal.returns
 returns c = λ trust rrsets view.
     let below = c.is_at_or_below.ensures.at_or_below.0 c.if-not-is_at_or_below.false in
-    let kept = kept_at (SecuredIn trust) rrsets c.args.name.now c.args.zone.now c.args.zones.now c.labels.result c.index-zones-labels.result view.are_zones below c.labels.ensures.count c.index-zones-labels.is in (
-      opt_out_of_kept (SecuredIn trust) rrsets c.args.name.now c.args.labels c.args.zone.now c.index-zones-labels.result.zone kept.0 below
-          ((c.zone_opts_out_next_closer.ensures trust rrsets kept.1 (view.are_sets trust)).0 c.if-not-zone_opts_out_next_closer.false),
-      c.next_closer.ensures,
+    let kept = kept_at (SecuredIn trust) rrsets c.args.name.now c.args.zone.now c.args.zones.now c.labels.result c.index-zones-labels.result view.are_zones below c.labels.ensures.count c.index-zones-labels.is in
+    let opted_out = (c.zone_opts_out_next_closer.ensures trust rrsets kept.1 (view.are_sets trust)).0 c.if-not-zone_opts_out_next_closer.false in (
+      opt_out_of_kept (SecuredIn trust) rrsets c.args.name.now c.args.labels c.args.zone.now c.index-zones-labels.result.zone kept.0 below opted_out,
+      c.next_closer.ensures.value opted_out.above.proper,
     )
