@@ -5,7 +5,7 @@ use Rattle.dnsv_records.specs.Rrsig.{IsRrsig}
 use Rattle.dnsv_canonical.specs.Rrsets.{ReceivedRrset}
 use Rattle.dnsv_compact.specs.CompactList.{IsListedIf, IsListedRrset, IsRrsetListedIf, ListedRrset, ListedSignature, ListsRrsets, ListsSignatures, listed_signature, names_rrset, names_signature}
 use Rattle.dnsv_compact.specs.declared.place.Place.{Place}
-use Rattle.dnsv_texts.proofs.PartLemmas.{ListsEach}
+use Rattle.dnsv_evidence_texts.proofs.PartLemmas.{ListsEach}
 
 -- ---- signatures
 

@@ -1,8 +1,8 @@
 -- The steps in which a compact list is written.
 use Rattle.std.proofs.Common.{◌≡◌, true, false, List, [], ◌∷◌, ◌++◌, ℕ, refl, ap, ◌∙◌, append_assoc, codes}
 use Rattle.dnsv_lines.specs.Json.{array, member, object, parted}
-use Rattle.dnsv_texts.specs.Json.{object_line}
-use Rattle.dnsv_texts.proofs.MomentsLemmas.{of_list, with_members}
+use Rattle.dnsv_evidence_texts.specs.Json.{object_line}
+use Rattle.dnsv_evidence_texts.proofs.MomentsLemmas.{of_list, with_members}
 
 -- ---- a key
 

@@ -5,8 +5,8 @@ use Rattle.dnsv_records.specs.declared.rrsig.Rrsig.{Rrsig}
 use Rattle.dnsv_records.specs.Rrsig.{IsRrsig}
 use Rattle.dnsv_canonical.specs.Rrsets.{ReceivedRrset}
 use Rattle.dnsv_canonical.specs.SignedData.{IsSignedData}
-use Rattle.dnsv_texts.specs.Listing.{ListsRrsets, ListsSignatures, SignedOctets}
-use Rattle.dnsv_texts.proofs.PartLemmas.{ListsEach}
+use Rattle.dnsv_evidence_texts.specs.Listing.{ListsRrsets, ListsSignatures, SignedOctets}
+use Rattle.dnsv_evidence_texts.proofs.PartLemmas.{ListsEach}
 
 -- what is listed of a signature of the RRset with the number
 abbrev pub OfSignature : ℕ → ReceivedRrset → ℕ → List ℕ → List SignedOctets → Type 0

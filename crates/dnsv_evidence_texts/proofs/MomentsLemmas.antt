@@ -3,7 +3,7 @@ use Rattle.std.proofs.Common.{◌≡◌, true, false, List, [], ◌∷◌, ◌++
 use Rattle.std.proofs.lemmas.List.{append-nil}
 use Rattle.dnsv_lines.specs.Json.{array, member, object, parted, quoted}
 use Rattle.dnsv_lines.proofs.JsonLemmas.{parted_behind}
-use Rattle.dnsv_texts.specs.Json.{object_line}
+use Rattle.dnsv_evidence_texts.specs.Json.{object_line}
 
 -- the member for the subcommand
 abbrev pub of_list : List ℕ

@@ -2,7 +2,7 @@
 use Rattle.std.proofs.Common.{◌≡◌, true, false, List, [], ◌∷◌, ◌++◌, ℕ, refl, sym, ap, ◌∙◌, append_assoc, codes}
 use Rattle.std.proofs.lemmas.List.{append-nil}
 use Rattle.dnsv_lines.specs.Json.{AddsMembers, member, object, parted, quoted}
-use Rattle.dnsv_texts.specs.Json.{object_line}
+use Rattle.dnsv_evidence_texts.specs.Json.{object_line}
 use Rattle.dnsv_lines.proofs.JsonLemmas.{parted-append}
 use Rattle.dnsv_lines.proofs.MemberLemmas.{no_members}
 

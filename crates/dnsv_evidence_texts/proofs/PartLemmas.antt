@@ -4,7 +4,7 @@ use Rattle.std.proofs.lemmas.List.{drop_more, drop_all, append-nil, map-append}
 use Rattle.std.proofs.lemmas.List.Concat.{flat_map-append}
 use Rattle.dnsv_lines.specs.Json.{parted, still_first}
 use Rattle.dnsv_lines.proofs.JsonLemmas.{parted-append, still_first-append}
-use Rattle.dnsv_texts.specs.Parts.{part}
+use Rattle.dnsv_evidence_texts.specs.Parts.{part}
 use Rattle.dnsv_questions.specs.declared.format.Format.{Format}
 use Rattle.dnsv_questions.specs.declared.format.Format.TheVariants.{Json, Lines}
 

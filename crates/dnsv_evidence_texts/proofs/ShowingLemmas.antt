@@ -3,7 +3,7 @@ use Rattle.std.proofs.Common.{◌≡◌, ℕ, suc, ◌+◌, List, [], ◌∷◌,
 use Rattle.std.specs.Fmt.{decimal}
 use Rattle.std.specs.List.{flat_map}
 use Rattle.dnsv_message.specs.Message.{Contents, records_of}
-use Rattle.dnsv_texts.specs.Showing.{hex_of_16, message_line, message_text, question_line, record_line, texts_from}
+use Rattle.dnsv_evidence_texts.specs.Showing.{hex_of_16, message_line, message_text, question_line, record_line, texts_from}
 
 -- ---- texts one after another
 

@@ -10,11 +10,11 @@ use Rattle.dnsv_answers.specs.declared.heading.Moments.{Moments}
 use Rattle.dnsv_lines.specs.Json.{array, member, object, quoted}
 use Rattle.dnsv_questions.specs.declared.format.Format.{Format}
 use Rattle.dnsv_questions.specs.declared.format.Format.TheVariants.{Json, Lines}
-use Rattle.dnsv_texts.specs.Hex.{hex_text}
-use Rattle.dnsv_texts.specs.Json.{object_line, octets_json}
-use Rattle.dnsv_texts.specs.Moments.{moments_members}
-use Rattle.dnsv_texts.specs.Parts.{part}
-use Rattle.dnsv_texts.specs.Showing.{texts_from}
+use Rattle.dnsv_evidence_texts.specs.Hex.{hex_text}
+use Rattle.dnsv_evidence_texts.specs.Json.{object_line, octets_json}
+use Rattle.dnsv_evidence_texts.specs.Moments.{moments_members}
+use Rattle.dnsv_evidence_texts.specs.Parts.{part}
+use Rattle.dnsv_evidence_texts.specs.Showing.{texts_from}
 
 -- ---- the lines
 

@@ -10,8 +10,8 @@ use Rattle.dnsv_canonical.specs.SignedData.{IsSignedData}
 use Rattle.dnsv_questions.specs.declared.format.Format.{Format}
 use Rattle.dnsv_questions.specs.declared.format.Format.TheVariants.{Json, Lines}
 use Rattle.dnsv_lines.specs.Json.{array, member, object, quoted}
-use Rattle.dnsv_texts.specs.Json.{object_line, octets_json}
-use Rattle.dnsv_texts.specs.Parts.{part}
+use Rattle.dnsv_evidence_texts.specs.Json.{object_line, octets_json}
+use Rattle.dnsv_evidence_texts.specs.Parts.{part}
 
 -- ---- what is listed
 

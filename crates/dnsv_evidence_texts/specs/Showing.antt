@@ -9,7 +9,7 @@ use Rattle.dnsv_names.specs.Text.{text_of}
 use Rattle.dnsv_message.specs.declared.record.Question.{Question}
 use Rattle.dnsv_message.specs.declared.record.Record.{Record}
 use Rattle.dnsv_message.specs.Message.{Contents, records_of}
-use Rattle.dnsv_texts.specs.Hex.{hex_text}
+use Rattle.dnsv_evidence_texts.specs.Hex.{hex_text}
 
 -- the octets of a number of 16 bits, the high one first, in lower case hex
 abbrev pub hex_of_16 : ℕ → List ℕ

@@ -6,10 +6,10 @@ use Rattle.dnsv_verifier.specs.declared.entry.Entry.{Entry}
 use Rattle.dnsv_answers.specs.declared.heading.Moments.{Moments}
 use Rattle.dnsv_questions.specs.declared.format.Format.{Format}
 use Rattle.dnsv_questions.specs.declared.format.Format.TheVariants.{Json, Lines}
-use Rattle.dnsv_texts.specs.Hex.{hex_text}
+use Rattle.dnsv_evidence_texts.specs.Hex.{hex_text}
 use Rattle.dnsv_lines.specs.Json.{array, member, object, quoted}
-use Rattle.dnsv_texts.specs.Json.{object_line, octets_json}
-use Rattle.dnsv_texts.specs.Moments.{moments_members}
+use Rattle.dnsv_evidence_texts.specs.Json.{object_line, octets_json}
+use Rattle.dnsv_evidence_texts.specs.Moments.{moments_members}
 
 -- a line: the algorithm, the key, the signed data and the signature
 abbrev pub todo_line : Entry → List ℕ

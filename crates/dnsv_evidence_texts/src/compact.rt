@@ -3,8 +3,8 @@ ghost use Rattle.std.specs.Prelude.{◌≡◌, ◌++◌, ◌∷◌, [], ℕ, IfO
 ghost use Rattle.dnsv_canonical.specs.Canonical.{IsCanonical};
 ghost use Rattle.dnsv_canonical.specs.CanonicalRdata.{canonical_form};
 ghost use Rattle.dnsv_compact.specs.CompactList.{IsListedRrset, ListedRrset, ListedSignature, ListsRrsets, ListsSignatures, listed_signature};
-ghost use Rattle.dnsv_texts.specs.Compact as specs;
-ghost use Rattle.dnsv_texts.specs.Showing.{texts_from};
+ghost use Rattle.dnsv_evidence_texts.specs.Compact as specs;
+ghost use Rattle.dnsv_evidence_texts.specs.Showing.{texts_from};
 
 use crate::hex_text::push_hex_text;
 use crate::json::compact as json;

@@ -1,7 +1,7 @@
 //! Octets as the program writes them.
 ghost use Rattle.std.specs.Prelude.{◌≡◌, ◌++◌, ◌*◌, ◌<◌, ◌≤◌, OnOk, length, slice_index, string_bytes};
 ghost use Rattle.hex.specs.Hex.{encode_lower, lower_digits};
-ghost use Rattle.dnsv_texts.specs.Hex as specs;
+ghost use Rattle.dnsv_evidence_texts.specs.Hex as specs;
 
 use dnsv_verifier::SignedData;
 use std::alloc::AllocError;

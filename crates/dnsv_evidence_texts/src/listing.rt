@@ -3,8 +3,8 @@ ghost use Rattle.std.specs.Prelude.{◌≡◌, ◌++◌, ◌∷◌, [], List, If
 ghost use Rattle.std.specs.Option.{option_map};
 ghost use Rattle.dnsv_lines.specs.Json.{parted, still_first};
 ghost use Rattle.dnsv_questions.specs.declared.format.Format.TheVariants.{Json, Lines};
-ghost use Rattle.dnsv_texts.specs.Listing.{ListsRrsets, ListsSignatures, SignedOctets};
-ghost use Rattle.dnsv_texts.specs.Listing.{data_json, data_line, listed_part, listing_text, octets_or_null};
+ghost use Rattle.dnsv_evidence_texts.specs.Listing.{ListsRrsets, ListsSignatures, SignedOctets};
+ghost use Rattle.dnsv_evidence_texts.specs.Listing.{data_json, data_line, listed_part, listing_text, octets_or_null};
 
 use crate::hex_text::push_hex;
 use crate::json::push_octets;

@@ -1,8 +1,8 @@
 //! The text of `show`: a captured message with its questions and records.
 ghost use Rattle.std.specs.Prelude.{◌≡◌, ◌++◌, ◌+◌, ◌<◌, ◌≤◌, OnOk, length, flat_map, string_bytes};
 ghost use Rattle.arrayvec.specs.ArrayString.{array_string_len};
-ghost use Rattle.dnsv_texts.specs.Showing.{texts_from, message_line, question_line, record_line};
-ghost use Rattle.dnsv_texts.specs.Showing.{message_text, about_text};
+ghost use Rattle.dnsv_evidence_texts.specs.Showing.{texts_from, message_line, question_line, record_line};
+ghost use Rattle.dnsv_evidence_texts.specs.Showing.{message_text, about_text};
 
 use crate::hex_text::push_hex_text;
 use arrayvec::ArrayString;

@@ -1,6 +1,6 @@
 //! The text of `list` without `--all`: what a verifier still has to check.
 ghost use Rattle.std.specs.Prelude.{◌≡◌, ◌++◌, IfOk, OnOk, flat_map, string_bytes};
-ghost use Rattle.dnsv_texts.specs.Todo as specs;
+ghost use Rattle.dnsv_evidence_texts.specs.Todo as specs;
 
 use crate::hex_text::{push_hex_text, push_signed_text};
 use crate::json::todo::todo_json;

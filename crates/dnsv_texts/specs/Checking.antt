@@ -2,8 +2,7 @@
 use Rattle.std.specs.Prelude.{ℕ, Bool, true, false, List, [], ◌∷◌, ◌++◌, Option, Some, None, codes, is_none, is_some, map}
 use Rattle.std.specs.Fmt.{decimal}
 use Rattle.std.specs.List.{flat_map}
-use Rattle.dnsv_names.specs.Name.{Labels, lower_case}
-use Rattle.dnsv_names.specs.Text.{text_of}
+use Rattle.dnsv_names.specs.Name.{Labels}
 use Rattle.dnsv_canonical.specs.Rrsets.{ReceivedRrset, at_number}
 use Rattle.dnsv_verifier.specs.declared.entry.Entry.{Entry}
 use Rattle.dnsv_canonical.specs.declared.number.RecordNumber.{RecordNumber}
@@ -14,9 +13,9 @@ use Rattle.dnsv_lines.specs.declared.line.Line.{Line}
 use Rattle.dnsv_lines.specs.Json.{array, member, name_json, object, parted, quoted}
 use Rattle.dnsv_questions.specs.declared.format.Format.{Format}
 use Rattle.dnsv_questions.specs.declared.format.Format.TheVariants.{Json, Lines}
-use Rattle.dnsv_questions.specs.Subcommand.{question_word}
-use Rattle.dnsv_texts.specs.Json.{object_line}
-use Rattle.dnsv_texts.specs.Todo.{todo_json, todo_line}
+use Rattle.dnsv_evidence_texts.specs.Json.{object_line}
+use Rattle.dnsv_evidence_texts.specs.Todo.{todo_json, todo_line}
+use Rattle.dnsv_evidence_texts.specs.Question.{lower_text, question_members}
 use Rattle.dnsv_texts.specs.Why.{why_lines, why_members}
 
 -- ---- the lines
@@ -30,10 +29,6 @@ verdict_word (verdict.Insecure cut) = codes "Insecure"
 verdict_word (verdict.Pending entries) = codes "Pending"
 verdict_word verdict.Bogus = codes "Bogus"
 verdict_word verdict.Indeterminate = codes "Indeterminate"
-
--- names in lower case
-abbrev pub lower_text : Labels → List ℕ
-lower_text name = text_of (lower_case name)
 
 -- the first line: the verdict's word, and the name and type that are asked for
 abbrev pub verdict_line : Verdict → Labels → ℕ → List ℕ
@@ -132,12 +127,6 @@ todo_member entries = member (codes "todo") (array (map todo_json entries))
 abbrev pub reason_members : List ReceivedRrset → Verdict → Bool → List (List ℕ)
 reason_members rrsets verdict whole = reason_by signature_members (λ numbers. proof_member rrsets numbers ∷ [])
     (λ cut. cut_member cut ∷ []) (λ entries. if_whole whole (todo_member entries ∷ [])) verdict
-
--- the members for the question, and for the moment that the verdict speaks of
-abbrev pub question_members : Bool → Labels → ℕ → ℕ → List (List ℕ)
-question_members why name rtype moment =
-    member (codes "command") (quoted (question_word why)) ∷ member (codes "name") (name_json name)
-    ∷ member (codes "type") (decimal rtype) ∷ member (codes "moment") (decimal moment) ∷ []
 
 -- and for the verdict with the exit status
 abbrev pub verdict_members : Bool → Labels → ℕ → ℕ → ℕ → Verdict → List (List ℕ)

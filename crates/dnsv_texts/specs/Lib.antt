@@ -1,12 +1,3 @@
 pub mod Checking
-pub mod Compact
-pub mod Hex
-pub mod Json
-pub mod Listing
-pub mod Moments
-pub mod Parts
-pub mod Refused
-pub mod Showing
-pub mod Todo
 pub mod Told
 pub mod Why

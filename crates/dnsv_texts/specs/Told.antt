@@ -8,7 +8,8 @@ use Rattle.dnsv_canonical.specs.declared.number.RecordNumber.{RecordNumber}
 use Rattle.dnsv_verdict.specs.declared.link.Link.{Link}
 use Rattle.dnsv_verdict.specs.declared.verdict.Verdict.{Verdict}
 use Rattle.dnsv_lines.specs.Json.{array, member, parted}
-use Rattle.dnsv_texts.specs.Checking.{alias_json, lower_text, reason_by, reason_members}
+use Rattle.dnsv_texts.specs.Checking.{alias_json, reason_by, reason_members}
+use Rattle.dnsv_evidence_texts.specs.Question.{lower_text}
 use Rattle.dnsv_questions.specs.declared.format.Format.{Format}
 use Rattle.dnsv_questions.specs.declared.format.Format.TheVariants.{Json, Lines}
 

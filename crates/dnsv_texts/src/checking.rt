@@ -8,24 +8,12 @@ use crate::explaining::push_why;
 use crate::json::checking::verdict_json;
 use crate::reason::push_reason;
 use dnsv_canonical::{RecordNumber, Rrset, numbered};
+use dnsv_evidence_texts::Heading;
 use dnsv_lines::Line;
 use dnsv_names::{Name, RecordType};
 use dnsv_questions::Format;
 use dnsv_verdict::{Link, Report, Verdict};
 use std::alloc::{AllocError, Global};
-
-/// What stands at the head of the text of a verdict.
-#[derive(Clone, Copy)]
-pub struct Heading<'a> {
-    /// The name that is asked for.
-    pub name: &'a Name,
-    /// The type that is asked for.
-    pub rtype: RecordType,
-    /// The moment that the verdict speaks of, in seconds since 1970-01-01 00:00:00 UTC.
-    pub moment: u64,
-    /// The exit status that goes with the verdict.
-    pub status: u8,
-}
 
 /// The text of a report, and of why its verdict stands, where the lines are given that say it: in lines, or in JSON. The
 /// error is that memory ran out.

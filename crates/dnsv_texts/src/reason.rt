@@ -2,7 +2,7 @@
 ghost use Rattle.std.specs.Prelude.{◌≡◌, ◌++◌, OnOk, string_bytes};
 ghost use Rattle.dnsv_texts.specs.Checking.{cut_text, entries_text, proof_text, reason_text, signature_text};
 
-use crate::{checking, json, todo};
+use crate::{checking, json};
 use dnsv_canonical::{RecordNumber, Rrset};
 use dnsv_names::Name;
 use dnsv_questions::Format;
@@ -89,7 +89,7 @@ fn push_entries(
         return Ok(());
     }
     match format {
-        Format::Lines => todo::push_entries(text, entries),
+        Format::Lines => dnsv_evidence_texts::push_entries(text, entries),
         Format::Json => json::checking::push_todo(text, entries),
     }
 }

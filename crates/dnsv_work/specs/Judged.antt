@@ -16,7 +16,7 @@ use Rattle.dnsv_files.specs.declared.status.Status.TheVariants as status
 use Rattle.dnsv_canonical.specs.Question.{Asked}
 use Rattle.dnsv_verdict.specs.VerdictError.{verdict_error_code}
 use Rattle.dnsv_verdict.specs.Way.{IsRefusal}
-use Rattle.dnsv_texts.specs.Refused.{refused_text}
+use Rattle.dnsv_evidence_texts.specs.Refused.{refused_text}
 use Rattle.dnsv_files.specs.declared.status.Status.TheVariants.{Refused}
 
 -- the end of a run by the verdict

@@ -17,9 +17,9 @@ use Rattle.dnsv_files.specs.Files.Capture.{Holds, NewEvidence}
 use Rattle.dnsv_files.specs.Files.{Files, octets_or_none}
 use Rattle.dnsv_files.specs.Files.Statements.{IsMeaningOf}
 use Rattle.dnsv_questions.specs.declared.format.Format.{Format}
-use Rattle.dnsv_texts.specs.Compact.{compact_text}
-use Rattle.dnsv_texts.specs.Listing.{ListsRrsets, SignedOctets, listing_text}
-use Rattle.dnsv_texts.specs.Todo.{todo_text}
+use Rattle.dnsv_evidence_texts.specs.Compact.{compact_text}
+use Rattle.dnsv_evidence_texts.specs.Listing.{ListsRrsets, SignedOctets, listing_text}
+use Rattle.dnsv_evidence_texts.specs.Todo.{todo_text}
 use Rattle.std.specs.Prelude.{ℕ, List}
 use Rattle.dnsv_answers.specs.declared.heading.Moments.TheVariants.{At}
 use Rattle.dnsv_commands.specs.declared.request.Listing.{Listing}

@@ -9,10 +9,10 @@ ghost use Rattle.dnsv_files.specs.Status.{fault_number};
 ghost use Rattle.dnsv_work.specs.Judged as specs;
 ghost use Rattle.dnsv_work.specs.Judged.{IsRefusedOne};
 
+use dnsv_evidence_texts::{Heading, refused_text};
 use dnsv_files::{Fault, Place, Refusal, Status};
 use dnsv_names::{Name, RecordType};
 use dnsv_questions::{Format, Moment};
-use dnsv_texts::{Heading, refused_text};
 use dnsv_verdict::{Verdict, VerdictError};
 use std::alloc::{AllocError, Global};
 

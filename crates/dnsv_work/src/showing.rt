@@ -8,15 +8,15 @@ ghost use Rattle.dnsv_files.specs.Files.Capture.{AnyMessage, AllTaken, FirstRefu
 ghost use Rattle.dnsv_files.specs.Files.Faults.{OfFailedRead, TellsFaults, TellsFileFaults};
 ghost use Rattle.dnsv_files.specs.Files.{AreTold, Files};
 ghost use Rattle.dnsv_work.specs.Reached.{IsCaptureReached};
-ghost use Rattle.dnsv_texts.specs.Showing.{message_text, texts_from};
+ghost use Rattle.dnsv_evidence_texts.specs.Showing.{message_text, texts_from};
 ghost use Rattle.dnsv_files.specs.Told.{IsFaultOf};
 ghost use Rattle.dnsv_work.specs.Showing.{IsShowing};
 ghost use Rattle.dnsv_files.specs.declared.opening.Opening.TheVariants.{Plain};
 
 use bumpalo::Bump;
+use dnsv_evidence_texts::push_message;
 use dnsv_files::{Fault, InputFile, Inputs, Opening, frames, message_of};
 use dnsv_message::Counted;
-use dnsv_texts::push_message;
 use std::alloc::Global;
 use std::io::Read;
 

@@ -4,8 +4,8 @@ ghost use Rattle.dnsv_canonical.specs.Canonical.{IsCanonical};
 ghost use Rattle.dnsv_canonical.specs.CanonicalRdata.{canonical_form};
 ghost use Rattle.dnsv_compact.specs.CompactList.{IsListedRrset, ListedRrset, ListsRrsets, listed_signature};
 ghost use Rattle.dnsv_lines.specs.Json.{array, parted};
-ghost use Rattle.dnsv_texts.specs.Compact as specs;
-ghost use Rattle.dnsv_texts.specs.Json.{octets_json};
+ghost use Rattle.dnsv_evidence_texts.specs.Compact as specs;
+ghost use Rattle.dnsv_evidence_texts.specs.Json.{octets_json};
 ghost use Rattle.dnsv_questions.specs.declared.format.Format.TheVariants.{Json};
 
 use crate::compact::{push_rrsets, push_signatures};

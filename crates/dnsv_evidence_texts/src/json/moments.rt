@@ -1,7 +1,7 @@
 //! The JSON of lists, up to what they list.
 ghost use Rattle.std.specs.Prelude.{◌≡◌, ◌++◌, ◌∷◌, OnOk, codes, string_bytes, true};
 ghost use Rattle.dnsv_lines.specs.Json.{member, parted, quoted};
-ghost use Rattle.dnsv_texts.specs.Moments.{moments_members};
+ghost use Rattle.dnsv_evidence_texts.specs.Moments.{moments_members};
 
 use dnsv_answers::Moments;
 use std::alloc::AllocError;

@@ -1,7 +1,7 @@
 //! The JSON of `list` without `--all`: what a verifier still has to check.
 ghost use Rattle.std.specs.Prelude.{◌≡◌, ◌++◌, ◌∷◌, [], false, true, map, IfOk, OnOk, string_bytes};
 ghost use Rattle.dnsv_lines.specs.Json.{array, parted};
-ghost use Rattle.dnsv_texts.specs.Todo as specs;
+ghost use Rattle.dnsv_evidence_texts.specs.Todo as specs;
 ghost use Rattle.dnsv_questions.specs.declared.format.Format.TheVariants.{Json};
 
 use crate::json::moments::push_list_of;
@@ -28,7 +28,7 @@ pub fn todo_json(
 }
 
 /// Adds an array of the objects of entries.
-pub fn push_entries(text: &mut String, entries: &Entries<'_>) -> Result<(), AllocError>
+pub fn push_entry_array(text: &mut String, entries: &Entries<'_>) -> Result<(), AllocError>
     ensures { OnOk result (string_bytes text.new
         ≡ string_bytes text.old ++ array (map specs.todo_json entries.now)) }
 {

@@ -10,7 +10,7 @@ use Rattle.dnsv_chain.specs.Basis.{Basis}
 use Rattle.dnsv_verdict.specs.VerdictError.{verdict_error_code}
 use Rattle.dnsv_verdict.specs.Way.{IsRefusal}
 use Rattle.dnsv_verdict.specs.declared.error.VerdictError.{VerdictError}
-use Rattle.dnsv_texts.specs.Refused.{refused_text}
+use Rattle.dnsv_evidence_texts.specs.Refused.{refused_text}
 use Rattle.dnsv_questions.specs.declared.format.Format.{Format}
 use Rattle.dnsv_files.specs.Files.{Files, octets_or_none}
 use Rattle.dnsv_program_laws.specs.Layers.{LayerLaws}

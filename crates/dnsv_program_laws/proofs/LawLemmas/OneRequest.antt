@@ -14,8 +14,8 @@ use Rattle.dnsv_files.specs.Files.Capture.{AnyMessage, NewEvidence}
 use Rattle.dnsv_files.specs.Files.{Files}
 use Rattle.dnsv_program_laws.specs.Layers.{LayerLaws}
 use Rattle.dnsv_program.specs.Run.{IsTextAskedFor}
-use Rattle.dnsv_texts.specs.Listing.{ListsRrsets, listing_text}
-use Rattle.dnsv_texts.specs.Showing.{message_text, texts_from}
+use Rattle.dnsv_evidence_texts.specs.Listing.{ListsRrsets, listing_text}
+use Rattle.dnsv_evidence_texts.specs.Showing.{message_text, texts_from}
 use Rattle.dnsv_program_laws.proofs.LawLemmas.OneAnswer.{one_answered}
 use Rattle.dnsv_program_laws.proofs.LawLemmas.OneCapture.{one_holding}
 use Rattle.dnsv_program_laws.proofs.LawLemmas.OneText.{one_answer, one_list, one_timeline_asked, one_todo}

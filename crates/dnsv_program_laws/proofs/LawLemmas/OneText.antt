@@ -31,7 +31,7 @@ use Rattle.dnsv_files.specs.declared.status.Status.{Status}
 use Rattle.dnsv_questions.specs.declared.format.Format.{Format}
 use Rattle.dnsv_files.specs.Files.Capture.{NewEvidence, Holds}
 use Rattle.dnsv_texts.specs.Checking.{check_text}
-use Rattle.dnsv_texts.specs.Compact.{compact_text}
+use Rattle.dnsv_evidence_texts.specs.Compact.{compact_text}
 use Rattle.dnsv_work.specs.InOrder.{AreInOrder, basis_in}
 use Rattle.dnsv_asking.specs.Checking.{IsAnswered, IsCheck, IsJudged, IsWhy}
 use Rattle.dnsv_work.specs.Judged.{verdict_status}
@@ -41,7 +41,7 @@ use Rattle.dnsv_work.specs.Opening.{IsOpeningAt}
 use Rattle.dnsv_files.specs.Files.{Files, octets_or_none}
 use Rattle.dnsv_files.specs.Opening.Keys.{MayHaveKeys}
 use Rattle.dnsv_program_laws.specs.Layers.{LayerLaws}
-use Rattle.dnsv_texts.specs.Listing.{ListsRrsets, ListsSignatures, SignedOctets}
+use Rattle.dnsv_evidence_texts.specs.Listing.{ListsRrsets, ListsSignatures, SignedOctets}
 use Rattle.dnsv_work.specs.Question.{Spells}
 use Rattle.dnsv_files.specs.Status.{status_code}
 use Rattle.dnsv_program.specs.Run.{IsTimelineAsked}

@@ -4,14 +4,14 @@ ghost use Rattle.std.specs.Option.{option_map};
 ghost use Rattle.dnsv_lines.specs.Json.{array, parted, still_first};
 ghost use Rattle.dnsv_texts.specs.Checking as specs;
 
-use crate::checking::{Heading, verdict_word};
+use crate::checking::verdict_word;
 use crate::json::explaining::push_why;
-use crate::json::todo::push_entries;
 use crate::reason::push_reason;
 use dnsv_canonical::{RecordNumber, Rrset, numbered};
+use dnsv_evidence_texts::{Heading, push_entry_array, push_question};
 use dnsv_lines::{Line, push_comma, push_name};
 use dnsv_names::Name;
-use dnsv_questions::{Format, question_word};
+use dnsv_questions::Format;
 use dnsv_verdict::{Link, Report, Verdict};
 use dnsv_verifier::Entries;
 use std::alloc::{AllocError, Global};
@@ -39,39 +39,6 @@ pub fn verdict_json(
     push_why(&mut text, why, numbers)?;
     text.push_str("}\n")?;
     Ok(text)
-}
-
-/// Begins the object with the members for the question and its verdict.
-fn push_verdict(
-    text: &mut String,
-    why: bool,
-    heading: &Heading<'_>,
-    verdict: &Verdict<'_>,
-) -> Result<(), AllocError>
-    ensures { OnOk result (string_bytes text.new ≡ string_bytes text.old
-        ++ (codes "{" ++ parted true (specs.verdict_members why heading.now.name.now heading.now.rtype.0
-        heading.now.moment heading.now.status verdict.now))) }
-{
-    push_question(text, why, heading)?;
-    let word = verdict_word(verdict);
-    let status = heading.status;
-    write!(text, ",\"verdict\":\"{word}\",\"status\":{status}")?;
-    Ok(())
-}
-
-/// Begins the object with the members for the question, and for the moment that the verdict speaks of.
-pub fn push_question(text: &mut String, why: bool, heading: &Heading<'_>) -> Result<(), AllocError>
-    ensures { OnOk result (string_bytes text.new ≡ string_bytes text.old
-        ++ (codes "{" ++ parted true (specs.question_members why heading.now.name.now heading.now.rtype.0
-        heading.now.moment))) }
-{
-    let command = question_word(why);
-    let rtype = heading.rtype.0;
-    let moment = heading.moment;
-    write!(text, "{{\"command\":\"{command}\",\"name\":")?;
-    push_name(text, heading.name)?;
-    write!(text, ",\"type\":{rtype},\"moment\":{moment}")?;
-    Ok(())
 }
 
 /// Adds an array of the aliases.
@@ -135,7 +102,7 @@ pub fn push_todo(text: &mut String, entries: &Entries<'_>) -> Result<(), AllocEr
         ≡ string_bytes text.old ++ parted false (specs.todo_member entries.now ∷ [])) }
 {
     text.push_str(",\"todo\":")?;
-    push_entries(text, entries)?;
+    push_entry_array(text, entries)?;
     Ok(())
 }
 

@@ -14,7 +14,7 @@ use Rattle.dnsv_files.specs.declared.status.Refusal.TheVariants as refusal
 use Rattle.dnsv_files.specs.declared.opening.Opening.TheVariants.{Plain}
 use Rattle.dnsv_files.specs.Files.Capture.{AnyMessage, Demand, Meets, Fails, AllTaken, FirstRefused, Holds, IsRefusal}
 use Rattle.dnsv_files.specs.Status.{TellsMessageError}
-use Rattle.dnsv_texts.specs.Showing.{message_text, texts_from}
+use Rattle.dnsv_evidence_texts.specs.Showing.{message_text, texts_from}
 use Rattle.dnsv_work.specs.Showing.{IsShowing}
 use Rattle.dnsv_files.specs.Told.{nowhere}
 

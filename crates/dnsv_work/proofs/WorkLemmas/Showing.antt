@@ -7,8 +7,8 @@ use Rattle.dnsv_files.specs.Files.Capture.{AnyMessage, AllTaken}
 use Rattle.dnsv_files.specs.Opening.{IsInFrame}
 use Rattle.dnsv_files.specs.declared.opening.Opening.TheVariants.{Plain}
 use Rattle.dnsv_files.proofs.FileLemmas.Capture.{MessagesSoFar, MessagesSoFar-next}
-use Rattle.dnsv_texts.specs.Showing.{message_text, texts_from}
-use Rattle.dnsv_texts.proofs.ShowingLemmas.{texts_from-append}
+use Rattle.dnsv_evidence_texts.specs.Showing.{message_text, texts_from}
+use Rattle.dnsv_evidence_texts.proofs.ShowingLemmas.{texts_from-append}
 
 -- the messages before the place are taken, and their lines are written
 pub record ShownSoFar (frames : List (List ℕ)) (done : ℕ) (text : List ℕ) : Type 0 where

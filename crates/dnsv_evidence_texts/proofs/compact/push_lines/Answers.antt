@@ -1,10 +1,10 @@
 use Rattle.std.proofs.Common.{rules, ◌≡◌, ◌++◌, codes, flat_map, refl, string_bytes}
 use Rattle.std.specs.Fmt.{decimal}
 use Rattle.dnsv_names.specs.Name.{lower_case, wire}
-use Rattle.dnsv_texts.specs.Compact.{rdata_text, signature_line}
-use Rattle.dnsv_texts.specs.Hex.{hex_text}
-use Rattle.dnsv_texts.proofs.CompactTextLemmas.{lines_written}
-use Rattle.dnsv_texts.proofs.compact.push_lines.Goals as goal
+use Rattle.dnsv_evidence_texts.specs.Compact.{rdata_text, signature_line}
+use Rattle.dnsv_evidence_texts.specs.Hex.{hex_text}
+use Rattle.dnsv_evidence_texts.proofs.CompactTextLemmas.{lines_written}
+use Rattle.dnsv_evidence_texts.proofs.compact.push_lines.Goals as goal
 
 pub returns : goal.returns
 returns c =

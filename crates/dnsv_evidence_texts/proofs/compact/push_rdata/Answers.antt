@@ -1,7 +1,7 @@
 use Rattle.std.proofs.Common.{◌++◌, ◌∙◌, ap, flat_map, map, string_bytes, sym}
 use Rattle.std.proofs.lemmas.List.Folds.{flat_map-map}
-use Rattle.dnsv_texts.specs.Compact.{rdata_text}
-use Rattle.dnsv_texts.proofs.compact.push_rdata.Goals as goal
+use Rattle.dnsv_evidence_texts.specs.Compact.{rdata_text}
+use Rattle.dnsv_evidence_texts.proofs.compact.push_rdata.Goals as goal
 
 pub returns : goal.returns
 returns c =

@@ -1,7 +1,7 @@
 use Rattle.std.proofs.Common.{string_bytes}
-use Rattle.dnsv_texts.specs.Compact.{rrset_json, rrset_lines}
-use Rattle.dnsv_texts.proofs.PartLemmas.{one_line, one_object}
-use Rattle.dnsv_texts.proofs.compact.push_rrset.Goals as goal
+use Rattle.dnsv_evidence_texts.specs.Compact.{rrset_json, rrset_lines}
+use Rattle.dnsv_evidence_texts.proofs.PartLemmas.{one_line, one_object}
+use Rattle.dnsv_evidence_texts.proofs.compact.push_rrset.Goals as goal
 
 pub returns-in_ok-push_lines-in-Lines-clause-text : goal.returns-in_ok-push_lines-in-Lines-clause-text
 returns-in_ok-push_lines-in-Lines-clause-text c =

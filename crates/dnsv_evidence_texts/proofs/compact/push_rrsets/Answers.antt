@@ -1,8 +1,8 @@
 use Rattle.std.proofs.Common.{◌∙◌, [], ◌∷◌, sym}
 use Rattle.std.proofs.lemmas.List.{get_or_read}
-use Rattle.dnsv_texts.proofs.CompactLemmas.{rrset_named, rrset_unnamed, rrsets_listed}
-use Rattle.dnsv_texts.proofs.PartLemmas.{Listed-all, Listed-next, Listed-none}
-use Rattle.dnsv_texts.proofs.compact.push_rrsets.Goals as goal
+use Rattle.dnsv_evidence_texts.proofs.CompactLemmas.{rrset_named, rrset_unnamed, rrsets_listed}
+use Rattle.dnsv_evidence_texts.proofs.PartLemmas.{Listed-all, Listed-next, Listed-none}
+use Rattle.dnsv_evidence_texts.proofs.compact.push_rrsets.Goals as goal
 
 pub loop-index-preserved-then-not-names_rrset : goal.loop-index-preserved-then-not-names_rrset
 loop-index-preserved-then-not-names_rrset c =

@@ -1,8 +1,8 @@
 use Rattle.std.proofs.Common.{string_bytes}
 use Rattle.dnsv_compact.specs.CompactList.{listed_signature}
-use Rattle.dnsv_texts.specs.Compact.{signature_json, signature_line}
-use Rattle.dnsv_texts.proofs.PartLemmas.{one_line, one_object}
-use Rattle.dnsv_texts.proofs.compact.push_signature.Goals as goal
+use Rattle.dnsv_evidence_texts.specs.Compact.{signature_json, signature_line}
+use Rattle.dnsv_evidence_texts.proofs.PartLemmas.{one_line, one_object}
+use Rattle.dnsv_evidence_texts.proofs.compact.push_signature.Goals as goal
 
 pub returns-in_ok-push_line-in-Lines-clause-text : goal.returns-in_ok-push_line-in-Lines-clause-text
 returns-in_ok-push_line-in-Lines-clause-text c =

@@ -1,9 +1,9 @@
 use Rattle.std.proofs.Common.{◌∙◌, [], ◌∷◌, arith, refl, sym}
 use Rattle.dnsv_compact.specs.CompactList.{listed_signature}
-use Rattle.dnsv_texts.proofs.CompactLemmas.{signature_named, signature_unnamed, signatures_listed}
-use Rattle.dnsv_texts.proofs.ListingLemmas.{as_many_signatures, signature_here}
-use Rattle.dnsv_texts.proofs.PartLemmas.{Listed-all, Listed-next, Listed-none}
-use Rattle.dnsv_texts.proofs.compact.push_signatures.Goals as goal
+use Rattle.dnsv_evidence_texts.proofs.CompactLemmas.{signature_named, signature_unnamed, signatures_listed}
+use Rattle.dnsv_evidence_texts.proofs.ListingLemmas.{as_many_signatures, signature_here}
+use Rattle.dnsv_evidence_texts.proofs.PartLemmas.{Listed-all, Listed-next, Listed-none}
+use Rattle.dnsv_evidence_texts.proofs.compact.push_signatures.Goals as goal
 
 pub loop-index-preserved-then-not-names_signature : goal.loop-index-preserved-then-not-names_signature
 loop-index-preserved-then-not-names_signature c =

@@ -1,8 +1,8 @@
 use Rattle.std.specs.Prelude.{string_bytes, true}
-use Rattle.dnsv_texts.specs.Compact.{signature_json, signature_line}
-use Rattle.dnsv_texts.proofs.CompactLemmas.{OfSignature}
-use Rattle.dnsv_texts.proofs.PartLemmas.{Listed}
-use Rattle.dnsv_texts.proofs.compact.push_signatures.Given as goal
+use Rattle.dnsv_evidence_texts.specs.Compact.{signature_json, signature_line}
+use Rattle.dnsv_evidence_texts.proofs.CompactLemmas.{OfSignature}
+use Rattle.dnsv_evidence_texts.proofs.PartLemmas.{Listed}
+use Rattle.dnsv_evidence_texts.proofs.compact.push_signatures.Given as goal
 
 abbrev pub invariant-loop-index : goal.invariant-loop-index
 invariant-loop-index l =

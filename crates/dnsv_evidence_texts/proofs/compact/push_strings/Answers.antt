@@ -1,8 +1,8 @@
 use Rattle.std.proofs.Common.{rules, ◌≡◌, ◌++◌, ◌∙◌, ap, append_assoc, codes, string_bytes, sym}
 use Rattle.std.proofs.lemmas.List.{get_or_read}
 use Rattle.dnsv_lines.proofs.JsonLemmas.{Joined-next}
-use Rattle.dnsv_texts.specs.Hex.{hex_text}
-use Rattle.dnsv_texts.proofs.compact.push_strings.Goals as goal
+use Rattle.dnsv_evidence_texts.specs.Hex.{hex_text}
+use Rattle.dnsv_evidence_texts.proofs.compact.push_strings.Goals as goal
 
 pub loop-octets-preserved : goal.loop-octets-preserved
 loop-octets-preserved c =

@@ -1,7 +1,7 @@
 use Rattle.std.specs.Prelude.{string_bytes}
 use Rattle.dnsv_lines.proofs.JsonLemmas.{Joined}
-use Rattle.dnsv_texts.specs.Compact.{rdata_text}
-use Rattle.dnsv_texts.proofs.compact.push_strings.Given as goal
+use Rattle.dnsv_evidence_texts.specs.Compact.{rdata_text}
+use Rattle.dnsv_evidence_texts.proofs.compact.push_strings.Given as goal
 
 abbrev pub invariant-loop-octets : goal.invariant-loop-octets
 invariant-loop-octets l =

@@ -1,6 +1,6 @@
 use Rattle.std.proofs.Common.{◌≡◌, ◌*◌, ◌++◌, length, take, drop}
 use Rattle.hex.specs.Hex.{encode_lower}
-use Rattle.dnsv_texts.proofs.hex_text.write_digits.Given as goal
+use Rattle.dnsv_evidence_texts.proofs.hex_text.write_digits.Given as goal
 
 -- the digits of the octets so far are written
 abbrev pub invariant-loop-place : goal.invariant-loop-place

@@ -1,8 +1,8 @@
 use Rattle.std.proofs.Common.{string_bytes}
 use Rattle.std.specs.Option.{option_map}
-use Rattle.dnsv_texts.specs.Listing.{data_json}
+use Rattle.dnsv_evidence_texts.specs.Listing.{data_json}
 use Rattle.dnsv_lines.proofs.JsonLemmas.{one_written}
-use Rattle.dnsv_texts.proofs.listing.push_object.Goals as goal
+use Rattle.dnsv_evidence_texts.proofs.listing.push_object.Goals as goal
 
 pub returns-clause-text : goal.returns-clause-text
 returns-clause-text c =

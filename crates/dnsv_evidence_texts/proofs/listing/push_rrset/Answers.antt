@@ -1,7 +1,7 @@
 use Rattle.std.proofs.Common.{[], arith, refl}
-use Rattle.dnsv_texts.proofs.ListingLemmas.{as_many_signatures, signature_here, signatures_listed}
-use Rattle.dnsv_texts.proofs.PartLemmas.{Listed-all, Listed-next}
-use Rattle.dnsv_texts.proofs.listing.push_rrset.Goals as goal
+use Rattle.dnsv_evidence_texts.proofs.ListingLemmas.{as_many_signatures, signature_here, signatures_listed}
+use Rattle.dnsv_evidence_texts.proofs.PartLemmas.{Listed-all, Listed-next}
+use Rattle.dnsv_evidence_texts.proofs.listing.push_rrset.Goals as goal
 
 pub loop-index-preserved : goal.loop-index-preserved
 loop-index-preserved c =

@@ -1,8 +1,8 @@
 use Rattle.std.specs.Prelude.{string_bytes}
-use Rattle.dnsv_texts.specs.Listing.{data_json, data_line}
-use Rattle.dnsv_texts.proofs.ListingLemmas.{OfSignature}
-use Rattle.dnsv_texts.proofs.PartLemmas.{Listed}
-use Rattle.dnsv_texts.proofs.listing.push_rrset.Given as goal
+use Rattle.dnsv_evidence_texts.specs.Listing.{data_json, data_line}
+use Rattle.dnsv_evidence_texts.proofs.ListingLemmas.{OfSignature}
+use Rattle.dnsv_evidence_texts.proofs.PartLemmas.{Listed}
+use Rattle.dnsv_evidence_texts.proofs.listing.push_rrset.Given as goal
 
 abbrev pub invariant-loop-index : goal.invariant-loop-index
 invariant-loop-index l =

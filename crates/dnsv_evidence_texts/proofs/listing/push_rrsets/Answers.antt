@@ -1,8 +1,8 @@
 use Rattle.std.proofs.Common.{sym}
 use Rattle.std.proofs.lemmas.List.{get_or_read}
-use Rattle.dnsv_texts.proofs.ListingLemmas.{rrsets_listed}
-use Rattle.dnsv_texts.proofs.PartLemmas.{Listed-all, Listed-next}
-use Rattle.dnsv_texts.proofs.listing.push_rrsets.Goals as goal
+use Rattle.dnsv_evidence_texts.proofs.ListingLemmas.{rrsets_listed}
+use Rattle.dnsv_evidence_texts.proofs.PartLemmas.{Listed-all, Listed-next}
+use Rattle.dnsv_evidence_texts.proofs.listing.push_rrsets.Goals as goal
 
 pub loop-index-preserved : goal.loop-index-preserved
 loop-index-preserved c =

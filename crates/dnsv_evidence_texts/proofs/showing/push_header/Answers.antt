@@ -1,8 +1,8 @@
 use Rattle.std.proofs.Common.{rules, ◌≡◌, ◌++◌, length, codes, string_bytes}
 use Rattle.std.specs.Fmt.{decimal}
-use Rattle.dnsv_texts.specs.Showing.{hex_of_16}
-use Rattle.dnsv_texts.proofs.ShowingLemmas.{header_written}
-use Rattle.dnsv_texts.proofs.showing.push_header.Goals as goal
+use Rattle.dnsv_evidence_texts.specs.Showing.{hex_of_16}
+use Rattle.dnsv_evidence_texts.proofs.ShowingLemmas.{header_written}
+use Rattle.dnsv_evidence_texts.proofs.showing.push_header.Goals as goal
 
 pub returns : goal.returns
 returns c =

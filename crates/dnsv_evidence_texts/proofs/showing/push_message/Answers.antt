@@ -1,8 +1,8 @@
 use Rattle.std.proofs.Common.{rules, ◌≡◌, ◌++◌, ◌+◌, length, string_bytes, flat_map, ap, arith, length-append}
 use Rattle.std.proofs.lemmas.Result.{IfOk-weaker}
-use Rattle.dnsv_texts.specs.Showing.{texts_from, message_line, question_line, record_line}
-use Rattle.dnsv_texts.proofs.ShowingLemmas.{message_written}
-use Rattle.dnsv_texts.proofs.showing.push_message.Goals as goal
+use Rattle.dnsv_evidence_texts.specs.Showing.{texts_from, message_line, question_line, record_line}
+use Rattle.dnsv_evidence_texts.proofs.ShowingLemmas.{message_written}
+use Rattle.dnsv_evidence_texts.proofs.showing.push_message.Goals as goal
 
 pub returns : goal.returns
 returns c =

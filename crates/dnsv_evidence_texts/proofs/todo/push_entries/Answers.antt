@@ -1,6 +1,6 @@
 use Rattle.std.proofs.Common.{◌<◌, length, rules}
 use Rattle.dnsv_lines.proofs.JsonLemmas.{Joined-next}
-use Rattle.dnsv_texts.proofs.todo.push_entries.Goals as goal
+use Rattle.dnsv_evidence_texts.proofs.todo.push_entries.Goals as goal
 
 pub loop-place-preserved : goal.loop-place-preserved
 loop-place-preserved c =

@@ -3,7 +3,7 @@ use Rattle.std.proofs.Common.{◌≡◌, true, List, [], ◌∷◌, ◌++◌, �
 use Rattle.std.proofs.lemmas.List.{append-nil}
 use Rattle.dnsv_lines.specs.Json.{array, member, parted, quoted}
 use Rattle.dnsv_lines.proofs.JsonLemmas.{parted-append}
-use Rattle.dnsv_texts.specs.Json.{object_line}
+use Rattle.dnsv_evidence_texts.specs.Json.{object_line}
 
 -- ---- the question
 

@@ -1,10 +1,10 @@
 use Rattle.std.proofs.Common.{rules, ◌≡◌, ◌++◌, ◌∷◌, codes, map, string_bytes, true}
 use Rattle.dnsv_lines.specs.Json.{array, parted}
-use Rattle.dnsv_texts.specs.Compact.{key_json, place_json, rrset_json}
-use Rattle.dnsv_texts.specs.Moments.{moments_members}
-use Rattle.dnsv_texts.proofs.CompactTextLemmas.{list_written}
-use Rattle.dnsv_texts.proofs.MomentsLemmas.{of_list}
-use Rattle.dnsv_texts.proofs.json.compact.compact_json.Goals as goal
+use Rattle.dnsv_evidence_texts.specs.Compact.{key_json, place_json, rrset_json}
+use Rattle.dnsv_evidence_texts.specs.Moments.{moments_members}
+use Rattle.dnsv_evidence_texts.proofs.CompactTextLemmas.{list_written}
+use Rattle.dnsv_evidence_texts.proofs.MomentsLemmas.{of_list}
+use Rattle.dnsv_evidence_texts.proofs.json.compact.compact_json.Goals as goal
 
 pub returns : goal.returns
 returns c =

@@ -1,7 +1,7 @@
 use Rattle.std.proofs.Common.{string_bytes, sym}
 use Rattle.std.proofs.lemmas.List.{get_or_read}
 use Rattle.dnsv_lines.proofs.JsonLemmas.{Parted-next}
-use Rattle.dnsv_texts.proofs.json.compact.push_keys.Goals as goal
+use Rattle.dnsv_evidence_texts.proofs.json.compact.push_keys.Goals as goal
 
 pub loop-key-preserved : goal.loop-key-preserved
 loop-key-preserved c =

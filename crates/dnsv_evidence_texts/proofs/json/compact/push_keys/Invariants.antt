@@ -1,7 +1,7 @@
 use Rattle.std.specs.Prelude.{[], ◌∷◌, ◌++◌, codes, string_bytes, true}
-use Rattle.dnsv_texts.specs.Compact.{key_json}
+use Rattle.dnsv_evidence_texts.specs.Compact.{key_json}
 use Rattle.dnsv_lines.proofs.JsonLemmas.{Parted}
-use Rattle.dnsv_texts.proofs.json.compact.push_keys.Given as goal
+use Rattle.dnsv_evidence_texts.proofs.json.compact.push_keys.Given as goal
 
 abbrev pub invariant-loop-key : goal.invariant-loop-key
 invariant-loop-key l =

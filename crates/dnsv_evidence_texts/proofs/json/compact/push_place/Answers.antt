@@ -1,7 +1,7 @@
 use Rattle.std.proofs.Common.{string_bytes}
 use Rattle.dnsv_lines.proofs.JsonLemmas.{one_written}
-use Rattle.dnsv_texts.specs.Compact.{place_json}
-use Rattle.dnsv_texts.proofs.json.compact.push_place.Goals as goal
+use Rattle.dnsv_evidence_texts.specs.Compact.{place_json}
+use Rattle.dnsv_evidence_texts.proofs.json.compact.push_place.Goals as goal
 
 pub returns-clause-text : goal.returns-clause-text
 returns-clause-text c =

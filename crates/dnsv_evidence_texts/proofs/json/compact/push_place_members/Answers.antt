@@ -1,7 +1,7 @@
 use Rattle.std.proofs.Common.{string_bytes}
 use Rattle.std.specs.Fmt.{decimal}
-use Rattle.dnsv_texts.proofs.CompactTextLemmas.{place_written}
-use Rattle.dnsv_texts.proofs.json.compact.push_place_members.Goals as goal
+use Rattle.dnsv_evidence_texts.proofs.CompactTextLemmas.{place_written}
+use Rattle.dnsv_evidence_texts.proofs.json.compact.push_place_members.Goals as goal
 
 pub returns : goal.returns
 returns c =

@@ -1,7 +1,7 @@
 use Rattle.std.proofs.Common.{get_or, string_bytes}
 use Rattle.dnsv_compact.specs.declared.place.Place.{Place}
 use Rattle.dnsv_lines.proofs.JsonLemmas.{Parted-next, any_default}
-use Rattle.dnsv_texts.proofs.json.compact.push_places.Goals as goal
+use Rattle.dnsv_evidence_texts.proofs.json.compact.push_places.Goals as goal
 
 abbrev nothing : Place
 nothing = record { key = 0; rrset = 0; signature = 0 }

@@ -1,7 +1,7 @@
 use Rattle.std.specs.Prelude.{[], ◌∷◌, ◌++◌, codes, string_bytes, true}
-use Rattle.dnsv_texts.specs.Compact.{place_json}
+use Rattle.dnsv_evidence_texts.specs.Compact.{place_json}
 use Rattle.dnsv_lines.proofs.JsonLemmas.{Parted}
-use Rattle.dnsv_texts.proofs.json.compact.push_places.Given as goal
+use Rattle.dnsv_evidence_texts.proofs.json.compact.push_places.Given as goal
 
 abbrev pub invariant-loop-place : goal.invariant-loop-place
 invariant-loop-place l =

@@ -1,8 +1,8 @@
 use Rattle.std.proofs.Common.{◌++◌, ◌∙◌, ap, map, string_bytes, sym}
 use Rattle.std.proofs.lemmas.Simd.{map-map}
 use Rattle.dnsv_lines.specs.Json.{array}
-use Rattle.dnsv_texts.specs.Json.{octets_json}
-use Rattle.dnsv_texts.proofs.json.compact.push_rdata.Goals as goal
+use Rattle.dnsv_evidence_texts.specs.Json.{octets_json}
+use Rattle.dnsv_evidence_texts.proofs.json.compact.push_rdata.Goals as goal
 
 pub returns : goal.returns
 returns c =

@@ -2,10 +2,10 @@ use Rattle.std.proofs.Common.{rules, ◌≡◌, ◌++◌, codes, map, refl, stri
 use Rattle.std.specs.Fmt.{decimal}
 use Rattle.dnsv_names.specs.Name.{lower_case, wire}
 use Rattle.dnsv_lines.specs.Json.{array, parted}
-use Rattle.dnsv_texts.specs.Compact.{signature_json}
-use Rattle.dnsv_texts.specs.Json.{octets_json}
-use Rattle.dnsv_texts.proofs.CompactTextLemmas.{rrset_written}
-use Rattle.dnsv_texts.proofs.json.compact.push_rrset_members.Goals as goal
+use Rattle.dnsv_evidence_texts.specs.Compact.{signature_json}
+use Rattle.dnsv_evidence_texts.specs.Json.{octets_json}
+use Rattle.dnsv_evidence_texts.proofs.CompactTextLemmas.{rrset_written}
+use Rattle.dnsv_evidence_texts.proofs.json.compact.push_rrset_members.Goals as goal
 
 pub returns : goal.returns
 returns c =

@@ -1,8 +1,8 @@
 use Rattle.std.proofs.Common.{string_bytes}
 use Rattle.dnsv_compact.specs.CompactList.{listed_signature}
 use Rattle.dnsv_lines.proofs.JsonLemmas.{one_written}
-use Rattle.dnsv_texts.specs.Compact.{signature_json}
-use Rattle.dnsv_texts.proofs.json.compact.push_signature.Goals as goal
+use Rattle.dnsv_evidence_texts.specs.Compact.{signature_json}
+use Rattle.dnsv_evidence_texts.proofs.json.compact.push_signature.Goals as goal
 
 pub returns-clause-text : goal.returns-clause-text
 returns-clause-text c =

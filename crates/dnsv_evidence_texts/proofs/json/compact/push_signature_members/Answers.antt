@@ -1,9 +1,9 @@
 use Rattle.std.proofs.Common.{rules, ◌≡◌, ◌++◌, ◌∙◌, ℕ, List, ap, codes, string_bytes}
 use Rattle.std.specs.Fmt.{decimal}
 use Rattle.dnsv_canonical.specs.SignedData.{signed_front}
-use Rattle.dnsv_texts.specs.Json.{octets_json}
-use Rattle.dnsv_texts.proofs.CompactTextLemmas.{signature_written}
-use Rattle.dnsv_texts.proofs.json.compact.push_signature_members.Goals as goal
+use Rattle.dnsv_evidence_texts.specs.Json.{octets_json}
+use Rattle.dnsv_evidence_texts.proofs.CompactTextLemmas.{signature_written}
+use Rattle.dnsv_evidence_texts.proofs.json.compact.push_signature_members.Goals as goal
 
 pub returns : goal.returns
 returns c =

@@ -2,8 +2,8 @@ use Rattle.std.proofs.Common.{rules, ◌≡◌, [], ◌∷◌, ◌++◌, string_
 use Rattle.std.proofs.lemmas.List.{get_or_read}
 use Rattle.dnsv_lines.specs.Json.{parted}
 use Rattle.dnsv_lines.proofs.JsonLemmas.{Parted-next}
-use Rattle.dnsv_texts.specs.Json.{octets_json}
-use Rattle.dnsv_texts.proofs.json.compact.push_strings.Goals as goal
+use Rattle.dnsv_evidence_texts.specs.Json.{octets_json}
+use Rattle.dnsv_evidence_texts.proofs.json.compact.push_strings.Goals as goal
 
 pub loop-octets-preserved : goal.loop-octets-preserved
 loop-octets-preserved c =

@@ -1,8 +1,8 @@
 use Rattle.std.proofs.Common.{rules, ◌≡◌, ◌++◌, codes, string_bytes}
 use Rattle.std.specs.Fmt.{decimal}
-use Rattle.dnsv_texts.specs.Json.{octets_json}
-use Rattle.dnsv_texts.proofs.ObjectLemmas.{entry_written}
-use Rattle.dnsv_texts.proofs.json.todo.push_members.Goals as goal
+use Rattle.dnsv_evidence_texts.specs.Json.{octets_json}
+use Rattle.dnsv_evidence_texts.proofs.ObjectLemmas.{entry_written}
+use Rattle.dnsv_evidence_texts.proofs.json.todo.push_members.Goals as goal
 
 pub returns : goal.returns
 returns c =

@@ -1,6 +1,6 @@
 use Rattle.std.proofs.Common.{◌<◌, length, rules, string_bytes}
 use Rattle.dnsv_lines.proofs.JsonLemmas.{Parted-next}
-use Rattle.dnsv_texts.proofs.json.todo.push_objects.Goals as goal
+use Rattle.dnsv_evidence_texts.proofs.json.todo.push_objects.Goals as goal
 
 pub loop-place-preserved : goal.loop-place-preserved
 loop-place-preserved c =

@@ -1,9 +1,9 @@
 use Rattle.std.proofs.Common.{rules, ◌≡◌, ◌++◌, ◌∷◌, codes, map, string_bytes, true}
 use Rattle.dnsv_lines.specs.Json.{parted}
-use Rattle.dnsv_texts.specs.Moments.{moments_members}
-use Rattle.dnsv_texts.specs.Todo.{todo_json}
-use Rattle.dnsv_texts.proofs.MomentsLemmas.{of_list, todo_written}
-use Rattle.dnsv_texts.proofs.json.todo.todo_json.Goals as goal
+use Rattle.dnsv_evidence_texts.specs.Moments.{moments_members}
+use Rattle.dnsv_evidence_texts.specs.Todo.{todo_json}
+use Rattle.dnsv_evidence_texts.proofs.MomentsLemmas.{of_list, todo_written}
+use Rattle.dnsv_evidence_texts.proofs.json.todo.todo_json.Goals as goal
 
 pub returns : goal.returns
 returns c =

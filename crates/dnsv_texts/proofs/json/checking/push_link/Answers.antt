@@ -1,7 +1,7 @@
 use Rattle.std.proofs.Common.{rules, ◌≡◌, ◌++◌, codes, false, string_bytes}
 use Rattle.dnsv_texts.specs.Checking.{signature_members}
 use Rattle.dnsv_lines.specs.Json.{name_json, parted}
-use Rattle.dnsv_texts.proofs.ObjectLemmas.{alias_written}
+use Rattle.dnsv_evidence_texts.proofs.ObjectLemmas.{alias_written}
 use Rattle.dnsv_texts.proofs.json.checking.push_link.Goals as goal
 
 pub returns : goal.returns

@@ -1,7 +1,7 @@
 use Rattle.std.proofs.Common.{rules, ◌≡◌, ◌++◌, codes, string_bytes}
 use Rattle.std.specs.Fmt.{decimal}
 use Rattle.dnsv_lines.specs.Json.{name_json}
-use Rattle.dnsv_texts.proofs.ObjectLemmas.{record_written}
+use Rattle.dnsv_evidence_texts.proofs.ObjectLemmas.{record_written}
 use Rattle.dnsv_texts.proofs.json.checking.push_owner.Goals as goal
 
 pub returns : goal.returns

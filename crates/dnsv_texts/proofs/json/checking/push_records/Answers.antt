@@ -4,7 +4,7 @@ use Rattle.dnsv_canonical.specs.declared.number.RecordNumber.{RecordNumber}
 use Rattle.dnsv_texts.specs.Checking.{proof_json}
 use Rattle.dnsv_lines.specs.Json.{parted}
 use Rattle.dnsv_lines.proofs.JsonLemmas.{Parted-all, Parted-next, any_default}
-use Rattle.dnsv_texts.proofs.ObjectLemmas.{array_written}
+use Rattle.dnsv_evidence_texts.proofs.ObjectLemmas.{array_written}
 use Rattle.dnsv_texts.proofs.json.checking.push_records.Goals as goal
 
 abbrev nothing : RecordNumber

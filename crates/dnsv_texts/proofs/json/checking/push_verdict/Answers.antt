@@ -3,7 +3,7 @@ use Rattle.std.specs.Fmt.{decimal}
 use Rattle.dnsv_questions.specs.Subcommand.{question_word}
 use Rattle.dnsv_texts.specs.Checking.{verdict_word}
 use Rattle.dnsv_lines.specs.Json.{member, name_json, quoted}
-use Rattle.dnsv_texts.proofs.ObjectLemmas.{verdict_begun}
+use Rattle.dnsv_evidence_texts.proofs.ObjectLemmas.{verdict_begun}
 use Rattle.dnsv_texts.proofs.json.checking.push_verdict.Goals as goal
 
 pub returns : goal.returns

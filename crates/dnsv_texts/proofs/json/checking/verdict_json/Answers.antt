@@ -8,7 +8,7 @@ use Rattle.dnsv_lines.specs.Json.{AddsMembers, array, member, name_json, parted,
 use Rattle.dnsv_texts.specs.Why.{why_members}
 use Rattle.dnsv_texts.proofs.CheckingLemmas.{members_are, none_where, still_some}
 use Rattle.dnsv_lines.proofs.MemberLemmas.{more_members}
-use Rattle.dnsv_texts.proofs.ObjectLemmas.{verdict_written}
+use Rattle.dnsv_evidence_texts.proofs.ObjectLemmas.{verdict_written}
 use Rattle.dnsv_texts.proofs.json.checking.verdict_json.Goals as goal
 
 pub returns : goal.returns

@@ -3,8 +3,8 @@ use Rattle.std.specs.Prelude.{ℕ, Bool, List, [], ◌∷◌, ◌++◌, codes}
 use Rattle.std.specs.Fmt.{decimal}
 use Rattle.dnsv_names.specs.Name.{Labels}
 use Rattle.dnsv_lines.specs.Json.{member}
-use Rattle.dnsv_texts.specs.Checking.{lower_text, question_members}
-use Rattle.dnsv_texts.specs.Json.{object_line}
+use Rattle.dnsv_evidence_texts.specs.Question.{lower_text, question_members}
+use Rattle.dnsv_evidence_texts.specs.Json.{object_line}
 use Rattle.dnsv_questions.specs.declared.format.Format.{Format}
 use Rattle.dnsv_questions.specs.declared.format.Format.TheVariants.{Json, Lines}
 

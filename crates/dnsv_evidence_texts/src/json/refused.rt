@@ -1,10 +1,10 @@
 //! The JSON for a question that has no verdict, where it is one of many.
 ghost use Rattle.std.specs.Prelude.{◌≡◌, IfOk, string_bytes};
-ghost use Rattle.dnsv_texts.specs.Refused as specs;
+ghost use Rattle.dnsv_evidence_texts.specs.Refused as specs;
 ghost use Rattle.dnsv_questions.specs.declared.format.Format.TheVariants.{Json};
 
-use crate::checking::Heading;
-use crate::json::checking::push_question;
+use crate::heading::Heading;
+use crate::json::question::push_question;
 use std::alloc::{AllocError, Global};
 
 /// The object of the question, the number of its refusal and the exit status.

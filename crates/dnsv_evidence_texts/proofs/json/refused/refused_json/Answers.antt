@@ -1,10 +1,10 @@
 use Rattle.std.proofs.Common.{rules, ◌≡◌, [], ◌∷◌, ◌++◌, codes, string_bytes, true}
 use Rattle.std.specs.Fmt.{decimal}
 use Rattle.dnsv_questions.specs.Subcommand.{question_word}
-use Rattle.dnsv_texts.specs.Checking.{question_members}
+use Rattle.dnsv_evidence_texts.specs.Question.{question_members}
 use Rattle.dnsv_lines.specs.Json.{member, name_json, parted, quoted}
-use Rattle.dnsv_texts.proofs.ObjectLemmas.{refused_written}
-use Rattle.dnsv_texts.proofs.json.refused.refused_json.Goals as goal
+use Rattle.dnsv_evidence_texts.proofs.ObjectLemmas.{refused_written}
+use Rattle.dnsv_evidence_texts.proofs.json.refused.refused_json.Goals as goal
 
 pub returns : goal.returns
 returns c =

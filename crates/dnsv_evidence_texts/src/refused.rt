@@ -1,8 +1,8 @@
 //! What is reported of a question that has no verdict, where it is one of many.
 ghost use Rattle.std.specs.Prelude.{◌≡◌, ◌++◌, IfOk, string_bytes};
-ghost use Rattle.dnsv_texts.specs.Refused as specs;
+ghost use Rattle.dnsv_evidence_texts.specs.Refused as specs;
 
-use crate::checking::Heading;
+use crate::heading::Heading;
 use crate::json::refused::refused_json;
 use dnsv_questions::Format;
 use std::alloc::{AllocError, Global};

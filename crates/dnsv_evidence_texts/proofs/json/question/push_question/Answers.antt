@@ -2,8 +2,8 @@ use Rattle.std.proofs.Common.{rules, ◌≡◌, ◌++◌, ◌∙◌, ℕ, List, 
 use Rattle.std.specs.Fmt.{decimal}
 use Rattle.dnsv_questions.specs.Subcommand.{question_word}
 use Rattle.dnsv_lines.specs.Json.{name_json}
-use Rattle.dnsv_texts.proofs.ObjectLemmas.{question_begun}
-use Rattle.dnsv_texts.proofs.json.checking.push_question.Goals as goal
+use Rattle.dnsv_evidence_texts.proofs.ObjectLemmas.{question_begun}
+use Rattle.dnsv_evidence_texts.proofs.json.question.push_question.Goals as goal
 
 pub returns : goal.returns
 returns c =

@@ -1,0 +1,10 @@
+pub mod Compact
+pub mod Hex
+pub mod Json
+pub mod Listing
+pub mod Moments
+pub mod Parts
+pub mod Question
+pub mod Refused
+pub mod Showing
+pub mod Todo
