@@ -8,24 +8,6 @@ use dnsv_lines::push_name;
 use dnsv_questions::question_word;
 use std::alloc::AllocError;
 
-/// Begins the object with the members for the question and its verdict.
-fn push_verdict(
-    text: &mut String,
-    why: bool,
-    heading: &Heading<'_>,
-    verdict: &Verdict<'_>,
-) -> Result<(), AllocError>
-    ensures { OnOk result (string_bytes text.new ≡ string_bytes text.old
-        ++ (codes "{" ++ parted true (specs.verdict_members why heading.now.name.now heading.now.rtype.0
-        heading.now.moment heading.now.status verdict.now))) }
-{
-    push_question(text, why, heading)?;
-    let word = verdict_word(verdict);
-    let status = heading.status;
-    write!(text, ",\"verdict\":\"{word}\",\"status\":{status}")?;
-    Ok(())
-}
-
 /// Begins the object with the members for the question, and for the moment that the verdict speaks of.
 pub fn push_question(text: &mut String, why: bool, heading: &Heading<'_>) -> Result<(), AllocError>
     ensures { OnOk result (string_bytes text.new ≡ string_bytes text.old

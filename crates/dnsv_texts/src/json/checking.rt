@@ -41,6 +41,24 @@ pub fn verdict_json(
     Ok(text)
 }
 
+/// Begins the object with the members for the question and its verdict.
+fn push_verdict(
+    text: &mut String,
+    why: bool,
+    heading: &Heading<'_>,
+    verdict: &Verdict<'_>,
+) -> Result<(), AllocError>
+    ensures { OnOk result (string_bytes text.new ≡ string_bytes text.old
+        ++ (codes "{" ++ parted true (specs.verdict_members why heading.now.name.now heading.now.rtype.0
+        heading.now.moment heading.now.status verdict.now))) }
+{
+    push_question(text, why, heading)?;
+    let word = verdict_word(verdict);
+    let status = heading.status;
+    write!(text, ",\"verdict\":\"{word}\",\"status\":{status}")?;
+    Ok(())
+}
+
 /// Adds an array of the aliases.
 pub fn push_aliases(text: &mut String, links: &[Link]) -> Result<(), AllocError>
     ensures { OnOk result (string_bytes text.new
