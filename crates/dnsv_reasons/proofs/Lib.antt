@@ -1,5 +1,4 @@
 mod EachLemmas
 mod LineLemmas
-mod PlaceLemmas
 pub mod SourceLemmas
 pub mod lemmas

@@ -1,6 +1,5 @@
 pub mod Failures
 pub mod Lines
-pub mod Places
 pub mod SourceSearch
 pub mod Sources
 pub mod laws

@@ -4,42 +4,17 @@ use Rattle.dnsv_names.specs.Name.{Labels}
 use Rattle.dnsv_canonical.specs.Rrsets.{IsNumbered, ReceivedRrset}
 use Rattle.dnsv_lines.specs.declared.line.Line.{Line}
 use Rattle.dnsv_lines.specs.declared.line.Line.TheVariants as line
-use Rattle.dnsv_lines.specs.declared.line.derivation.KeyName.{KeyName}
 use Rattle.dnsv_lines.specs.declared.line.fault.Reason.TheVariants as reason
 use Rattle.dnsv_lines.specs.declared.line.fault.denial.Source.{Source}
 use Rattle.dnsv_lines.specs.declared.line.fault.signature.ShownSignature.{ShownSignature}
-use Rattle.dnsv_lines.specs.declared.line.fault.zone.Entry.{Entry}
 use Rattle.dnsv_mending.specs.declared.told.Told.{Told}
 use Rattle.dnsv_mending.specs.declared.told.Told.TheVariants as told
 use Rattle.dnsv_gaps.specs.Asking.{Asking}
-use Rattle.dnsv_reasons.specs.Places.{IsAbove, IsEntry, IsKeyAt, IsShown}
+use Rattle.dnsv_trust_reasons.specs.TrustLines.{IsTrustLine}
+use Rattle.dnsv_trust_reasons.specs.Places.{IsAbove, IsShown}
 use Rattle.dnsv_reasons.specs.Sources.{IsAskedName, IsSource}
 use Rattle.dnsv_remedies.specs.declared.said.Said.{Said}
 use Rattle.dnsv_remedies.specs.declared.said.Said.TheVariants as told_of
-
--- ---- what keeps a zone from being trusted, or an RRset from being signed
-
-abbrev pub IsTrustLine : Asking → Told → Line → Type 0
-IsTrustLine a (told.Zone why n) said =
-    (zone : Labels) × IsAbove a.name n zone × (said ≡ line.Reason (reason.Zone (record { why = why; zone = zone })))
-IsTrustLine a (told.Entry why number) said =
-    (entry : Entry) × IsEntry a.basis.rrsets a.basis.anchors number entry
-    × (said ≡ line.Reason (reason.Entry (record { why = why; entry = entry })))
-IsTrustLine a (told.NotSelfSigned number) said =
-    (set : ReceivedRrset) × (key : KeyName) × IsNumbered a.basis.rrsets number.rrset set × IsKeyAt set number.place key
-    × (said ≡ line.Reason (reason.NotSelfSigned (record { zone = set.owner; rrset = number.rrset; key = key })))
-IsTrustLine a (told.NotVouched k) said =
-    (set : ReceivedRrset) × IsNumbered a.basis.rrsets k set
-    × (said ≡ line.Reason (reason.NotVouched (record { zone = set.owner; rrset = k })))
-IsTrustLine a (told.Unsigned k) said =
-    (rrset : ReceivedRrset) × IsNumbered a.basis.rrsets k rrset
-    × (said ≡ line.Reason (reason.Unsigned (record { owner = rrset.owner; rtype = record { 0 = rrset.rtype }; rrset = k })))
-IsTrustLine a (told.Signature why number) said =
-    (shown : ShownSignature) × IsShown a.basis.rrsets number shown
-    × (said ≡ line.Reason (reason.Signature (record { why = why; signature = shown })))
-IsTrustLine a (told.Follows number) said =
-    (shown : ShownSignature) × IsShown a.basis.rrsets number shown
-    × (said ≡ line.Follows (record { signature = shown }))
 
 -- ---- what keeps the question from being answered or denied
 
@@ -55,7 +30,7 @@ IsZoneTold a None zone = zone ≡ None
 IsZoneTold a (Some n) zone = (above : Labels) × IsAbove a.name n above × (zone ≡ Some above)
 
 abbrev pub IsSaidLine : Asking → Said → Line → Type 0
-IsSaidLine a (told_of.Trust told) said = IsTrustLine a told said
+IsSaidLine a (told_of.Trust told) said = IsTrustLine a.basis a.name told said
 IsSaidLine a (told_of.NoCloser number n) said =
     (name : Labels) × (shown : ShownSignature) × IsAbove a.name n name × IsShown a.basis.rrsets number shown
     × (said ≡ line.Reason (reason.NoCloser (record { signature = shown; name = name })))

@@ -12,7 +12,7 @@ use Rattle.dnsv_lines.specs.declared.line.fault.denial.Source.{Source}
 use Rattle.dnsv_remedies.specs.declared.facts.name.AskedName.{AskedName}
 use Rattle.dnsv_remedies.specs.declared.facts.name.AskedName.TheVariants.{At, Wildcard}
 use Rattle.dnsv_remedies.specs.declared.facts.name.SourceNumber.{SourceNumber}
-use Rattle.dnsv_reasons.specs.Places.{IsAbove}
+use Rattle.dnsv_trust_reasons.specs.Places.{IsAbove}
 
 -- those of NSEC have no parameters, those of NSEC3 the chain's
 abbrev pub IsParametersOf : Chain → Option Nsec3Parameters → Type 0

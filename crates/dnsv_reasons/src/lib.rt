@@ -10,13 +10,8 @@ pub use laws::one::{the_facts_of_zones_are_one, what_fails_is_one_list};
 pub use laws::one_line::what_is_told_is_said_by_one_list;
 pub use laws::one_question::the_facts_of_a_question_are_one;
 
-mod above;
-mod entry;
 mod failing;
-mod key;
 mod laws;
 mod lines;
 mod question;
-mod signature;
 mod sources;
-mod trust;

@@ -10,10 +10,10 @@ use crate::question::{
     closer_line, cut_line, dname_line, missing_line, unproved_line, unusable_line,
 };
 use crate::sources::{NamedSources, asked_name, source};
-use crate::trust::trust_line;
 use dnsv_gaps::AskedQuestion;
 use dnsv_lines::{Line, Reason, SourceFault, WhySource};
 use dnsv_remedies::{AskedName, Said, SourceNumber};
+use dnsv_trust_reasons::trust_line;
 use std::alloc::{AllocError, Global};
 
 /// The lines that say what is reported, in that order. `named` are the sources of each known zone.
@@ -62,7 +62,7 @@ fn said_line(
         (IsSaidLine (asking question.now) told)) }
 {
     match told {
-        Said::Trust(told) => trust_line(alloc, question, told),
+        Said::Trust(told) => trust_line(alloc, question.facts, question.name, told),
         Said::NoCloser(number, labels) => closer_line(question, number, labels),
         Said::Dname(dname) => Ok(dname_line(question, dname.labels, dname.rrset, None)),
         Said::DnameHeld(labels, number) => Ok(dname_line(

@@ -5,8 +5,6 @@ ghost use Rattle.dnsv_remedies.specs.declared.said.Said.TheVariants as said;
 ghost use Rattle.dnsv_gaps.specs.Asking.{asking};
 ghost use Rattle.dnsv_reasons.specs.Lines.{IsDnameLine, IsSaidLine};
 
-use crate::above::above;
-use crate::signature::shown;
 use dnsv_canonical::{RecordNumber, SignatureNumber};
 use dnsv_gaps::AskedQuestion;
 use dnsv_lines::{
@@ -14,6 +12,7 @@ use dnsv_lines::{
     WhyNsec3,
 };
 use dnsv_remedies::CutNumber;
+use dnsv_trust_reasons::{above, shown};
 use std::alloc::AllocError;
 
 /// That a closer name than the wildcard behind the signature may be there, the one with so many labels (RFC 4035 5.3.4).

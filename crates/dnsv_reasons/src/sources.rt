@@ -8,12 +8,12 @@ ghost use Rattle.dnsv_gaps.specs.SourceSearch.{AreZoneDenials, held_chain};
 ghost use Rattle.dnsv_reasons.specs.Sources.{IsAskedName, IsParametersOf, IsSource};
 ghost use Rattle.dnsv_reasons.specs.SourceSearch.{AreAllDenials, AreAllNamed, AreNamed, chain_named};
 
-use crate::above::above;
 use dnsv_gaps::{AskedQuestion, HeldSource, ZoneDenials, sources_of, zone_denials};
 use dnsv_lines::{Source, SourceParameters};
 use dnsv_names::Name;
 use dnsv_records::Nsec3Parameters;
 use dnsv_remedies::{AskedName, SourceNumber};
+use dnsv_trust_reasons::above;
 use std::alloc::{AllocError, Global};
 
 /// A source of a zone, as lines name it.

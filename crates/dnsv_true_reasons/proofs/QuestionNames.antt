@@ -63,7 +63,7 @@ use Rattle.dnsv_gaps.specs.questions.Dnames.{dname_at, lowest}
 use Rattle.dnsv_gaps.specs.questions.Goals.{AreGoalFacts, HasItsCloser}
 use Rattle.dnsv_gaps.specs.questions.Questions.{AreQuestionFacts}
 use Rattle.dnsv_reasons.specs.Lines.{IsSaidLine}
-use Rattle.dnsv_reasons.specs.Places.{IsAbove, shown_of}
+use Rattle.dnsv_trust_reasons.specs.Places.{IsAbove, shown_of}
 use Rattle.dnsv_reasons.specs.Sources.{IsAskedName, IsParametersOf}
 use Rattle.dnsv_true_reasons.proofs.Members.{among_parts, mapped_among}
 use Rattle.dnsv_true_reasons.proofs.telling.Says.{SaysRrset, all_among}

@@ -20,7 +20,8 @@ use Rattle.dnsv_remedies.proofs.Once.{only_told}
 use Rattle.dnsv_zone_faults.specs.Zones.{AreZoneFacts}
 use Rattle.dnsv_gaps.specs.Asking.{Asking}
 use Rattle.dnsv_gaps.specs.questions.Questions.{AreQuestionFacts}
-use Rattle.dnsv_reasons.specs.Lines.{AreSaidLines, IsSaidLine, IsTrustLine}
+use Rattle.dnsv_reasons.specs.Lines.{AreSaidLines, IsSaidLine}
+use Rattle.dnsv_trust_reasons.specs.TrustLines.{IsTrustLine}
 use Rattle.dnsv_true_reasons.proofs.telling.Says.{all_among}
 use Rattle.dnsv_true_reasons.proofs.telling.SaysQuestion.{lines_tell}
 use Rattle.dnsv_true_reasons.proofs.telling.SaysZones.{levels_say}
@@ -32,7 +33,7 @@ use Rattle.dnsv_true_reasons.proofs.ZoneNames.{HasTrustLine, says_zone}
 abbrev IsReasonLine : Line → Type 0
 IsReasonLine found = (reason : Reason) × (found ≡ line.Reason reason)
 
-trust_reason : (a : Asking) (t : Told) (found : Line) → is_reason (said.Trust t) ≡ true → IsTrustLine a t found → IsReasonLine found
+trust_reason : (a : Asking) (t : Told) (found : Line) → is_reason (said.Trust t) ≡ true → IsTrustLine a.basis a.name t found → IsReasonLine found
 trust_reason a (told.NotSelfSigned n) found is by = (_, by.4)
 trust_reason a (told.Follows n) found is by = absurd (false≢true is)
 trust_reason a t found is by = (_, by.2)

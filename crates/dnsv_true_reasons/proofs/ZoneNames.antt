@@ -42,14 +42,14 @@ use Rattle.dnsv_zone_faults.specs.Zones.{AreZoneFacts}
 use Rattle.dnsv_zone_faults.proofs.lemmas.zones.ClosedLemmas.{contains_of}
 use Rattle.dnsv_zone_faults.proofs.lemmas.zones.TrustLemmas.{zip_left}
 use Rattle.dnsv_gaps.specs.Asking.{Asking}
-use Rattle.dnsv_reasons.specs.Lines.{IsTrustLine}
-use Rattle.dnsv_reasons.specs.Places.{IsEntry, IsShown, anchor_entry, ds_entry, shown_of}
+use Rattle.dnsv_trust_reasons.specs.TrustLines.{IsTrustLine}
+use Rattle.dnsv_trust_reasons.specs.Places.{IsEntry, IsShown, anchor_entry, ds_entry, shown_of}
 use Rattle.dnsv_true_reasons.proofs.telling.Says.{SaysRrset, SaysSignature}
 use Rattle.dnsv_true_reasons.proofs.telling.SaysZones.{SaysEntry, SaysKeys, SaysZone}
 
 -- a line says it
 abbrev pub HasTrustLine : Asking → Told → Type 0
-HasTrustLine a told = (said : Line) × IsTrustLine a told said
+HasTrustLine a told = (said : Line) × IsTrustLine a.basis a.name told said
 
 -- ---- numbers
 

@@ -16,7 +16,7 @@ use Rattle.dnsv_mending.specs.Zone.{levels_of}
 use Rattle.dnsv_mending.specs.declared.told.Told.TheVariants as told
 use Rattle.dnsv_reasons.specs.Failures.{AreFailures, AreToldOf}
 use Rattle.dnsv_reasons.specs.Lines.{AreSaidLines, IsSaidLine}
-use Rattle.dnsv_reasons.specs.Places.{IsAbove}
+use Rattle.dnsv_trust_reasons.specs.Places.{IsAbove}
 use Rattle.dnsv_remedies.specs.Question.{no_anchor, question_remedy}
 use Rattle.dnsv_remedies.specs.Said.{is_reason}
 use Rattle.dnsv_remedies.specs.declared.said.Said.{Said}

@@ -7,7 +7,8 @@ use Rattle.dnsv_lines.specs.declared.line.Line.TheVariants as line
 use Rattle.dnsv_mending.specs.declared.told.Told.{Told}
 use Rattle.dnsv_mending.specs.declared.told.Told.TheVariants as told
 use Rattle.dnsv_reasons.specs.Failures.{AreFailures}
-use Rattle.dnsv_reasons.specs.Lines.{AreSaidLines, IsSaidLine, IsTrustLine}
+use Rattle.dnsv_reasons.specs.Lines.{AreSaidLines, IsSaidLine}
+use Rattle.dnsv_trust_reasons.specs.TrustLines.{IsTrustLine}
 use Rattle.dnsv_remedies.specs.declared.said.Said.{Said}
 use Rattle.dnsv_remedies.specs.declared.said.Said.TheVariants as told_of
 
@@ -21,7 +22,7 @@ module _ (a : Asking) where
   is_fault : (said one : Line) → said ≡ one → IsFault one → IsFault said
   is_fault said one is fault = subst IsFault (sym is) fault
 
-  trust_fault : (fault : Told) (said : Line) → IsTrustLine a fault said → IsFault said
+  trust_fault : (fault : Told) (said : Line) → IsTrustLine a.basis a.name fault said → IsFault said
   trust_fault (told.NotSelfSigned number) said is = is_fault said _ is.4 tt
   trust_fault other said is = is_fault said _ is.2 tt
 

@@ -13,8 +13,9 @@ use Rattle.dnsv_lines.specs.declared.line.fault.zone.Entry.{Entry}
 use Rattle.dnsv_mending.specs.declared.told.Told.{Told}
 use Rattle.dnsv_mending.specs.declared.told.Told.TheVariants as told
 use Rattle.dnsv_gaps.specs.Asking.{Asking}
-use Rattle.dnsv_reasons.specs.Lines.{AreSaidLines, IsDnameLine, IsSaidLine, IsTrustLine, IsZoneTold}
-use Rattle.dnsv_reasons.specs.Places.{IsKeyAt}
+use Rattle.dnsv_reasons.specs.Lines.{AreSaidLines, IsDnameLine, IsSaidLine, IsZoneTold}
+use Rattle.dnsv_trust_reasons.specs.TrustLines.{IsTrustLine}
+use Rattle.dnsv_trust_reasons.specs.Places.{IsKeyAt}
 use Rattle.dnsv_remedies.specs.declared.said.Said.{Said}
 use Rattle.dnsv_remedies.specs.declared.said.Said.TheVariants as told_of
 use Rattle.dnsv_reasons.proofs.lemmas.OnePlace.{one_above, one_asked, one_entry, one_key, one_shown, one_source}
@@ -22,7 +23,7 @@ use Rattle.dnsv_reasons.proofs.lemmas.OnePlace.{one_above, one_asked, one_entry,
 module _ (a : Asking) where
   -- ---- what keeps a zone from being trusted, or an RRset from being signed
 
-  pub one_trust_line : (each : Told) (x y : Line) → IsTrustLine a each x → IsTrustLine a each y → x ≡ y
+  pub one_trust_line : (each : Told) (x y : Line) → IsTrustLine a.basis a.name each x → IsTrustLine a.basis a.name each y → x ≡ y
   one_trust_line (told.Zone why n) x y p q =
       p.2 ∙ ap (λ (zone : Labels). line.Reason (reason.Zone (record { why = why; zone = zone }))) (one_above a.name n p.0 q.0 p.1 q.1)
       ∙ sym q.2

@@ -31,7 +31,7 @@ use Rattle.dnsv_gaps.specs.Sources.{AreSources}
 use Rattle.dnsv_remedies.specs.declared.facts.name.AskedName.{AskedName}
 use Rattle.dnsv_remedies.specs.declared.facts.name.AskedName.TheVariants.{At, Wildcard}
 use Rattle.dnsv_remedies.specs.declared.facts.name.SourceNumber.{SourceNumber}
-use Rattle.dnsv_reasons.specs.Places.{IsAbove, IsAnchorEntry, IsEntry, IsKeyAt, IsPlaced, IsShown, anchor_entry, ds_entry, shown_of}
+use Rattle.dnsv_trust_reasons.specs.Places.{IsAbove, IsAnchorEntry, IsEntry, IsKeyAt, IsPlaced, IsShown, anchor_entry, ds_entry, shown_of}
 use Rattle.dnsv_reasons.specs.Sources.{IsAskedName, IsParametersOf, IsSource}
 use Rattle.dnsv_reasons.proofs.SourceLemmas.{one_list}
 

@@ -33,8 +33,8 @@ use Rattle.dnsv_lines.specs.declared.line.fault.zone.EntryNumber.TheVariants as 
 use Rattle.dnsv_lines.specs.declared.line.fault.zone.WhyEntry.{WhyEntry}
 use Rattle.dnsv_mending.specs.declared.told.Told.{Told}
 use Rattle.dnsv_mending.specs.declared.told.Told.TheVariants as told
-use Rattle.dnsv_reasons.specs.Lines.{IsTrustLine}
-use Rattle.dnsv_reasons.specs.Places.{IsEntry, IsKeyAt, IsPlaced, IsShown, anchor_digest, shown_of}
+use Rattle.dnsv_trust_reasons.specs.TrustLines.{IsTrustLine}
+use Rattle.dnsv_trust_reasons.specs.Places.{IsEntry, IsKeyAt, IsPlaced, IsShown, anchor_digest, shown_of}
 use Rattle.dnsv_chain.specs.Basis.{Basis}
 use Rattle.dnsv_true_reasons.specs.truth.Entries.{IsEntryTrue, wanted_digest}
 use Rattle.dnsv_true_reasons.specs.truth.Keys.{IsWithoutSignature, IsWithoutVoucher}
@@ -158,7 +158,7 @@ shown_true basis w n shown told is =
 
 -- ---- what is told
 
-pub trust_line : (a : Asking) (t : Told) → IsTold a.basis a.name t → (said : Line) → IsTrustLine a t said → IsLineTrue (IsReasonTrue a) said
+pub trust_line : (a : Asking) (t : Told) → IsTold a.basis a.name t → (said : Line) → IsTrustLine a.basis a.name t said → IsLineTrue (IsReasonTrue a) said
 trust_line a (told.Zone w n) is said line_is =
     subst (IsLineTrue (IsReasonTrue a)) (sym line_is.2) (subst (λ (zone : Labels). IsZoneTrue a.basis zone w) (sym line_is.1.is) is)
 trust_line a (told.Entry w n) is said line_is = subst (IsLineTrue (IsReasonTrue a)) (sym line_is.2)

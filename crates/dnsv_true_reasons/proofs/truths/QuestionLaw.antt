@@ -23,7 +23,8 @@ use Rattle.dnsv_mending.specs.declared.facts.zone.ZoneFacts.{ZoneFacts}
 use Rattle.dnsv_mending.specs.declared.told.Told.{Told}
 use Rattle.dnsv_mending.specs.declared.told.Told.TheVariants as told
 use Rattle.dnsv_reasons.specs.Failures.{AreFailures}
-use Rattle.dnsv_reasons.specs.Lines.{IsSaidLine, IsTrustLine}
+use Rattle.dnsv_reasons.specs.Lines.{IsSaidLine}
+use Rattle.dnsv_trust_reasons.specs.TrustLines.{IsTrustLine}
 use Rattle.dnsv_remedies.specs.Cuts as cuts
 use Rattle.dnsv_remedies.specs.Sources as sources
 use Rattle.dnsv_remedies.specs.declared.facts.cut.CutFacts.{CutFacts}
@@ -77,7 +78,7 @@ abbrev pub IsQuestionSaid : Asking → Said → Type 0
 IsQuestionSaid a s = (l : Line) → IsSaidLine a s l → IsLineTrue (IsQuestionTrue a) l
 
 -- what is told of zones and signatures is none of these
-trust_aside : (a : Asking) (t : Told) (l : Line) → IsTrustLine a t l → IsLineTrue (IsQuestionTrue a) l
+trust_aside : (a : Asking) (t : Told) (l : Line) → IsTrustLine a.basis a.name t l → IsLineTrue (IsQuestionTrue a) l
 trust_aside a (told.NotSelfSigned n) l of = subst (IsLineTrue (IsQuestionTrue a)) (sym of.4) tt
 trust_aside a t l of = subst (IsLineTrue (IsQuestionTrue a)) (sym of.2) tt
 

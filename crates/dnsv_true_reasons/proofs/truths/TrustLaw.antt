@@ -20,7 +20,8 @@ use Rattle.dnsv_mending.specs.Ways.{IsAmong}
 use Rattle.dnsv_mending.specs.declared.facts.zone.ZoneFacts.{ZoneFacts}
 use Rattle.dnsv_mending.specs.declared.told.Told.{Told}
 use Rattle.dnsv_reasons.specs.Failures.{AreFailures}
-use Rattle.dnsv_reasons.specs.Lines.{AreSaidLines, IsSaidLine, IsTrustLine}
+use Rattle.dnsv_reasons.specs.Lines.{AreSaidLines, IsSaidLine}
+use Rattle.dnsv_trust_reasons.specs.TrustLines.{IsTrustLine}
 use Rattle.dnsv_lines.specs.declared.line.fault.denial.WhySource.TheVariants as why
 use Rattle.dnsv_remedies.specs.Cuts as cuts
 use Rattle.dnsv_remedies.specs.Sources as sources
@@ -162,7 +163,7 @@ pub line_leads : (P R : Reason → Type 0) → ((r : Reason) → P r → R r) �
 line_leads P R leads (line.Reason reason) is = leads reason is
 line_leads P R leads l is = tt
 
-trust_told : (a : Asking) (t : Told) → IsTold a.basis a.name t → (l : Line) → IsTrustLine a t l → IsLineTrue (IsTrustTrue a) l
+trust_told : (a : Asking) (t : Told) → IsTold a.basis a.name t → (l : Line) → IsTrustLine a.basis a.name t l → IsLineTrue (IsTrustTrue a) l
 trust_told a t is l of = line_leads (IsReasonTrue a) (IsTrustTrue a) (trust_kinds a) l (trust_line a t is l of)
 
 trust_said : (a : Asking) (s : Said) → IsTrustSaid a s → (l : Line) → IsSaidLine a s l → IsLineTrue (IsTrustTrue a) l

@@ -43,8 +43,8 @@ use Rattle.dnsv_zone_faults.proofs.lemmas.zones.InPlaceLemmas.{at_or_above, in_p
 use Rattle.dnsv_zone_faults.proofs.lemmas.zones.TrustLemmas.{zip_left}
 use Rattle.dnsv_zone_faults.proofs.lemmas.zones.ZoneLemmas.{held_at}
 use Rattle.dnsv_gaps.specs.Asking.{Asking}
-use Rattle.dnsv_reasons.specs.Lines.{IsTrustLine}
-use Rattle.dnsv_reasons.specs.Places.{IsEntry, IsShown}
+use Rattle.dnsv_trust_reasons.specs.TrustLines.{IsTrustLine}
+use Rattle.dnsv_trust_reasons.specs.Places.{IsEntry, IsShown}
 use Rattle.dnsv_true_reasons.specs.Ends.{IsSaidOf, LeadsToKeys}
 use Rattle.dnsv_true_reasons.proofs.untrusted.Ending.{SaidIf}
 use Rattle.dnsv_true_reasons.proofs.untrusted.EndsRrsets.{AreDsBySigner}
@@ -55,7 +55,7 @@ use Rattle.dnsv_true_reasons.proofs.ZoneNames.{IsAnchorAt, anchor_at, numbered_w
 
 -- each line that says it is a reason that is said of the zone with so many labels
 abbrev pub SaidOf : Asking → ℕ → Told → Type 0
-SaidOf a n t = (found : Line) → IsTrustLine a t found → (reason : Reason) × (found ≡ line.Reason reason) × IsSaidOf reason (rightmost a.name n)
+SaidOf a n t = (found : Line) → IsTrustLine a.basis a.name t found → (reason : Reason) × (found ≡ line.Reason reason) × IsSaidOf reason (rightmost a.name n)
 
 -- the signature with the number is by the zone with so many labels
 abbrev pub By : Asking → SignatureNumber → ℕ → Type 0

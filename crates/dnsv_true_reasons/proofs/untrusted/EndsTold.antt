@@ -35,8 +35,9 @@ use Rattle.dnsv_zone_faults.proofs.lemmas.zones.MatchLemmas.{first_or_later}
 use Rattle.dnsv_canonical.proofs.NumberLemmas.{one_numbered}
 use Rattle.dnsv_gaps.specs.Asking.{Asking}
 use Rattle.dnsv_reasons.specs.Failures.{AreFailures}
-use Rattle.dnsv_reasons.specs.Lines.{AreSaidLines, IsSaidLine, IsTrustLine}
-use Rattle.dnsv_reasons.specs.Places.{IsShown}
+use Rattle.dnsv_reasons.specs.Lines.{AreSaidLines, IsSaidLine}
+use Rattle.dnsv_trust_reasons.specs.TrustLines.{IsTrustLine}
+use Rattle.dnsv_trust_reasons.specs.Places.{IsShown}
 use Rattle.dnsv_true_reasons.specs.Ends.{IsExplained}
 use Rattle.dnsv_true_reasons.proofs.untrusted.EndsFacts.{question_by}
 use Rattle.dnsv_true_reasons.proofs.untrusted.EndsNames.{By, SaidOf, ds_by_signer, says_of}
@@ -72,7 +73,7 @@ module _ (a : Asking) where
   told_line (x ∷ ts) lines t (inr (none, others)) all among = absurd (none all.0.0 all.0.1)
 
   -- a line that a signer isn't trusted says just that
-  trust_follows : (t : Told) (u : UntrustedSigner) → IsTrustLine a t (line.Follows u) → (k : SignatureNumber) × (t ≡ told.Follows k) × IsShown a.basis.rrsets k u.signature
+  trust_follows : (t : Told) (u : UntrustedSigner) → IsTrustLine a.basis a.name t (line.Follows u) → (k : SignatureNumber) × (t ≡ told.Follows k) × IsShown a.basis.rrsets k u.signature
   trust_follows (told.NotSelfSigned n) u by = absurd (let e = by.4 in cc e)
   trust_follows (told.Follows k) u by =
       let e = by.2 in

@@ -16,7 +16,7 @@ use Rattle.dnsv_lines.specs.declared.line.fault.zone.EntryFault.{EntryFault}
 use Rattle.dnsv_lines.specs.declared.line.fault.zone.EntryNumber.{EntryNumber}
 use Rattle.dnsv_lines.specs.declared.line.fault.zone.EntryNumber.TheVariants as number
 use Rattle.dnsv_lines.specs.declared.line.fault.zone.WhyEntry.TheVariants as why
-use Rattle.dnsv_reasons.specs.Places.{IsPlaced}
+use Rattle.dnsv_trust_reasons.specs.Places.{IsPlaced}
 use Rattle.dnsv_chain.specs.Basis.{Basis}
 use Rattle.dnsv_verifier.specs.Admissible.{DnskeyRecord}
 

@@ -23,7 +23,7 @@ use Rattle.dnsv_lines.specs.declared.line.fault.denial.DnameAbove.{DnameAbove}
 use Rattle.dnsv_lines.specs.declared.line.fault.denial.MissingAnswer.{MissingAnswer}
 use Rattle.dnsv_lines.specs.declared.line.fault.signature.CloserName.{CloserName}
 use Rattle.dnsv_lines.specs.declared.line.fault.zone.DsUnproved.{DsUnproved}
-use Rattle.dnsv_reasons.specs.Places.{shown_of}
+use Rattle.dnsv_trust_reasons.specs.Places.{shown_of}
 use Rattle.dnsv_verdict.specs.Insecure.{IsUnsignedFrom}
 use Rattle.dnsv_true_reasons.specs.truth.Sources.{IsCutName}
 

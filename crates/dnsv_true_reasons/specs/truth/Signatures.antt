@@ -13,7 +13,7 @@ use Rattle.dnsv_lines.specs.declared.line.fault.signature.SignatureFault.{Signat
 use Rattle.dnsv_lines.specs.declared.line.fault.signature.UnsignedRrset.{UnsignedRrset}
 use Rattle.dnsv_lines.specs.declared.line.fault.signature.WhySignature.{WhySignature}
 use Rattle.dnsv_lines.specs.declared.line.fault.signature.WhySignature.TheVariants as why
-use Rattle.dnsv_reasons.specs.Places.{shown_of}
+use Rattle.dnsv_trust_reasons.specs.Places.{shown_of}
 use Rattle.dnsv_chain.specs.Basis.{Basis}
 use Rattle.dnsv_verifier.specs.Admissible.{DnskeyRecord, IsGoodAmong, IsKeyAmong, MaySign, is_unexpanded}
 use Rattle.dnsv_verifier.specs.declared.answer.Answer.{Answer}

@@ -22,8 +22,9 @@ use Rattle.dnsv_line_laws.specs.Lower.{lower_line, lower_name}
 use Rattle.dnsv_mending.specs.declared.told.Told.{Told}
 use Rattle.dnsv_mending.specs.declared.told.Told.TheVariants as told
 use Rattle.dnsv_gaps.specs.Asking.{Asking}
-use Rattle.dnsv_reasons.specs.Lines.{IsDnameLine, IsSaidLine, IsTrustLine, IsZoneTold}
-use Rattle.dnsv_reasons.specs.Places.{IsAbove, IsEntry, IsShown}
+use Rattle.dnsv_reasons.specs.Lines.{IsDnameLine, IsSaidLine, IsZoneTold}
+use Rattle.dnsv_trust_reasons.specs.TrustLines.{IsTrustLine}
+use Rattle.dnsv_trust_reasons.specs.Places.{IsAbove, IsEntry, IsShown}
 use Rattle.dnsv_reasons.specs.Sources.{IsAskedName}
 use Rattle.dnsv_remedies.specs.declared.facts.name.AskedName.{AskedName}
 use Rattle.dnsv_remedies.specs.declared.facts.name.AskedName.TheVariants.{At, Wildcard}
@@ -126,7 +127,7 @@ entry_number rrsets anchors (number.Anchor a) entry is = ap (λ (each : Entry). 
 entry_number rrsets anchors (number.Ds n) entry is = ap (λ (each : Entry). each.number) is.is
 
 module _ (a : Asking) where
-  trust_read : (each : Told) (x : Line) → IsTrustLine a each x → read (lower_line x) ≡ said.Trust (read_trust each)
+  trust_read : (each : Told) (x : Line) → IsTrustLine a.basis a.name each x → read (lower_line x) ≡ said.Trust (read_trust each)
   trust_read (told.Zone why n) x is =
       ap (λ (l : Line). read (lower_line l)) is.2 ∙ ap (λ (k : ℕ). said.Trust (told.Zone why k)) (above_count a.name n is.0 is.1)
   trust_read (told.Entry why n) x is =

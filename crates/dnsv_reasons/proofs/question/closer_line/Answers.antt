@@ -1,7 +1,7 @@
 use Rattle.std.proofs.Common.{List, subst, sym}
 use Rattle.std.proofs.lemmas.Option.{MatchOption-at_none}
 use Rattle.dnsv_canonical.specs.Rrsets.{ReceivedRrset}
-use Rattle.dnsv_reasons.specs.Places.{IsShown}
+use Rattle.dnsv_trust_reasons.specs.Places.{IsShown}
 use Rattle.dnsv_reasons.proofs.question.closer_line.Goals as goal
 
 pub returns-in_default-2 : goal.returns-in_default-2

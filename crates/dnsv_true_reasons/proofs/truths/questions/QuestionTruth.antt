@@ -39,7 +39,7 @@ use Rattle.dnsv_lines.specs.declared.line.fault.signature.ShownSignature.{ShownS
 use Rattle.dnsv_mending.specs.Mend.{is_none}
 use Rattle.dnsv_mending.specs.Ways.{IsAmong}
 use Rattle.dnsv_reasons.specs.Lines.{IsSaidLine}
-use Rattle.dnsv_reasons.specs.Places.{shown_of}
+use Rattle.dnsv_trust_reasons.specs.Places.{shown_of}
 use Rattle.dnsv_remedies.specs.declared.facts.answer.AnswerSignature.{AnswerSignature}
 use Rattle.dnsv_remedies.specs.declared.facts.answer.CloserFacts.{CloserFacts}
 use Rattle.dnsv_remedies.specs.declared.facts.answer.GoalFacts.{GoalFacts}

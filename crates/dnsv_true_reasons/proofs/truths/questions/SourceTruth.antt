@@ -21,7 +21,7 @@ use Rattle.dnsv_lines.specs.declared.line.denial.Role.TheVariants as role
 use Rattle.dnsv_lines.specs.declared.line.fault.denial.WhySource.{WhySource}
 use Rattle.dnsv_lines.specs.declared.line.fault.denial.WhySource.TheVariants as why
 use Rattle.dnsv_reasons.specs.Lines.{IsSaidLine}
-use Rattle.dnsv_reasons.specs.Places.{IsAbove}
+use Rattle.dnsv_trust_reasons.specs.Places.{IsAbove}
 use Rattle.dnsv_reasons.specs.Sources.{IsAskedName, IsParametersOf}
 use Rattle.dnsv_remedies.specs.declared.facts.denial.ClosedFacts.{ClosedFacts}
 use Rattle.dnsv_remedies.specs.declared.facts.denial.RecordsAt.{RecordsAt}
