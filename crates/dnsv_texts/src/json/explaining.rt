@@ -9,7 +9,7 @@ use dnsv_lines::{Line, push_comma, push_line};
 use std::alloc::AllocError;
 
 /// Adds a member with the lines that say why, where there are such.
-#[tactic(auto, using(crate::proofs::ObjectLemmas::nothing_written))]
+#[tactic(auto, using(dnsv_evidence_texts::proofs::ObjectLemmas::nothing_written))]
 pub fn push_why(
     text: &mut String,
     why: Option<&[Line]>,
