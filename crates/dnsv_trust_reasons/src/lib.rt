@@ -4,12 +4,12 @@
 //! What is told is what `dnsv_mending` finds. `dnsv_reasons` tells besides what keeps a question from being answered.
 #![tactic(auto)]
 
-pub use above::above;
+pub use labels::above;
 pub use signature::shown;
 pub use trust::trust_line;
 
-mod above;
 mod entry;
 mod key;
+mod labels;
 mod signature;
 mod trust;

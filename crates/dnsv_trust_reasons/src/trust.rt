@@ -7,9 +7,9 @@ ghost use Rattle.dnsv_chain.specs.Basis.{Basis, basis_by};
 ghost use Rattle.dnsv_names.specs.Name.{Labels};
 ghost use Rattle.dnsv_trust_reasons.specs.TrustLines.{IsTrustLine};
 
-use crate::above::above;
 use crate::entry::entry;
 use crate::key::key_at;
+use crate::labels::above;
 use crate::signature::shown;
 use dnsv_canonical::{RecordNumber, SignatureNumber};
 use dnsv_faults::CaseFacts;
