@@ -1,4 +1,11 @@
+use Rattle.std.proofs.Common.{ap, ◌∙◌, subst}
+use Rattle.std.specs.Prelude.{IfOk}
+use Rattle.dnsv_derivations.specs.Explained.{Explained, setting_in}
+use Rattle.dnsv_derivations.specs.derivations.WaySearch.{AreFirstWays}
+use Rattle.dnsv_holding.specs.Explained.{explained_by}
 use Rattle.dnsv_holding.proofs.deriver.hoped_ways.Goals as goal
 
 pub returns : goal.returns
-returns c = rw c.as_ref.ensures at (rw c.evidence_of-evidence.ensures at c.first_ways.ensures)
+returns c =
+    subst (λ (evidence : Explained). IfOk c.first_ways.result (λ ways. AreFirstWays (setting_in evidence) ways.items))
+    (c.evidence_of-evidence.ensures ∙ ap (λ case. explained_by case c.args.unknown.now) c.as_ref.ensures) c.first_ways.ensures
