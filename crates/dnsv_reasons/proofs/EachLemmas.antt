@@ -1,5 +1,5 @@
 -- Lists each of whose elements has a number.
-use Rattle.std.proofs.Common.{◌≡◌, ◌+◌, ℕ, zero, suc, List, [], ◌∷◌, ◌++◌, Some, ◌<◌, get_or, length, refl, sym, ap, subst, arith}
+use Rattle.std.proofs.Common.{◌≡◌, ◌+◌, ℕ, zero, suc, List, [], ◌∷◌, ◌++◌, Some, ◌<◌, get_or, length, refl, ap, subst, arith}
 use Rattle.std.specs.List.{slice_get}
 use Rattle.dnsv_reasons.specs.SourceSearch.{EachFrom}
 

@@ -3,7 +3,7 @@ use Rattle.std.proofs.Common.{◌≡◌, ◌∙◌, ◌⊎◌, inl, inr, ⊎_eli
 use Rattle.std.specs.Prelude.{◌↔◌, Contains, slice_get}
 use Rattle.std.specs.List.{AllByRecursion, AllZip}
 use Rattle.std.specs.List.Sorted.{IsStrictlyIncreasing}
-use Rattle.dnsv_canonical.proofs.CanonicalLemmas.{IsMember, Contains-from_member, IsMember-from_contains}
+use Rattle.dnsv_canonical.proofs.CanonicalLemmas.{IsMember, IsMember-from_contains}
 use Rattle.dnsv_denial.proofs.lemmas.RisingLemmas.{one_rising}
 use Rattle.dnsv_zone_keys.specs.Vouchers.{IsFirstOf}
 

@@ -9,18 +9,7 @@ use Rattle.dnsv_remedies.specs.declared.facts.cut.ParentFacts.{ParentFacts}
 use Rattle.dnsv_gaps.specs.Asking.{Asking}
 use Rattle.dnsv_gaps.specs.Sources.{source_said}
 use Rattle.dnsv_gaps.specs.Unusable.{AreUnusable}
-use Rattle.dnsv_gaps.specs.questions.Cuts.{
-  AreCutFacts,
-  AreCutsBelow,
-  AreParentFacts,
-  AreParents,
-  HasOptOut,
-  IsCutSource,
-  IsNext,
-  IsParent,
-  IsShown,
-  lowest_cut,
-}
+use Rattle.dnsv_gaps.specs.questions.Cuts.{AreCutFacts, AreCutsBelow, AreParentFacts, AreParents, HasOptOut, IsCutSource, IsNext, IsParent, IsShown, lowest_cut}
 use Rattle.dnsv_remedy_laws.specs.AlikeQuestions.{AreAlikeCuts, AreAlikeCutSources, AreAlikeParents}
 use Rattle.dnsv_reasons.proofs.lemmas.facts.ListLemmas.{alike_zip, one_test}
 use Rattle.dnsv_reasons.proofs.lemmas.questions.CutCaseLemmas.{one_cut_case}

@@ -7,7 +7,6 @@ use Rattle.dnsv_denial.proofs.lemmas.proving.ZoneChainLemmas.{unmapped_at}
 use Rattle.dnsv_gaps.specs.Asking.{asking}
 use Rattle.dnsv_gaps.specs.Sources.{AreSources}
 use Rattle.dnsv_reasons.specs.SourceSearch.{AreNamed, chain_named}
-use Rattle.dnsv_reasons.specs.declared.sources.NamedSource.{NamedSource}
 use Rattle.dnsv_reasons.proofs.EachLemmas.{at_place, each_placed}
 use Rattle.dnsv_reasons.proofs.SourceLemmas.{one_list}
 use Rattle.dnsv_reasons.proofs.sources.source.Goals as goal
