@@ -1,11 +1,7 @@
 //! What is printed for a line of the input.
 
-use crate::canonical::again;
-use crate::message::signed;
-use crate::row::{Row, RowError};
-use crate::{
-    canonical, chain, denial, digest, message, names, questions, records, verdict, verifier,
-};
+use crate::{chain, denial, verdict, verifier};
+use dnsv_row_text::{Row, RowError};
 use std::alloc::AllocError;
 
 /// What is printed for the line: a title as it stands, what a library answers to a row, and nothing for comments, empty
@@ -40,33 +36,10 @@ fn text_of(
 
 /// What the library that has the call answers.
 fn answer(row: &Row) -> Result<Option<String>, RowError> {
-    if let Some(text) = names::answer(row)? {
+    if let Some(text) = dnsv_message_rows::answer(row)? {
         return Ok(Some(text));
     }
-    if let Some(text) = message::answer(row)? {
-        return Ok(Some(text));
-    }
-    if let Some(text) = digest::answer(row)? {
-        return Ok(Some(text));
-    }
-    if let Some(text) = signed::answer(row)? {
-        return Ok(Some(text));
-    }
-    if let Some(text) = records::answer(row)? {
-        return Ok(Some(text));
-    }
-    answer_above(row)
-}
-
-/// The same of the libraries that stand on `dnsv_records`.
-fn answer_above(row: &Row) -> Result<Option<String>, RowError> {
-    if let Some(text) = again::answer(row)? {
-        return Ok(Some(text));
-    }
-    if let Some(text) = canonical::answer(row)? {
-        return Ok(Some(text));
-    }
-    if let Some(text) = questions::answer(row)? {
+    if let Some(text) = dnsv_record_rows::answer(row)? {
         return Ok(Some(text));
     }
     if let Some(text) = verifier::answer(row)? {

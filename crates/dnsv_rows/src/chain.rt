@@ -1,7 +1,7 @@
 //! Calls of `dnsv_chain`.
 
-use crate::row::{Row, RowError};
 pub use anchors::trust_anchors;
+use dnsv_row_text::{Row, RowError};
 pub use trust::trust_in;
 
 mod anchors;

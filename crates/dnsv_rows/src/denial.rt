@@ -8,14 +8,14 @@ mod evidence;
 mod places;
 
 use crate::chain::trust_in;
-use crate::evidence::capture_or_refusal;
-use crate::row::{Row, RowError, printed};
 use bumpalo::Bump;
 use dnsv_canonical::Capture;
 use dnsv_chain::Trust;
 use dnsv_denial::{Proof, View};
 use dnsv_names::{Count, Name, RecordType};
 use dnsv_proof_forms::Hashes;
+use dnsv_record_rows::capture_or_refusal;
+use dnsv_row_text::{Row, RowError, none_text};
 use evidence::{Evidence, evidence_in};
 use std::alloc::Global;
 
@@ -178,7 +178,7 @@ fn kept_hash(row: &Row, hashes: &Hashes<'_>) -> Result<String, RowError> {
     let other = row.name(4)?;
     match hashes.get(iterations, salt.as_slice(), &other) {
         Some(hash) => Ok(hex::encode(row.alloc(), hash.octets().as_slice())?),
-        None => Ok(printed::none(row.alloc())?),
+        None => Ok(none_text(row.alloc())?),
     }
 }
 

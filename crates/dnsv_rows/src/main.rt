@@ -2,20 +2,13 @@
 #![tactic(auto)]
 
 mod answers;
-mod canonical;
 mod chain;
 mod denial;
-mod digest;
 mod evidence;
-mod message;
-mod names;
-mod questions;
-mod records;
-mod row;
 mod verdict;
 mod verifier;
 
-use row::Row;
+use dnsv_row_text::Row;
 use std::io;
 use std::io::{BufRead, BufReader, BufWriter, Write};
 

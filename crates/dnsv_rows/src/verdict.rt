@@ -1,15 +1,15 @@
 //! Calls of `dnsv_verdict`.
 
 use crate::chain::trust_anchors;
-use crate::evidence;
 use crate::evidence::verifying::ByFirstOctet;
-use crate::row::{Row, RowError, printed};
 use crate::verifier::statements_of;
 use bumpalo::Bump;
 use dnsv_canonical::Capture;
 use dnsv_chain::Anchors;
 use dnsv_denial::Proof;
 use dnsv_names::{Name, RecordType};
+use dnsv_record_rows::capture;
+use dnsv_row_text::{Row, RowError, octets_text};
 use dnsv_verdict::{Case, Link, OpenCase, Report, Verdict, VerdictError, validate};
 use dnsv_verifier::{Entries, Panel, Verifier};
 use std::alloc::Global;
@@ -34,7 +34,7 @@ pub fn answer(row: &Row) -> Result<Option<String>, RowError> {
 fn validated<V: Verifier>(row: &Row, verifier: &V) -> Result<String, RowError> {
     let alloc = row.alloc();
     let bump = Bump::new(row.alloc());
-    let capture = evidence::capture(row, 0, &bump)?;
+    let capture = capture(row, 0, &bump)?;
     let anchors = trust_anchors(row, 1, &bump)?;
     let (moment, name) = (row.number(2)?, row.name(3)?);
     let rtype = record_type(row, 4)?;
@@ -84,7 +84,7 @@ fn validated_together(row: &Row) -> Result<String, RowError> {
 /// tells the same of them one after another, all of them so many times; else what the case told.
 fn validated_in_turn(row: &Row) -> Result<String, RowError> {
     let bump = Bump::new(row.alloc());
-    let capture = evidence::capture(row, 0, &bump)?;
+    let capture = capture(row, 0, &bump)?;
     let anchors = trust_anchors(row, 1, &bump)?;
     told_in_turn(row, &bump, &capture, &anchors)
 }
@@ -225,7 +225,7 @@ fn with_records(alloc: Global, word: &str, proof: &Proof) -> Result<String, RowE
 fn with_signatures(alloc: Global, entries: &Entries<'_>) -> Result<String, RowError> {
     let mut text = String::from_str(alloc, "Pending")?;
     for place in 0..entries.len() {
-        let signature = printed::octets(alloc, entries.at(place).signature.as_slice())?;
+        let signature = octets_text(alloc, entries.at(place).signature.as_slice())?;
         text = format!(in alloc; "{text} {signature}")?;
     }
     Ok(text)

@@ -1,12 +1,12 @@
 //! Calls of `dnsv_verifier`.
 
-use crate::evidence;
-use crate::evidence::capture;
-use crate::row::{Row, RowError, printed};
+use crate::evidence::dnskey_of;
 use bumpalo::Bump;
 use dnsv_canonical::{Capture, Rrset};
 use dnsv_names::Count;
+use dnsv_record_rows::{capture, signature};
 use dnsv_records::{Algorithm, Octets};
+use dnsv_row_text::{Row, RowError, list_text, octets_text};
 use dnsv_statements::{Statements, StatementsError};
 use dnsv_timeline::Range;
 use dnsv_verifier::{
@@ -111,17 +111,17 @@ fn unknown_in(alloc: Global, table: &Table<'_>) -> Result<String, RowError> {
     for place in 0..unknown.len() {
         texts.push(text_of(alloc, &unknown.at(place))?)?;
     }
-    printed::list(alloc, texts.as_slice())
+    list_text(alloc, texts.as_slice())
 }
 
 fn text_of(alloc: Global, entry: &Entry<'_>) -> Result<String, RowError> {
     let algorithm = entry.algorithm.0;
-    let key = printed::octets(alloc, entry.key.as_slice())?;
+    let key = octets_text(alloc, entry.key.as_slice())?;
     let (front, records) = entry.signed_data.pieces();
     let mut octets = Vec::from_slice(alloc, front)?;
     octets.extend_from_slice(records)?;
-    let signed_data = printed::octets(alloc, octets.as_slice())?;
-    let signature = printed::octets(alloc, entry.signature.as_slice())?;
+    let signed_data = octets_text(alloc, octets.as_slice())?;
+    let signature = octets_text(alloc, entry.signature.as_slice())?;
     Ok(format!(in alloc; "{algorithm}:{key}:{signed_data}:{signature}")?)
 }
 
@@ -176,11 +176,11 @@ fn admissible(row: &Row) -> Result<String, RowError> {
 
 fn admissible_in(row: &Row, capture: &Capture<'_>) -> Result<String, RowError> {
     let moment = row.number(1)?;
-    let rrset = evidence::rrset(row, 2, capture)?;
-    let rrsig = evidence::signature(row, 3, rrset)?;
-    let set = evidence::rrset(row, 4, capture)?;
+    let rrset = dnsv_record_rows::rrset(row, 2, capture)?;
+    let rrsig = signature(row, 3, rrset)?;
+    let set = dnsv_record_rows::rrset(row, 4, capture)?;
     let rdata = key_rdata(row, 5, set)?;
-    let dnskey = evidence::dnskey_of(rdata)?;
+    let dnskey = dnskey_of(rdata)?;
     let key = KeyRecord::new(set.owner(), rdata, &dnskey);
     let admissible = is_admissible(moment, rrset, rrsig, &key);
     let (verifiable, made) = (

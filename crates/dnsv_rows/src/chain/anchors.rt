@@ -1,10 +1,10 @@
 //! Files of trust anchors, and the keys that they match.
 
 use crate::evidence::dnskey_of;
-use crate::row::{Row, RowError, printed};
 use bumpalo::Bump;
 use dnsv_chain::{Anchor, Anchors, AnchorsError};
 use dnsv_names::Name;
+use dnsv_row_text::{Row, RowError, list_text, octets_text};
 use dnsv_verifier::KeyRecord;
 use std::alloc::Global;
 
@@ -51,18 +51,18 @@ fn anchor_list(row: &Row) -> Result<String, RowError> {
     for anchor in trust_anchors(row, 0, &bump)?.as_slice() {
         texts.push(anchor_text(row.alloc(), anchor)?)?;
     }
-    printed::list(row.alloc(), texts.as_slice())
+    list_text(row.alloc(), texts.as_slice())
 }
 
 fn anchor_text(alloc: Global, anchor: &Anchor<'_>) -> Result<String, RowError> {
     Ok(match anchor {
         Anchor::Ds { owner, ds } => {
             let (tag, algorithm, digest_type) = (ds.key_tag.0, ds.algorithm.0, ds.digest_type.0);
-            let digest = printed::octets(alloc, ds.digest.as_slice())?;
+            let digest = octets_text(alloc, ds.digest.as_slice())?;
             format!(in alloc; "DS:{owner}:{tag}:{algorithm}:{digest_type}:{digest}")?
         }
         Anchor::Key { owner, rdata } => {
-            let rdata = printed::octets(alloc, rdata.as_slice())?;
+            let rdata = octets_text(alloc, rdata.as_slice())?;
             format!(in alloc; "KEY:{owner}:{rdata}")?
         }
     })

@@ -1,9 +1,9 @@
 //! Which DS records of an RRset count, and the keys that they match.
 
 use crate::evidence::dnskey_of;
-use crate::row::{Row, RowError, printed};
 use dnsv_chain::{has_usable, has_usable_match, is_match, is_usable};
 use dnsv_records::Ds;
+use dnsv_row_text::{Row, RowError, list_text};
 use dnsv_verifier::KeyRecord;
 use std::alloc::Global;
 
@@ -36,7 +36,7 @@ fn usable(row: &Row) -> Result<String, RowError> {
             numbers.push(format!(in alloc; "{number}")?)?;
         }
     }
-    printed::list(alloc, numbers.as_slice())
+    list_text(alloc, numbers.as_slice())
 }
 
 /// `has-usable-ds RDATA..`: whether some record of the DS RRset counts.
@@ -59,7 +59,7 @@ fn matched(row: &Row) -> Result<String, RowError> {
         let is_matched = is_match(&owner, ds, &key);
         texts.push(format!(in alloc; "{is_matched}")?)?;
     }
-    printed::list(alloc, texts.as_slice())
+    list_text(alloc, texts.as_slice())
 }
 
 /// `has-usable-match OWNER KEY RDATA..`: whether a record of the owner's DS RRset that counts matches the owner's

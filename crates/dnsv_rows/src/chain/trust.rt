@@ -1,13 +1,13 @@
 //! What is trusted in a capture, where `ByFirstOctet` verifies.
 
 use super::anchors::trust_anchors;
-use crate::evidence;
 use crate::evidence::verifying::ByFirstOctet;
-use crate::row::{Row, RowError, printed};
 use bumpalo::Bump;
 use dnsv_canonical::Capture;
 use dnsv_chain::{Anchors, Trust, trusted};
 use dnsv_names::Count;
+use dnsv_record_rows::capture;
+use dnsv_row_text::{Row, RowError, list_text, octets_text};
 use dnsv_verifier::ask_all;
 use std::alloc::Global;
 
@@ -28,7 +28,7 @@ pub fn answer(row: &Row) -> Result<Option<String>, RowError> {
 /// `trusted CAPTURE ANCHORS MOMENT`: of each RRset the numbers of its good signatures, parted by `,`.
 fn good_signatures(row: &Row) -> Result<String, RowError> {
     let bump = Bump::new(row.alloc());
-    let capture = evidence::capture(row, 0, &bump)?;
+    let capture = capture(row, 0, &bump)?;
     good_signatures_in(row, &bump, &capture)
 }
 
@@ -39,13 +39,13 @@ fn good_signatures_in(row: &Row, bump: &Bump, capture: &Capture<'_>) -> Result<S
     for before in 0..capture.rrsets().len() {
         texts.push(numbers(alloc, trust.signed(before.saturating_add(1)))?)?;
     }
-    printed::list(alloc, texts.as_slice())
+    list_text(alloc, texts.as_slice())
 }
 
 /// `trusted-rrset CAPTURE ANCHORS MOMENT RRSET`: the same of the RRset with the number alone.
 fn good_signatures_of(row: &Row) -> Result<String, RowError> {
     let bump = Bump::new(row.alloc());
-    let capture = evidence::capture(row, 0, &bump)?;
+    let capture = capture(row, 0, &bump)?;
     good_signatures_of_in(row, &bump, &capture)
 }
 
@@ -64,7 +64,7 @@ fn good_signatures_of_in(
 /// `trusted-keys CAPTURE ANCHORS MOMENT ZONE`: the trusted keys of the zone, `FLAGS:PROTOCOL:ALGORITHM:KEY`.
 fn keys(row: &Row) -> Result<String, RowError> {
     let bump = Bump::new(row.alloc());
-    let capture = evidence::capture(row, 0, &bump)?;
+    let capture = capture(row, 0, &bump)?;
     keys_in(row, &bump, &capture)
 }
 
@@ -74,10 +74,10 @@ fn keys_in(row: &Row, bump: &Bump, capture: &Capture<'_>) -> Result<String, RowE
     let mut texts = Vec::new(alloc);
     for key in trust.keys(&row.name(3)?) {
         let (flags, protocol, algorithm) = (key.flags.0, key.protocol, key.algorithm.0);
-        let octets = printed::octets(alloc, key.key.as_slice())?;
+        let octets = octets_text(alloc, key.key.as_slice())?;
         texts.push(format!(in alloc; "{flags}:{protocol}:{algorithm}:{octets}")?)?;
     }
-    printed::list(alloc, texts.as_slice())
+    list_text(alloc, texts.as_slice())
 }
 
 /// The trust in the capture by the anchors of the argument with so many before it, at the moment that the third one is. What

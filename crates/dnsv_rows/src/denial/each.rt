@@ -2,12 +2,12 @@
 
 use super::evidence::evidence_in;
 use crate::denial::{rtype_of, view_through};
-use crate::evidence::capture_or_refusal;
-use crate::row::{Row, RowError};
 use bumpalo::Bump;
 use dnsv_canonical::Capture;
 use dnsv_denial::View;
 use dnsv_names::Name;
+use dnsv_record_rows::capture_or_refusal;
+use dnsv_row_text::{Row, RowError};
 use std::alloc::{AllocError, Global};
 
 /// `lacks CAPTURE ANCHORS MOMENT TYPES NAME..`: for each name, parted by `/`: `+` where it is proved that there is no

@@ -4,11 +4,11 @@ ghost use Rattle.dnsv_chain.specs.Trust.{SecuredIn};
 ghost use Rattle.dnsv_denial.specs.gathering.ByZone.{AreDenialRecords};
 
 use crate::chain::trust_in;
-use crate::row::{Row, RowError};
 use bumpalo::Bump;
 use dnsv_canonical::Capture;
 use dnsv_chain::Trust;
 use dnsv_denial::DenialRecords;
+use dnsv_row_text::{Row, RowError};
 
 /// A capture, what is trusted in it, and the records of denials that zones secured.
 #[derive(Drop)]

@@ -3,8 +3,6 @@
 ghost use Rattle.dnsv_proof_forms.specs.words.ChainSaid.{HasHashes};
 
 use crate::denial::rtype_of;
-use crate::evidence::capture_or_refusal;
-use crate::row::{Row, RowError};
 use bumpalo::Bump;
 use dnsv_canonical::{Capture, RecordNumber, Rrset};
 use dnsv_names::{Count, Hash20, Name};
@@ -12,7 +10,9 @@ use dnsv_proof_forms::{
     ChainRecords, HashedRecords, Nsec3Entries, Nsec3Entry, NsecEntry, Places, no_closer, no_data,
     no_name, opt_out, opts_out_next_closer, unsigned_delegation,
 };
+use dnsv_record_rows::capture_or_refusal;
 use dnsv_records::base32hex_read;
+use dnsv_row_text::{Row, RowError};
 use dnsv_zones::hash_names;
 use std::alloc::Global;
 
