@@ -126,7 +126,8 @@ install: | $(program)
 # The library for C, as an archive and a shared library; docs/LIBRARY.md says how it is used. What it does is proved and built
 # by the kit, where a crate changed since; what leads to it from C is library/calls.c.
 calls = crates/dnssec_check_c/out/libdnssec_check_c.a
-proved = $(shell find crates -name out -prune -o -path crates/dnsv_rows -prune -o -path crates/dnssec_check -prune -o \
+beside = dnssec_check dnsv_rows dnsv_record_rows dnsv_message_rows dnsv_row_text
+proved = $(shell find crates -name out -prune $(beside:%=-o -path crates/% -prune) -o \
 	'(' -name '*.rt' -o -name '*.antt' ')' -print 2> /dev/null)
 kit = $(dir $(shell rt doc))
 of_version = tools/$(package)/command.py

@@ -8,6 +8,7 @@ from tool import TOOLS
 CRATES = TOOLS.parent / "crates"
 # However it is spelled: `Default::default()` may stand wherever a count is wanted, and so may what `mem::take` leaves.
 BEGINS = re.compile(r"\bCount(?:>|\s+as\s+Default>)?::(?:new|default)\b|\bDefault::default\b|\bmem::take\b")
+ROWS = {"dnsv_message_rows", "dnsv_record_rows", "dnsv_rows"}
 # Where counts are begun, how many, and why.
 NAMED = {
     "dnsv_answers/src/answered.rt": 1,  # answers of a file are put beside entries, and no verifier is asked
@@ -22,7 +23,7 @@ NAMED = {
 
 def sources():
     """The files of the libraries and of the program, but for their tests. Rows begin counts as they like."""
-    files = (file for file in CRATES.glob("*/src/**/*.rt") if "dnsv_rows" not in file.parts)
+    files = (file for file in CRATES.glob("*/src/**/*.rt") if not ROWS.intersection(file.parts))
     return [file for file in files if file.stem != "tests" and "tests" not in file.parts]
 
 
