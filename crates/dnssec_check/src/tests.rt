@@ -14,25 +14,17 @@ use std::alloc::Global;
 use std::process::Abort;
 use std::test::Fail;
 
-mod answered;
 mod asking;
-mod captures;
-mod checking;
-mod command_line;
-mod compact;
 mod desk;
-mod explaining;
-mod key_files;
-mod listing;
-mod misuse;
 mod names;
-mod questions;
-mod showing;
-mod signed;
+mod rows;
 mod streams;
 mod system;
-mod timelines;
 
+use rows::{
+    answered, captures, checking, command_line, compact, explaining, key_files, listing, misuse,
+    questions, showing, signed, timelines,
+};
 use system::{File, Page, System};
 
 #[test]
