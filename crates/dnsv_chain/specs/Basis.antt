@@ -35,7 +35,7 @@ with_meaning basis meaning = basis_of basis.rrsets basis.anchors basis.moment me
 abbrev pub hopeful : Basis → Basis
 hopeful basis = with_meaning basis (λ entry. hoped_answer (basis.meaning entry))
 
--- a trust anchor is at or above the name (RFC 4035 4.3)
+-- a trust anchor is at or above the name (RFC 4033 5)
 abbrev pub HasAnchor : List Anchor → Labels → Type 0
 HasAnchor anchors name = (anchor : Anchor) × Contains anchors anchor × IsAtOrBelow name (anchor_owner anchor)
 

@@ -34,7 +34,7 @@ pub record AreUnknown (basis : Basis) (entries : List Entry) : Type 0 where
   pub members : (entry : Entry) → Contains entries entry
       ↔ (IsAsked basis.moment basis.rrsets entry × (basis.meaning entry ≡ Unknown))
 
--- 7: there is a trust anchor at or above the name, as `HasAnchor` says (RFC 4035 4.3). 8: there is none.
+-- 7: there is a trust anchor at or above the name, as `HasAnchor` says (RFC 4033 5). 8: there is none.
 
 -- ---- the verdict
 

@@ -18,8 +18,8 @@ pub enum Verdict<'b> {
     Insecure(Name),
     /// It depends on signatures that the verifier doesn't know. These are all that it was asked and doesn't know.
     Pending(Entries<'b>),
-    /// A trust anchor is at or above the name, and nothing is proved (RFC 4035 4.3).
+    /// A trust anchor is at or above the name, and nothing is proved (RFC 4033 5).
     Bogus,
-    /// No trust anchor is at or above the name (RFC 4035 4.3).
+    /// No trust anchor is at or above the name (RFC 4033 5).
     Indeterminate,
 }
