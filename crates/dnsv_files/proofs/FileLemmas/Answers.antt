@@ -7,7 +7,7 @@ use Rattle.std.specs.Prelude.{IfErr, ⊤}
 use Rattle.sha2.specs.Sha256.{sha256}
 use Rattle.dnsv_message.specs.Streams.Frames.{IsCapture, IsFramed, frame}
 use Rattle.dnsv_canonical.specs.Rrsets.{ReceivedRrset}
-use Rattle.dnsv_answers.specs.AnswerFile.{AnswersContents, AreAnswersOf, AreMiscounted, AreOf, AreOfOther, BeginsWithHeading, IsFaultOf}
+use Rattle.dnsv_answers.specs.AnswerFile.{AnswersContents, AreAnswersOf, AreMiscounted, AreOf, AreOfOther, HasLineBehindHeading, IsFaultOf}
 use Rattle.dnsv_answers.specs.Answered.{IsNumberAskedWithin}
 use Rattle.dnsv_answers.specs.declared.error.AnswersError.{AnswersError}
 use Rattle.dnsv_answers.specs.declared.error.AnswersError.TheVariants as answers
@@ -72,14 +72,14 @@ refused_for P error found tells is = absurd tells
 -- what refuses the text is told, or memory was refused before it
 pub every_answers_fault : {T U : Type 0} (text : List ℕ) (error : AnswersError) (found : Fault) → IsAnswersFault error found
     → ((first : AnswersError) → IsFaultOf text first → Path (Result U AnswersError) (Err error) (Err first))
-    → TellsRefusals {T = T} (λ why place. (first : AnswersError) × IsFaultOf text first × TellsAnswersError first why place) (BeginsWithHeading text) (Err found)
+    → TellsRefusals {T = T} (λ why place. (first : AnswersError) × IsFaultOf text first × TellsAnswersError first why place) (HasLineBehindHeading text) (Err found)
 every_answers_fault text error found is every =
-    every_told (IsFaultOf text) TellsAnswersError (BeginsWithHeading text) answers.OutOfMemory error found (refused_as error found is)
+    every_told (IsFaultOf text) TellsAnswersError (HasLineBehindHeading text) answers.OutOfMemory error found (refused_as error found is)
     (λ same. subst (λ (e : AnswersError). IsAnswersFault e found) same is) (λ first bad. inl (every first bad))
 
--- memory is wanted only for a text that begins with a heading
-pub wanted_for_answers : {T : Type 0} (text : List ℕ) (error : AnswersError) (found : Fault) → IsAnswersFault error found → (error ≡ answers.OutOfMemory → BeginsWithHeading text)
-    → Path (Result T Fault) (Err found) (Err fault.OutOfMemory) → BeginsWithHeading text
+-- memory is wanted only where a line stands behind the heading
+pub wanted_for_answers : {T : Type 0} (text : List ℕ) (error : AnswersError) (found : Fault) → IsAnswersFault error found → (error ≡ answers.OutOfMemory → HasLineBehindHeading text)
+    → Path (Result T Fault) (Err found) (Err fault.OutOfMemory) → HasLineBehindHeading text
 wanted_for_answers text answers.OutOfMemory found tells begins is = begins refl
 wanted_for_answers text error found tells begins is = let same : found ≡ fault.OutOfMemory = cc in absurd (subst (IsAnswersFault error) same tells)
 
