@@ -25,6 +25,8 @@ impl FromText for Answers {
 
     ghost begins = { HasLineBehindHeading };
 
+    ghost waits = { λ _. ⊥ };
+
     fn from_text(alloc: Global, text: &[u8]) -> Result<Answers, Fault> {
         match Answers::parse(alloc, text) {
             Ok(answers) => Ok(answers),
