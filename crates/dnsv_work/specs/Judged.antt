@@ -17,7 +17,6 @@ use Rattle.dnsv_canonical.specs.Question.{Asked}
 use Rattle.dnsv_verdict.specs.VerdictError.{verdict_error_code}
 use Rattle.dnsv_verdict.specs.Way.{IsRefusal}
 use Rattle.dnsv_evidence_texts.specs.Refused.{refused_text}
-use Rattle.dnsv_files.specs.declared.status.Status.TheVariants.{Refused}
 
 -- the end of a run by the verdict
 abbrev pub verdict_status : Verdict → Status
@@ -39,5 +38,5 @@ verdict_fault error.AliasTargets = fault.Refused (refusal.Question error.AliasTa
 pub record IsRefusedOne (format : Format) (why : Bool) (basis : Basis) (asked : Asked) (end : Status) (text : List ℕ) : Type 0 where
   pub error : VerdictError
   pub refused : IsRefusal basis asked.name asked.rtype error
-  pub ends : end ≡ Refused
+  pub ends : end ≡ status.Refused
   pub line : text ≡ refused_text format (verdict_error_code error) why asked.name asked.rtype basis.moment (status_code end)

@@ -20,11 +20,9 @@ use Rattle.dnsv_questions.specs.declared.format.Format.{Format}
 use Rattle.dnsv_evidence_texts.specs.Compact.{compact_text}
 use Rattle.dnsv_evidence_texts.specs.Listing.{ListsRrsets, SignedOctets, listing_text}
 use Rattle.dnsv_evidence_texts.specs.Todo.{todo_text}
-use Rattle.std.specs.Prelude.{ℕ, List}
 use Rattle.dnsv_answers.specs.declared.heading.Moments.TheVariants.{At}
 use Rattle.dnsv_commands.specs.declared.request.Listing.{Listing}
 use Rattle.dnsv_commands.specs.declared.request.Listing.TheVariants as listing
-use Rattle.dnsv_files.specs.Files.{Files}
 
 -- the file holds messages, each of them evidence besides those before it, and the text lists their signatures
 abbrev pub IsListing : Format → ℕ → List ℕ → List ℕ → Type 0
