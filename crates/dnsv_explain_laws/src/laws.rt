@@ -2,9 +2,9 @@
 //!
 //! Each is a function that does nothing and ensures the law, which its caller learns.
 ghost use Rattle.std.specs.Prelude.{◌≡◌, ◌≤◌, ℕ, [], List, Some, Contains};
-ghost use Rattle.dnsv_names.specs.Name.{Labels};
+ghost use Rattle.dnsv_names.specs.Name.{Labels, SameName};
 ghost use Rattle.dnsv_canonical.specs.Rrsets.{IsNumbered, ReceivedRrset};
-ghost use Rattle.dnsv_chain.specs.Trusted.{IsSecured, IsTrusted};
+ghost use Rattle.dnsv_chain.specs.Trusted.{IsKeyOf, IsSecured, IsTrusted};
 ghost use Rattle.dnsv_denial.specs.gathering.EvidenceWords.{Chain};
 ghost use Rattle.dnsv_derivations.specs.Explained.{Explained, Setting};
 ghost use Rattle.dnsv_holding.specs.Explained.{basis_in};
@@ -16,6 +16,7 @@ ghost use Rattle.dnsv_verdict.specs.Way.{IsRefusedFor, IsVerdictOf};
 ghost use Rattle.dnsv_verdict.specs.declared.error.VerdictError.{VerdictError};
 ghost use Rattle.dnsv_verdict.specs.declared.link.Link.{Link};
 ghost use Rattle.dnsv_verdict.specs.declared.report.Report.{Report};
+ghost use Rattle.dnsv_verifier.specs.Admissible.{DnskeyRecord};
 ghost use Rattle.dnsv_verifier.specs.Table.{table_answer};
 ghost use Rattle.dnsv_verifier.specs.declared.entry.Entry.{Entry};
 ghost use Rattle.dnsv_explain_laws.specs.Aliases.{HaveOneTarget};
@@ -23,35 +24,46 @@ ghost use Rattle.dnsv_explain.specs.Explanation.{IsExplanation, IsExplanationOf}
 ghost use Rattle.dnsv_holding.specs.Holding.{IsUnproved, its_setting, told_kind};
 ghost use Rattle.dnsv_holding.specs.Marked.{AnswersMarked};
 ghost use Rattle.dnsv_reasons.specs.laws.Once.{AreOnce};
-ghost use Rattle.dnsv_derivations.specs.Following.{EachFollows};
+ghost use Rattle.dnsv_derivations.specs.Following.{EachFollows, IsNamed, IsPlaceOf};
 ghost use Rattle.dnsv_derivations.specs.Following.Cases.{IsCaseBy};
-ghost use Rattle.dnsv_derivations.specs.Following.Parts.{IsPartOf, IsUnusableRecord};
+ghost use Rattle.dnsv_derivations.specs.Following.Parts.{IsPartOf, IsUnusableRecord, IsZoneNamed};
 ghost use Rattle.dnsv_derivations.specs.intervals.Holding.{AreShownValidAt};
 ghost use Rattle.dnsv_derivations.specs.derivations.Ways.{HasSecured};
 
 use dnsv_chain::{more_evidence_takes_no_trust_away, trust_depends_on_what_is_asked};
 use dnsv_lines::{
-    Cut, Kind, Line, Part, Reason, ShownKey, SignedRrset, TrustedKeys, UntrustedSigner, UnusableDs,
+    Cut, Kind, Line, Part, Reason, RrsetPlace, ShownKey, SignedRrset, TrustedKeys, UntrustedSigner,
+    UnusableDs,
 };
 use dnsv_verdict::Verdict;
 use dnsv_verifier::Answer;
 
-/// Lines of which each follows from those before it are true: what they call trusted is trusted, and what they call
-/// signed is good under a trusted key of its signer, and valid at the moment; a part of a proof is what a record of the
-/// zone's chain says; a case is shown by records of the zone that it names, or by a DS RRset; and a record that they call unusable is one of a DS RRset that has a good signature. So the rules
-/// suffice to check a text line by line.
+/// Lines of which each follows from those before it are true: what they call trusted is trusted, at that zone and with a
+/// key so named; what they call signed is good under a trusted key of its signer, of that owner and type, and valid at the
+/// moment, and the zone and the key that they name for it are trusted; a part of a proof is what a record of a chain says,
+/// of a zone that a line names; a case is shown by records of the zone that it names, or by a DS RRset; a record that they
+/// call unusable is one of a DS RRset that has a good signature; and an RRset stands where they say. So the rules suffice to
+/// check a text line by line.
 pub fn lines_that_follow_are_true()
     ensures trusted { (setting : Setting) (lines : List Line) (keys : TrustedKeys) → EachFollows setting [] lines
         → Contains lines (Line.Trusted keys)
         → (set : ReceivedRrset) × IsNumbered setting.rrsets keys.signature.rrset set
-        × IsTrusted setting.meaning setting.moment setting.rrsets setting.anchors set }
+        × IsTrusted setting.meaning setting.moment setting.rrsets setting.anchors set × SameName set.owner keys.zone
+        × (key : DnskeyRecord) × IsKeyOf set key × IsNamed key keys.key }
     ensures signed { (setting : Setting) (lines : List Line) (signed : SignedRrset) → EachFollows setting [] lines
         → Contains lines (Line.Signed signed)
         → IsSecured setting.meaning setting.moment setting.rrsets setting.anchors signed.signature.rrset
-        signed.signature.signature }
+        signed.signature.signature
+        × (rrset : ReceivedRrset) × IsNumbered setting.rrsets signed.signature.rrset rrset
+        × SameName rrset.owner signed.owner × (signed.rtype.0 ≡ rrset.rtype) }
+    ensures keys { (setting : Setting) (lines : List Line) (signed : SignedRrset) → EachFollows setting [] lines
+        → Contains lines (Line.Signed signed)
+        → (set : ReceivedRrset) × IsNumbered setting.rrsets signed.keys set
+        × IsTrusted setting.meaning setting.moment setting.rrsets setting.anchors set × SameName set.owner signed.zone
+        × (key : DnskeyRecord) × IsKeyOf set key × IsNamed key signed.key }
     ensures part { (setting : Setting) (lines : List Line) (part : Part) → EachFollows setting [] lines
         → Contains lines (Line.Part part)
-        → (zone : Labels) × (chain : Chain)
+        → (zone : Labels) × (chain : Chain) × IsZoneNamed lines zone chain
         × IsPartOf (IsSecured setting.meaning setting.moment setting.rrsets setting.anchors) setting.rrsets zone chain part }
     ensures cases { (setting : Setting) (lines : List Line) (cut : Cut) → EachFollows setting [] lines
         → Contains lines (Line.Case cut)
@@ -60,12 +72,15 @@ pub fn lines_that_follow_are_true()
     ensures unusable { (setting : Setting) (lines : List Line) (unusable : UnusableDs) → EachFollows setting [] lines
         → Contains lines (Line.Unusable unusable)
         → IsUnusableRecord setting.rrsets unusable × HasSecured setting unusable.number.rrset }
+    ensures places { (setting : Setting) (lines : List Line) (place : RrsetPlace) → EachFollows setting [] lines
+        → Contains lines (Line.Rrset place) → IsPlaceOf setting.rrsets place }
     ensures valid { (setting : Setting) (lines : List Line) → EachFollows setting [] lines
         → AreShownValidAt setting.rrsets lines setting.moment }
 {}
 
 /// Each line of an explanation follows from those before it, so what it says is true; where the verdict needs more answers,
-/// with each entry valid that the verifier doesn't know.
+/// with each entry valid that the verifier doesn't know. Of `proof`, `hope`, `holds`, `reason`, `follows` and `key` lines
+/// this says nothing, nor of a `todo` number.
 pub fn explanations_follow()
     ensures { (explained : Explained) (t : ℕ) (links : List Link) (last : Labels) (verdict : Verdict) (lines : List Line)
         → IsExplanation explained t links last verdict lines → EachFollows (its_setting explained verdict) [] lines }

@@ -86,12 +86,13 @@ BearsOut rrsets asked lines _ = Unit {0}
 
 -- ---- what that means
 
--- A record of a chain of the zone, which signed it, as a line shows, such that each zone that has it in its chain answers
--- for the name from the wildcard below so many of its labels, whatever type is there.
+-- A record of a chain of the zone, which signed it, as lines show, one of them a part line that tells it, such that each zone
+-- that has it in its chain answers for the name from the wildcard below so many of its labels, whatever type is there.
 pub record IsOfWildcard (setting : Setting) (lines : List Line) (zone name : Labels) (labels : ℕ) : Type 0 where
   pub chain : Chain
   pub number : RecordNumber
   pub of_chain : IsOfChain (IsShownSecured setting lines) setting.rrsets zone chain number
+  pub told : IsPartsRecord lines number
   pub means : (its : Zone) (t : ℕ) → HasRecord setting.rrsets zone number its
       → Holds its (wildcard_of (rightmost name labels)) t
       → IsLookup its name t (Held (wildcard_of (rightmost name labels)))

@@ -1,10 +1,10 @@
 -- When what a proof line says is true of each zone that has its records in its chain.
-use Rattle.std.specs.Prelude.{◌≡◌, ◌+◌, ℕ, List, Option, Some, None, Contains}
+use Rattle.std.specs.Prelude.{◌≡◌, ◌⊎◌, ◌+◌, ℕ, List, Option, Some, None, Contains}
 use Rattle.dnsv_names.specs.Name.{Labels, rightmost}
 use Rattle.dnsv_names.specs.Tree.{wildcard_of}
 use Rattle.dnsv_zones.specs.chains.Nsec3Chain.{IsUnsignedEnd, Nsec3Record}
 use Rattle.dnsv_zones.specs.chains.NsecChain.{NsecRecord}
-use Rattle.dnsv_zones.specs.zones.Lookup.{IsLookup}
+use Rattle.dnsv_zones.specs.zones.Lookup.{IsClosestEncloser, IsLookup}
 use Rattle.dnsv_zones.specs.zones.Lookup.Answer.{Held, NoData, NoName}
 use Rattle.dnsv_zones.specs.zones.Zone.{Holds, IsNode, Zone}
 use Rattle.dnsv_canonical.specs.Rrsets.{ReceivedRrset}
@@ -25,7 +25,7 @@ use Rattle.dnsv_lines.specs.declared.line.denial.Form.TheVariants as form
 use Rattle.dnsv_lines.specs.declared.line.denial.Part.{Part}
 use Rattle.dnsv_lines.specs.declared.line.denial.Proof.{Proof}
 use Rattle.dnsv_rules.specs.Checked.{Asked, IsOnWay}
-use Rattle.dnsv_rules.specs.Told.{IsShownGood}
+use Rattle.dnsv_rules.specs.Told.{IsShownGood, shown_said, told_words}
 
 -- ---- the records
 
@@ -66,19 +66,33 @@ HasIts form.NoCloser rrsets name records zone = HasProofRecords rrsets records z
 HasIts form.OptOut rrsets name records zone = HasProofRecords rrsets records zone
 HasIts _ rrsets name records zone = HasProofWithoutCollision rrsets name records zone
 
--- What the zone answers for the name and the type, where the name's closest encloser has so many labels. With Opt-Out the
--- next closer name, if it is a node at all, is unsigned.
-abbrev pub SaysOf : Form → Labels → ℕ → ℕ → Zone → Type 0
-SaysOf form.NoName name t labels zone = (any : ℕ) → IsLookup zone name any NoName
-SaysOf form.NoData1 name t labels zone = IsLookup zone name t (NoData name)
-SaysOf form.NoData2 name t labels zone = IsLookup zone name t (NoData name)
-SaysOf form.NoData3 name t labels zone = IsLookup zone name t (NoData (wildcard_of (rightmost name labels)))
-SaysOf form.NoData4 name t labels zone = IsLookup zone name t (NoData (wildcard_of (rightmost name labels)))
-SaysOf form.NoCloser name t labels zone =
+-- a part line tells that a record with the Opt-Out flag covers the name, one of these of the zone's chain
+abbrev pub IsToldOptedOut : List ReceivedRrset → List Line → Labels → Chain → List RecordNumber → Labels → Type 0
+IsToldOptedOut rrsets lines zone chain records name =
+    (number : RecordNumber) × Contains records number
+    × (told_words (shown_said rrsets lines zone chain) lines).OptedOut name number
+
+-- such a record covers the name, which is unsigned, if it is a node at all (RFC 5155 6)
+abbrev pub IsLeftOpen : (Labels → Type 0) → Zone → Labels → Type 0
+IsLeftOpen OptedOut zone name = OptedOut name × (IsNode zone name → IsUnsignedEnd zone name)
+
+-- What the zone answers for the name and the type, where the name's closest encloser has so many labels. Opt-Out leaves
+-- the next closer name open; or that is no node, and it leaves the wildcard open (RFC 5155 8.6, 9.2).
+abbrev pub SaysOf : Form → Labels → ℕ → ℕ → (Labels → Type 0) → Zone → Type 0
+SaysOf form.NoName name t labels OptedOut zone =
+    IsClosestEncloser zone name labels × ((any : ℕ) → IsLookup zone name any NoName)
+SaysOf form.NoData1 name t labels OptedOut zone = IsLookup zone name t (NoData name)
+SaysOf form.NoData2 name t labels OptedOut zone = IsLookup zone name t (NoData name)
+SaysOf form.NoData3 name t labels OptedOut zone =
+    IsClosestEncloser zone name labels × IsLookup zone name t (NoData (wildcard_of (rightmost name labels)))
+SaysOf form.NoData4 name t labels OptedOut zone =
+    IsClosestEncloser zone name labels × IsLookup zone name t (NoData (wildcard_of (rightmost name labels)))
+SaysOf form.NoCloser name t labels OptedOut zone =
     (any : ℕ) → Holds zone (wildcard_of (rightmost name labels)) any
     → IsLookup zone name any (Held (wildcard_of (rightmost name labels)))
-SaysOf form.OptOut name t labels zone =
-    IsNode zone (rightmost name (labels + 1)) → IsUnsignedEnd zone (rightmost name (labels + 1))
+SaysOf form.OptOut name t labels OptedOut zone =
+    IsLeftOpen OptedOut zone (rightmost name (labels + 1))
+    ⊎ ((¬ IsNode zone (rightmost name (labels + 1))) × IsLeftOpen OptedOut zone (wildcard_of (rightmost name labels)))
 
 -- ---- the proof
 
@@ -96,4 +110,4 @@ pub record IsTrueProof (setting : Setting) (asked : Asked) (lines : List Line) (
       → IsOfChain (IsShownSecured setting lines) setting.rrsets proof.zone chain number
   pub told : (number : RecordNumber) → Contains records number → IsPartsRecord lines number
   pub means : (zone : Zone) → HasIts proof.form setting.rrsets name (record { zone = proof.zone; records = records }) zone
-      → SaysOf proof.form name asked.rtype labels zone
+      → SaysOf proof.form name asked.rtype labels (IsToldOptedOut setting.rrsets lines proof.zone chain records) zone

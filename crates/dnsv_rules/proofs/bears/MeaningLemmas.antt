@@ -24,10 +24,12 @@ module _ (setting : Setting) (lines : List Line) (follows : EachFollows setting 
       let next = rightmost name (labels + 1) in
       let n = form.next_closer.0 in
       let proof : ProofRecords = record { zone = zone; records = n ∷ [] } in
+      let such = (are_such setting lines follows zone chain).absent next n form.next_closer.1 in
       record {
         chain = chain;
         number = n;
-        of_chain = ((are_such setting lines follows zone chain).absent next n form.next_closer.1).0;
+        of_chain = such.0;
+        told = such.1;
         means = λ its t has holds.
             let denies = deny (IsShownGood lines) setting.rrsets proof its chain has in
             let is = is_zone setting.rrsets proof its has in

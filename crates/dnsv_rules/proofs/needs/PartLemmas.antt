@@ -1,10 +1,10 @@
 -- Each proof needs the parts of its form.
-use Rattle.std.proofs.Common.{◌≡◌, ◌∙◌, ◌+◌, ℕ, List, Option, Some, None, sym, subst, ⊎_elim}
+use Rattle.std.proofs.Common.{◌≡◌, ◌∙◌, ◌+◌, ℕ, List, Option, Some, None, length, arith, sym, ap, subst, ⊎_elim}
 use Rattle.std.specs.List.{Contains}
-use Rattle.dnsv_names.specs.Name.{Labels, IsAtOrBelow, SameName, rightmost}
+use Rattle.dnsv_names.specs.Name.{Labels, SameName, lower_case, rightmost}
 use Rattle.dnsv_names.specs.Tree.{wildcard_of}
-use Rattle.dnsv_names.specs.Tree.AncestorLaws.{rightmost_above, wildcard_respects}
-use Rattle.dnsv_names.specs.Tree.TreeLaws.{at_or_below_trans, same_at_or_below}
+use Rattle.dnsv_names.specs.Tree.AncestorLaws.{rightmost_length, wildcard_respects}
+use Rattle.dnsv_names.specs.Tree.TreeLaws.{same_labels}
 use Rattle.dnsv_zones.specs.forms.Forms.{EndsAt}
 use Rattle.dnsv_zones.specs.forms.RecordWords.{RecordWords, words}
 use Rattle.dnsv_canonical.specs.declared.number.RecordNumber.{RecordNumber}
@@ -62,17 +62,26 @@ module _ (setting : Setting) (asked : Asked) (lines : List Line) (proof : Proof)
       let tells = both.0.wildcard.1.1 in
       none tells.part tells.among tells.is_relation (tells.is_name ∙ sym (wildcard_respects encloser ce same))
 
-  -- that which shows the next closer name to be absent
-  pub needs_next_closer : NeedsEncloser proof.form
-      → ((part : Part) → Contains lines (line.Part part) → part.relation ≡ relation.Covered → ¬ IsAtOrBelow asked.name part.name) → ⊥
-  needs_next_closer needs none =
+  -- the name of the closest encloser
+  pub needs_its_name : NeedsEncloser proof.form → proof.encloser ≡ None → ⊥
+  needs_its_name needs is =
       let by = checks.is_so (line.Proof proof) there in
       let ends = ends_of setting asked lines its_zone by.chain proof.form proof.encloser needs by.stands in
-      let next = rightmost asked.name (ends.labels + 1) in
+      let Same : Option Labels → Type 0 = λ each. SameEncloser each (Some (rightmost asked.name ends.labels)) in subst Same is ends.same
+
+  -- that which shows the next closer name to be absent
+  pub needs_next_closer : NeedsEncloser proof.form → (encloser : Labels) → proof.encloser ≡ Some encloser
+      → ((part : Part) → Contains lines (line.Part part) → part.relation ≡ relation.Covered
+      → ¬ SameName part.name (rightmost asked.name (length encloser + 1))) → ⊥
+  needs_next_closer needs encloser its_encloser none =
+      let by = checks.is_so (line.Proof proof) there in
+      let ends = ends_of setting asked lines its_zone by.chain proof.form proof.encloser needs by.stands in
+      let same = same_encloser setting asked lines its_zone by.chain proof.encloser encloser (rightmost asked.name ends.labels) its_encloser ends.same in
+      let labels : ends.labels ≡ length encloser =
+      omega (arith, same_labels encloser (rightmost asked.name ends.labels) same, rightmost_length asked.name ends.labels (omega (arith, ends.ends.above.proper))) in
       let tells = ends.ends.next_closer.1.1 in
       none tells.part tells.among tells.is_relation
-      (at_or_below_trans asked.name next tells.part.name (rightmost_above asked.name (ends.labels + 1))
-      (same_at_or_below next tells.part.name (sym tells.is_name)))
+      (tells.is_name ∙ ap (λ (n : ℕ). lower_case (rightmost asked.name (n + 1))) labels)
 
   -- that which shows the closest encloser to be a node
   pub needs_encloser : NeedsEncloser proof.form → (encloser : Labels) → proof.encloser ≡ Some encloser

@@ -45,7 +45,7 @@ module _ (setting : Setting) (lines : List Line) (follows : EachFollows setting 
   pub is_secured : (k s : ℕ) → IsShownGood lines k s → IsShownSecured setting lines k s
   is_secured k s good = (good, said_secured setting lines (all_true setting [] lines (no_lines setting) follows) k s good)
 
-  secured_here : (k : ℕ) → IsSecuredBy (IsShownGood lines) setting.rrsets zone k → IsSecuredBy (IsShownSecured setting lines) setting.rrsets zone k
+  pub secured_here : (k : ℕ) → IsSecuredBy (IsShownGood lines) setting.rrsets zone k → IsSecuredBy (IsShownSecured setting lines) setting.rrsets zone k
   secured_here k by = secured_too (IsShownGood lines) (IsShownSecured setting lines) setting.rrsets zone k (is_secured k) by
 
   -- the record is of the chain, and told by a part line
