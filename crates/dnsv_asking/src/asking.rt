@@ -38,8 +38,8 @@ struct Reporting<'a> {
 /// question that is refused by itself is reported so, and the next is judged.
 ///
 /// The answer is the greatest status of all. The fault is the first in the order of the work: of the questions, and then
-/// of the files that they are judged by. Where memory runs out behind that, or a write fails, the output has the whole
-/// texts of the first questions, but not of all; and where a write failed, a beginning of the next.
+/// of the files that they are judged by. Where memory runs out behind that, the output has the whole texts of the first
+/// questions, but not of all; where a write fails, it has a beginning of the texts, which may be all.
 pub fn check_each<R: Read, W: Write>(
     alloc: Global,
     telling: Telling,

@@ -51,8 +51,9 @@ impl Said {
         self.kind
     }
 
-    /// The text of what carries that, in the format that was asked for: the lines of `check` behind its first, or its
-    /// members of JSON behind the exit status, each behind a comma. Of a refusal it is empty.
+    /// The text of what carries that, in the format that was asked for: the lines of `check` behind its first, but for
+    /// the entries that are still to be checked, or its members of JSON behind the exit status, each behind a comma and
+    /// without these entries. Of a refusal it is empty.
     pub fn text(&self) -> &str
         ensures { result.now ≡ self.now.told.text }
     {

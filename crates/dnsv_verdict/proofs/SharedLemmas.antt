@@ -1,5 +1,5 @@
 -- What the questions of one case share.
-use Rattle.std.proofs.Common.{◌≡◌, List, [], ◌∷◌, ◌++◌}
+use Rattle.std.proofs.Common.{◌≡◌, ◌<◌, ◌≤◌, List, [], ◌∷◌, ◌++◌, length, arith, length-append}
 use Rattle.std.specs.Prelude.{Contains}
 use Rattle.dnsv_names.specs.Name.{Labels}
 use Rattle.dnsv_canonical.proofs.CanonicalLemmas.{IsMember-from_contains, member_passes}
@@ -20,3 +20,10 @@ pub one_hashed_more : (rrsets : List ReceivedRrset) (names : List HashedQuestion
     → AreHashedIn rrsets names → made.rrsets ≡ rrsets → AreHashedIn rrsets (names ++ made ∷ [])
 one_hashed_more rrsets [] made are is = (is, tt)
 one_hashed_more rrsets (first ∷ names) made are is = (are.0, one_hashed_more rrsets names made are.1 is)
+
+-- where there is room, no more are there than may be, and one more has a place
+pub fewer : (names : List HashedQuestion) → length names < 9 → length names ≤ 9
+fewer names room = omega (arith, room)
+
+pub few_more : (names : List HashedQuestion) (made : HashedQuestion) → length names < 9 → length (names ++ made ∷ []) ≤ 9
+few_more names made room = omega (arith, room, length-append names (made ∷ []))

@@ -1,4 +1,4 @@
--- Where the evidence shows that a name may lie in a zone that isn't signed (RFC 4035 5.2, RFC 5155 8.8, 8.9).
+-- Where the evidence shows that a name may lie in a zone that isn't signed (RFC 4035 5.2, RFC 5155 6, 8.8, 8.9, 9.2).
 use Rattle.std.specs.Prelude.{◌≡◌, ◌⊎◌, ◌+◌, ℕ, List}
 use Rattle.dnsv_names.specs.Name.{Labels, rightmost}
 use Rattle.dnsv_records.specs.declared.rrsig.Rrsig.{Rrsig}
@@ -8,8 +8,8 @@ use Rattle.dnsv_canonical.specs.SignedData.{IsExpanded}
 use Rattle.dnsv_denial.specs.unsigned_cuts.Cuts.{HasOptedOutNextCloser, HasUnsignedCut, IsUnsignedCut}
 use Rattle.dnsv_verdict.specs.Secure.{IsSecuredAt, IsFirstSuch}
 
--- A wildcard is behind the signature, and an NSEC3 record with the Opt-Out flag covers the next closer name: an
--- unsigned delegation may be closer than the wildcard (RFC 5155 8.8).
+-- A wildcard is behind the signature, and an NSEC3 record covers the next closer name (RFC 5155 8.8) that has the Opt-Out
+-- flag: an unsigned delegation may be closer than the wildcard (RFC 5155 6, 9.2).
 abbrev pub IsOptOutWildcard : (ℕ → ℕ → Type 0) → List ReceivedRrset → Labels → ReceivedRrset → Rrsig → Type 0
 IsOptOutWildcard Secured rrsets name rrset rrsig =
     IsExpanded rrset.owner rrsig × HasOptedOutNextCloser Secured rrsets name rrsig.labels rrsig.signer

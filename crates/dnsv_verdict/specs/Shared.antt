@@ -1,5 +1,5 @@
 -- What the questions of one case share beside it. No public clause cites this module.
-use Rattle.std.specs.Prelude.{◌≡◌, IfSome, List}
+use Rattle.std.specs.Prelude.{◌≡◌, ◌≤◌, IfSome, List, length}
 use Rattle.std.specs.List.{AllByRecursion}
 use Rattle.dnsv_canonical.specs.Rrsets.{ReceivedRrset}
 use Rattle.dnsv_proof_forms.specs.QuestionHashes.{HashedQuestion}
@@ -11,7 +11,9 @@ use Rattle.dnsv_verdict.specs.declared.case.shared.Shared.{Shared}
 abbrev pub AreHashedIn : List ReceivedRrset → List HashedQuestion → Type 0
 AreHashedIn rrsets hashed = AllByRecursion (λ each. each.rrsets ≡ rrsets) hashed
 
--- what is there is of the case: the hopeful one is its own, and the names are hashed by its evidence
+-- what is there is of the case: the hopeful one is its own, and the names are hashed by its evidence; no more are kept
+-- than a way has at most, which are its first and the targets of eight links
 pub record IsSharedOf (case : CaseContents) (shared : Shared) : Type 0 where
   pub hopeful : IfSome shared.hopeful (λ hopeful. IsHopeful case hopeful.value)
   pub names : AreHashedIn case.rrsets shared.names.items
+  pub few : length shared.names.items ≤ 9

@@ -75,7 +75,7 @@ fn secure_alias<'e>(view: &View<'e, '_>, rtype: RecordType) -> Option<Found<'e>>
 }
 
 /// The next closer name for the first RRset and signature of the name, and of the type or CNAME, that an unsigned
-/// delegation may stand against (RFC 5155 8.8).
+/// delegation may stand against (RFC 5155 6, 8.8, 9.2).
 fn opt_out_wildcard_cut(view: &View<'_, '_>, rtype: RecordType) -> Option<Name>
     ensures { MatchOption result
         ((k s : ℕ) → ¬ IsOptOutWildcardSet (SecuredIn view.now.trust) view.now.rrsets view.now.name rtype.0 k s)
@@ -88,7 +88,8 @@ fn opt_out_wildcard_cut(view: &View<'_, '_>, rtype: RecordType) -> Option<Name>
 }
 
 /// The first RRset of the name, and of the type or CNAME, and its first signature, that come from a wildcard and against
-/// which an unsigned delegation may stand (RFC 5155 8.8).
+/// which an unsigned delegation may stand: the next closer name is covered (RFC 5155 8.8), by a record with the Opt-Out flag
+/// (RFC 5155 6, 9.2).
 pub fn opt_out_wildcard<'a>(view: &View<'a, '_>, rtype: RecordType) -> Option<Found<'a>>
     ensures { MatchOption result
         ((k s : ℕ) → ¬ IsOptOutWildcardSet (SecuredIn view.now.trust) view.now.rrsets view.now.name rtype.0 k s)
@@ -141,7 +142,7 @@ impl Test for HoldsForName<'_, '_, '_> {
 }
 
 /// That a wildcard is behind the signature of an RRset of the type, and an unsigned delegation may be closer to the
-/// view's name (RFC 5155 8.8).
+/// view's name (RFC 5155 6, 8.8, 9.2).
 #[derive(Drop)]
 struct IsOptOutWildcard<'v, 'c, 't> {
     view: &'v View<'c, 't>,

@@ -1,5 +1,5 @@
 //! What the questions of one case share beside it.
-ghost use Rattle.std.specs.Prelude.{◌≡◌, Contains, IfOk, IfSome, List};
+ghost use Rattle.std.specs.Prelude.{◌≡◌, ◌<◌, ◌≤◌, Contains, IfOk, IfSome, List, length};
 ghost use Rattle.dnsv_names.specs.Count.{counted};
 ghost use Rattle.dnsv_records.specs.declared.nsec3.Nsec3Parameters.{Nsec3Parameters};
 ghost use Rattle.dnsv_zones.specs.chains.HashedNames.{hashes_for};
@@ -135,7 +135,9 @@ fn kept_for<'s, 'a>(names: &'s [HashedName<'a>], name: &Name) -> Option<&'s Hash
 
 /// Lets the oldest name go where there are as many as are kept.
 fn make_room(names: &mut Vec<HashedName<'_>>)
-    ensures { (rrsets : List ReceivedRrset) → AreHashedIn rrsets names.old.items → AreHashedIn rrsets names.new.items }
+    ensures hashed { (rrsets : List ReceivedRrset) → AreHashedIn rrsets names.old.items
+        → AreHashedIn rrsets names.new.items }
+    ensures room { length names.old.items ≤ 9 → length names.new.items < 9 }
 {
     if names.len() >= NAMES_KEPT {
         names.remove(0);
