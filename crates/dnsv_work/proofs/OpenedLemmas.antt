@@ -1,10 +1,10 @@
 -- The files of a request, opened one after another, and the words that it is read from.
-use Rattle.std.proofs.Common.{◌≡◌, ◌↔◌, ℕ, Bool, true, List, [], ◌∷◌, Option, Some, None, ap, refl, subst, sym, ◌∙◌}
+use Rattle.std.proofs.Common.{◌≡◌, ◌↔◌, ℕ, suc, Bool, true, false, arith, List, [], ◌∷◌, Option, Some, None, ap, refl, subst, sym, ◌∙◌}
 use Rattle.std.specs.Prelude.{Result, Ok, Err, IfErr, IfOk, IfSome}
 use Rattle.dnsv_commands.specs.declared.request.Request.{Request}
 use Rattle.dnsv_files.specs.declared.status.Fault.{Fault}
 use Rattle.dnsv_files.specs.declared.status.Fault.TheVariants as fault
-use Rattle.dnsv_work.specs.Opened.{first_unopened, given_path, paths_of}
+use Rattle.dnsv_work.specs.Opened.{TellsOpening, first_unopened, given_path, paths_of}
 use Rattle.dnsv_commands.specs.Paths.{anchors_of, answers_of, capture_of, keys_of, macs_of, questions_of, statements_of}
 use Rattle.dnsv_files.specs.Told.{IsOpenFault, IsUnopened}
 use Rattle.dnsv_files.specs.declared.status.InputFile.{InputFile}
@@ -29,6 +29,71 @@ told_err P (Some told) words (Err error) same holds = subst (λ w. P w error) sa
 opened_first : (opens : List ℕ → Bool) (file : InputFile) (path : List ℕ) (others : List (InputFile × List ℕ)) → opens path ≡ true
     → first_unopened opens ((file, path) ∷ others) ≡ first_unopened opens others
 opened_first opens file path others opened = rw opened refl
+
+-- the first that doesn't open is told
+unopened_first : (opens : List ℕ → Bool) (file : InputFile) (path : List ℕ) (others : List (InputFile × List ℕ)) → opens path ≡ false
+    → first_unopened opens ((file, path) ∷ others) ≡ Some file
+unopened_first opens file path others shut = rw shut refl
+
+pub unopened_capture : (opens : List ℕ → Bool) (told : Fault) (request : Request) (path : List ℕ) → false ≡ opens path → path ≡ capture_of request
+    → told ≡ fault.OpenFailed Capture → IsUnopened (first_unopened opens (paths_of request)) told
+unopened_capture opens told request path shut is_path is =
+    let behind_macs = given_path Questions (questions_of request) [] in
+    let behind_keys = given_path Macs (macs_of request) behind_macs in
+    let behind_answers = given_path Keys (keys_of request) behind_keys in
+    let behind_statements = given_path Answers (answers_of request) behind_answers in
+    let behind_anchors = given_path Statements (statements_of request) behind_statements in
+    subst (λ (f : Fault). IsUnopened (first_unopened opens (paths_of request)) f) (sym is)
+    (unopened_first opens Capture (capture_of request) (given_path Anchors (anchors_of request) behind_anchors) (ap opens (sym is_path) ∙ sym shut))
+
+-- what the machine tells of the files of a request, it tells of each
+module _ (opens_at : List ℕ → Option Bool) (opens : List ℕ → Bool) where
+  abbrev pub TellsPath : Option (List ℕ) → Type 0
+  TellsPath path = IfSome path (λ path. opens_at path ≡ Some (opens path))
+
+  tells_first : (file : InputFile) (path : Option (List ℕ)) (others : List (InputFile × List ℕ))
+      → TellsOpening opens_at opens (given_path file path others) → TellsPath path
+  tells_first file None others tells = tt
+  tells_first file (Some path) others tells = tells (file, path) (0, omega arith, refl)
+
+  tells_others : (file : InputFile) (path : Option (List ℕ)) (others : List (InputFile × List ℕ))
+      → TellsOpening opens_at opens (given_path file path others) → TellsOpening opens_at opens others
+  tells_others file None others tells = tells
+  tells_others file (Some path) others tells = λ other there. tells other (suc there.0, omega (arith, there.1), there.2)
+
+  -- each by the path that was asked for
+  pub record TellsEach (request : Request) : Type 0 where
+    pub capture : (path : List ℕ) → path ≡ capture_of request → opens_at path ≡ Some (opens path)
+    pub anchors : (path : Option (List ℕ)) → path ≡ anchors_of request → TellsPath path
+    pub statements : (path : Option (List ℕ)) → path ≡ statements_of request → TellsPath path
+    pub answers : (path : Option (List ℕ)) → path ≡ answers_of request → TellsPath path
+    pub keys : (path : Option (List ℕ)) → path ≡ keys_of request → TellsPath path
+    pub macs : (path : Option (List ℕ)) → path ≡ macs_of request → TellsPath path
+    pub questions : (path : Option (List ℕ)) → path ≡ questions_of request → TellsPath path
+
+  pub tells_each : (request : Request) → TellsOpening opens_at opens (paths_of request) → TellsEach request
+  tells_each request tells =
+      let behind_macs = given_path Questions (questions_of request) [] in
+      let behind_keys = given_path Macs (macs_of request) behind_macs in
+      let behind_answers = given_path Keys (keys_of request) behind_keys in
+      let behind_statements = given_path Answers (answers_of request) behind_answers in
+      let behind_anchors = given_path Statements (statements_of request) behind_statements in
+      let anchors = tells_others Capture (Some (capture_of request)) (given_path Anchors (anchors_of request) behind_anchors) tells in
+      let statements = tells_others Anchors (anchors_of request) behind_anchors anchors in
+      let answers = tells_others Statements (statements_of request) behind_statements statements in
+      let keys = tells_others Answers (answers_of request) behind_answers answers in
+      let macs = tells_others Keys (keys_of request) behind_keys keys in
+      let questions = tells_others Macs (macs_of request) behind_macs macs in
+      record {
+        capture = λ path is. subst (λ p. opens_at p ≡ Some (opens p)) (sym is)
+            (tells_first Capture (Some (capture_of request)) (given_path Anchors (anchors_of request) behind_anchors) tells);
+        anchors = λ path is. subst TellsPath (sym is) (tells_first Anchors (anchors_of request) behind_anchors anchors);
+        statements = λ path is. subst TellsPath (sym is) (tells_first Statements (statements_of request) behind_statements statements);
+        answers = λ path is. subst TellsPath (sym is) (tells_first Answers (answers_of request) behind_answers answers);
+        keys = λ path is. subst TellsPath (sym is) (tells_first Keys (keys_of request) behind_keys keys);
+        macs = λ path is. subst TellsPath (sym is) (tells_first Macs (macs_of request) behind_macs macs);
+        questions = λ path is. subst TellsPath (sym is) (tells_first Questions (questions_of request) [] questions);
+      }
 
 -- what the call that opened a file says, whatever comes behind it
 abbrev pub Passes : (List ℕ → Bool) → InputFile → Option (List ℕ) → Type 0

@@ -1,5 +1,5 @@
 -- The files of a request: what they hold, in which order they are opened, and the first that doesn't open.
-use Rattle.std.specs.Prelude.{◌≡◌, ℕ, Bool, not, List, [], ◌∷◌, Option, Some, None, find}
+use Rattle.std.specs.Prelude.{◌≡◌, ℕ, Bool, not, List, [], ◌∷◌, Contains, Option, Some, None, find}
 use Rattle.std.specs.Option.{option_map}
 use Rattle.dnsv_commands.specs.declared.request.Request.{Request}
 use Rattle.dnsv_files.specs.declared.status.InputFile.{InputFile}
@@ -28,6 +28,11 @@ paths_of request = (Capture, capture_of request)
     ∷ given_path Anchors (anchors_of request) (given_path Statements (statements_of request)
     (given_path Answers (answers_of request) (given_path Keys (keys_of request) (given_path Macs (macs_of request)
     (given_path Questions (questions_of request) [])))))
+
+-- of each of these files it is told whether it opens
+abbrev pub TellsOpening : (List ℕ → Option Bool) → (List ℕ → Bool) → List (InputFile × List ℕ) → Type 0
+TellsOpening opens_at opens paths =
+    (file : InputFile × List ℕ) → Contains paths file → opens_at file.1 ≡ Some (opens file.1)
 
 -- the first of the files that doesn't open
 abbrev pub first_unopened : (List ℕ → Bool) → List (InputFile × List ℕ) → Option InputFile

@@ -4,7 +4,7 @@ ghost use Rattle.std.specs.Option.{option_map};
 ghost use Rattle.dnsv_message.specs.Streams.Counted.{inner_of};
 ghost use Rattle.dnsv_files.specs.Files.{AreTold, Files, IsToldBy};
 ghost use Rattle.dnsv_commands.specs.CommandLine.{IsAccepted, IsRefused};
-ghost use Rattle.dnsv_work.specs.Opened.{AreFilesAt, first_unopened, given_path, paths_of};
+ghost use Rattle.dnsv_work.specs.Opened.{AreFilesAt, TellsOpening, first_unopened, given_path, paths_of};
 ghost use Rattle.dnsv_files.specs.Told.{IsOpenFault, IsUnopened};
 ghost use Rattle.dnsv_files.specs.declared.status.Fault.TheVariants as Fault;
 ghost use Rattle.dnsv_files.specs.declared.status.InputFile.{InputFile};
@@ -28,9 +28,9 @@ pub fn request<M: Machine>(machine: &M) -> Result<Request, CommandLineError>
 pub fn open_all<M: Machine>(machine: &M, request: &Request) -> Result<Inputs<M::File>, Fault>
     ensures files { (files : Files) → AreFilesAt (M.octets_at machine.now) request.now files
         → IfOk result (λ inputs. AreTold M.File.remaining inputs files) }
-    ensures opened { (opens : List ℕ → Bool) → ((path : List ℕ) → M.opens machine.now path ≡ Some (opens path))
+    ensures opened { (opens : List ℕ → Bool) → TellsOpening (M.opens machine.now) opens (paths_of request.now)
         → OnOk result (first_unopened opens (paths_of request.now) ≡ None) }
-    ensures unopened { (opens : List ℕ → Bool) → ((path : List ℕ) → M.opens machine.now path ≡ Some (opens path))
+    ensures unopened { (opens : List ℕ → Bool) → TellsOpening (M.opens machine.now) opens (paths_of request.now)
         → IfErr result (IsUnopened (first_unopened opens (paths_of request.now))) }
     ensures only { IfErr result IsOpenFault }
 {
@@ -62,10 +62,12 @@ fn open_given<M: Machine>(
         → option_map (M.octets_at machine.now) (option_map (λ path. path.now) path.entry)
         ≡ option_map (λ each. Some each) octets
         → IfOk result (λ opened. IsToldBy M.File.remaining opened octets) }
-    ensures opened { (opens : List ℕ → Bool) → ((path : List ℕ) → M.opens machine.now path ≡ Some (opens path))
+    ensures opened { (opens : List ℕ → Bool) → IfSome (option_map (λ path. path.now) path.entry)
+        (λ path. M.opens machine.now path ≡ Some (opens path))
         → (others : List (InputFile × List ℕ)) → OnOk result (first_unopened opens
         (given_path file (option_map (λ path. path.now) path.entry) others) ≡ first_unopened opens others) }
-    ensures unopened { (opens : List ℕ → Bool) → ((path : List ℕ) → M.opens machine.now path ≡ Some (opens path))
+    ensures unopened { (opens : List ℕ → Bool) → IfSome (option_map (λ path. path.now) path.entry)
+        (λ path. M.opens machine.now path ≡ Some (opens path))
         → (others : List (InputFile × List ℕ)) → IfErr result (IsUnopened (first_unopened opens
         (given_path file (option_map (λ path. path.now) path.entry) others))) }
     ensures only { IfErr result IsOpenFault }
