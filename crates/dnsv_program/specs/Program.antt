@@ -17,7 +17,7 @@ use Rattle.dnsv_files.specs.Files.{Files}
 use Rattle.dnsv_commands.specs.CommandLine.{IsAccepted, IsRefused, command_line_code}
 use Rattle.dnsv_program.specs.Run.{AsksMany, AsksRefused, IsTextAskedFor, IsTextOfFewer, IsTextOfFirst, IsFirstFault, IsReached}
 use Rattle.dnsv_files.specs.Status.{status_code}
-use Rattle.dnsv_work.specs.Opened.{AreFilesAt, first_unopened, paths_of}
+use Rattle.dnsv_work.specs.Opened.{AreFilesAt, TellsOpening, first_unopened, paths_of}
 
 -- ---- ends
 
@@ -91,7 +91,7 @@ pub record FailedRequest (words : List Text) (octets_at : List ℕ → Option (L
   pub first : (files : Files) → AreFilesAt octets_at request files → OfOctets (IsFirstFault request files) told
   pub reached : (files : Files) → AreFilesAt octets_at request files → OfFailedRead (IsReached request files) told
   pub question : TellsQuestion request told
-  pub unopened : (opens : List ℕ → Bool) → ((path : List ℕ) → opens_at path ≡ Some (opens path))
+  pub unopened : (opens : List ℕ → Bool) → TellsOpening opens_at opens (paths_of request)
       → (file : InputFile) → (told ≡ fault.OpenFailed file)
       ↔ (first_unopened opens (paths_of request) ≡ Some file)
 

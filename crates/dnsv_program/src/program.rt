@@ -4,7 +4,7 @@ ghost use Rattle.std.specs.Io.KnownBytes.{Appends};
 ghost use Rattle.dnsv_message.specs.Streams.Counted.{inner_of, failures_of, AppendsBeginning};
 ghost use Rattle.dnsv_files.specs.Files.Faults.{OfFailedRead, OfOctets};
 ghost use Rattle.dnsv_files.specs.Files.{Files};
-ghost use Rattle.dnsv_work.specs.Opened.{AreFilesAt, first_unopened, paths_of};
+ghost use Rattle.dnsv_work.specs.Opened.{AreFilesAt, TellsOpening, first_unopened, paths_of};
 ghost use Rattle.dnsv_program.specs.Program.{BeganText, IsEnd, RefusedFiles, RefusedWords, WroteFirst, WroteRefused, WroteText, FailedRequest, FailedWords, TellsQuestion};
 ghost use Rattle.dnsv_work.specs.Telling.{HasToldIn, HasWritten, LeavesOutput};
 ghost use Rattle.dnsv_program.specs.Run.{AsksMany, IsTextAskedFor, IsTextOfFewer, IsTextOfFirst, IsFirstFault, IsReached};
@@ -111,7 +111,7 @@ fn answer<M: Machine, W: Write>(
     ensures question { IfErr result (TellsQuestion request.now) }
 
     // The first file that doesn't open is the fault.
-    ensures unopened { (opens : List ℕ → Bool) → ((path : List ℕ) → M.opens machine.now path ≡ Some (opens path))
+    ensures unopened { (opens : List ℕ → Bool) → TellsOpening (M.opens machine.now) opens (paths_of request.now)
         → (file : InputFile) → (result ≡ Err (Fault.OpenFailed file))
         ↔ (first_unopened opens (paths_of request.now) ≡ Some file) }
     ensures write { result ≡ Err Fault.WriteFailed

@@ -14,7 +14,7 @@ use Rattle.dnsv_files.specs.declared.status.Status.TheVariants.{Refused}
 use Rattle.dnsv_files.specs.Files.Faults.{OfFailedRead, OfOctets}
 use Rattle.dnsv_files.specs.Files.{Files}
 use Rattle.dnsv_commands.specs.CommandLine.{IsAccepted, IsRefused, command_line_code}
-use Rattle.dnsv_work.specs.Opened.{AreFilesAt, first_unopened, paths_of}
+use Rattle.dnsv_work.specs.Opened.{AreFilesAt, TellsOpening, first_unopened, paths_of}
 use Rattle.dnsv_program.specs.Program.{FailedRequest, FailedWords, IsEnd, TellsQuestion}
 use Rattle.dnsv_work.specs.Telling.{HasToldIn, LeavesOutput}
 use Rattle.dnsv_program.specs.Run.{AsksRefused, IsFirstFault, IsReached}
@@ -56,7 +56,7 @@ module _ (octets_at : List ℕ → Option (List ℕ)) (opens_at : List ℕ → O
   IsBehind outcome = (files : Files) → AreFilesAt octets_at request files → IfErr outcome (OfFailedRead (IsReached request files))
 
   abbrev TellsUnopened : {T : Type 0} → Result T Fault → Type 0
-  TellsUnopened outcome = (opens : List ℕ → Bool) → ((path : List ℕ) → opens_at path ≡ Some (opens path)) → (file : InputFile)
+  TellsUnopened outcome = (opens : List ℕ → Bool) → TellsOpening opens_at opens (paths_of request) → (file : InputFile)
       → (outcome ≡ Err (fault.OpenFailed file)) ↔ (first_unopened opens (paths_of request) ≡ Some file)
 
   failed_request : (given : Option (List (List ℕ))) (told : Fault) → IfSome given (λ words. IsAccepted words request)
