@@ -1,9 +1,9 @@
 -- Files of answers, a line at a time.
-use Rattle.std.proofs.Common.{◌≡◌, ℕ, List, [], ◌∷◌, ◌++◌, Some, length, refl, sym, ap, ◌∙◌, arith, subst, inl, inr, append-nil}
+use Rattle.std.proofs.Common.{◌≡◌, ◌≢◌, ℕ, List, [], ◌∷◌, ◌++◌, Some, length, refl, sym, ap, ◌∙◌, arith, subst, inl, inr, append-nil}
 use Rattle.dnsv_names.specs.Lines.LineLaws.{HasLines-only}
 use Rattle.dnsv_names.specs.Lines.{HasLines, NumberedLine}
 use Rattle.dnsv_verifier.specs.declared.answer.Answer.{Answer}
-use Rattle.dnsv_answers.specs.AnswerFile.{AreAnswersOf, IsFirstNoAnswer, IsNoAnswer, SayAnswers, answer_text}
+use Rattle.dnsv_answers.specs.AnswerFile.{AreAnswersOf, HasLineBehindHeading, IsFirstNoAnswer, IsNoAnswer, SayAnswers, answer_text}
 use Rattle.dnsv_answers.specs.Heading.{IsHeading}
 use Rattle.dnsv_answers.specs.declared.error.AnswersError.{AnswersError}
 use Rattle.dnsv_answers.specs.declared.error.AnswersError.TheVariants.{Syntax}
@@ -35,6 +35,15 @@ pub read_so : (text : List ℕ) (line : NumberedLine) (rest : List NumberedLine)
     → AreAnswersOf text (record { heading = heading; line = number; said = said })
 read_so text line rest heading number said has is same (first, others, also, say) =
     record { first = line; others = rest; has = has; is_heading = is; number = same; each = say_behind text first line others rest said also has say }
+
+-- memory is wanted for what stands behind a heading
+pub wants_behind : (text : List ℕ) (line : NumberedLine) (rest : List NumberedLine) (heading : Heading) → HasLines text (line ∷ rest)
+    → IsHeading line.octets heading → (first : NumberedLine) × (others : List NumberedLine) × HasLines text (first ∷ others) × (others ≢ [])
+    → HasLineBehindHeading text
+wants_behind text line rest heading has is (first, others, also, some) =
+    let lines = HasLines-only text (first ∷ others) (line ∷ rest) also has in
+    let same : rest ≡ others = cc in
+    (line, rest, has, (heading, is), λ none. some (sym same ∙ none))
 
 -- ---- the others
 
@@ -78,6 +87,12 @@ said_by : (line : NumberedLine) (rest : List NumberedLine) (more : List SaidAnsw
 said_by line rest [] say = absurd say
 said_by line rest (each ∷ more) say = (each.answer, say.0.word)
 
+-- no lines say nothing
+say_none : (line : NumberedLine) (rest : List NumberedLine) (said more : List SaidAnswer) → SayAnswers (line ∷ rest) more → SayAnswers [] (said ++ more) → ⊥
+say_none line rest said [] say none = say
+say_none line rest [] (each ∷ more) say none = none
+say_none line rest (other ∷ said) (each ∷ more) say none = none
+
 -- the next line says an answer
 pub reads_one : (all left rest : List NumberedLine) (said : List SaidAnswer) (line : NumberedLine) → left ≡ line ∷ rest → Reads all left said
     → IsNoAnswer line → ⊥
@@ -90,3 +105,9 @@ pub reads_to_end : (all left : List NumberedLine) (said : List SaidAnswer) → l
 reads_to_end all left said none so_far =
     let here = subst (λ (lines : List NumberedLine). Reads all lines said) none so_far in
     subst (λ (each : List SaidAnswer). SayAnswers all each) (append-nil said) (here.gives [] tt)
+
+-- where a line is left, there is one
+pub reads_some : (all left rest : List NumberedLine) (said : List SaidAnswer) (line : NumberedLine) → left ≡ line ∷ rest → Reads all left said → all ≢ []
+reads_some all left rest said line next so_far none =
+    let here = subst (λ (lines : List NumberedLine). Reads all lines said) next so_far in
+    say_none line rest said here.more here.say (subst (λ (lines : List NumberedLine). SayAnswers lines (said ++ here.more)) none (here.gives here.more here.say))

@@ -1,6 +1,7 @@
 -- A table with answers by number.
-use Rattle.std.proofs.Common.{◌≡◌, ◌↔◌, ◌⊎◌, ◌≤◌, inl, inr, ℕ, List, [], ◌∷◌, Result, Ok, Err, IfErr, length, map, refl, ap, ◌∙◌, arith, subst}
+use Rattle.std.proofs.Common.{◌≡◌, ◌↔◌, ◌⊎◌, ◌<◌, ◌≤◌, inl, inr, ℕ, List, [], ◌∷◌, Result, Ok, Err, IfErr, Some, None, length, map, refl, sym, ap, ◌∙◌, arith, subst}
 use Rattle.std.proofs.lemmas.List.{length-map}
+use Rattle.std.proofs.lemmas.Option.{slice_get_past}
 use Rattle.std.specs.List.{Contains, zip}
 use Rattle.dnsv_canonical.specs.Rrsets.{ReceivedRrset}
 use Rattle.dnsv_timeline.specs.Range.{Moments}
@@ -11,10 +12,11 @@ use Rattle.dnsv_verifier.specs.Within.{AreAskedWithin, IsAskedWithin, IsTableWit
 use Rattle.dnsv_verifier.specs.declared.answer.Answer.{Answer}
 use Rattle.dnsv_verifier.specs.declared.answer.Answer.TheVariants.{Unknown}
 use Rattle.dnsv_verifier.specs.declared.entry.Entry.{Entry}
-use Rattle.dnsv_answers.specs.AnswerFile.{AnswersContents, AreMiscounted}
+use Rattle.dnsv_answers.specs.AnswerFile.{AnswersContents, AreMiscounted, AreSoMany}
 use Rattle.dnsv_answers.specs.Answered.{IsAnsweredTableWithin, IsNumberAskedWithin}
 use Rattle.dnsv_answers.specs.declared.error.AnswersError.{AnswersError}
-use Rattle.dnsv_answers.specs.declared.error.AnswersError.TheVariants.{OutOfMemory}
+use Rattle.dnsv_answers.specs.declared.error.AnswersError.TheVariants.{Count, OutOfMemory}
+use Rattle.dnsv_answers.specs.declared.said.SaidAnswer.{SaidAnswer}
 
 same_entries : (entries : List Entry) → map (λ (each : Entry × Answer). each.0) (map (λ entry. (entry, Unknown)) entries) ≡ entries
 same_entries [] = refl
@@ -33,6 +35,46 @@ answered_by from to rrsets asked of_moment is said each = record {
   answers = ap (λ (entries : List Entry). zip entries said)
       (ap (λ (answers : List (Entry × Answer)). map (λ each. each.0) answers) is.answers ∙ same_entries is.entries);
 }
+
+-- ---- how many there are
+
+-- where there are so many, they aren't miscounted
+pub none_miscounted : (contents : AnswersContents) (count : ℕ) (fault : AnswersError) → AreSoMany contents count → AreMiscounted contents count fault → ⊥
+none_miscounted contents count fault are (inl few) = let less : length contents.said < count = few.0 in omega (arith, are, less)
+none_miscounted contents count fault are (inr more) =
+    let none = slice_get_past contents.said count (omega (arith, are)) in
+    let bad : Some more.0 ≡ None = sym more.1 ∙ none in cc
+
+-- a miscount is told once
+pub one_miscount : (contents : AnswersContents) (count : ℕ) (a b : AnswersError) → AreMiscounted contents count a → AreMiscounted contents count b → a ≡ b
+one_miscount contents count a b (inl x) (inl y) = x.1 ∙ sym y.1
+one_miscount contents count a b (inl x) (inr y) =
+    let few : length contents.said < count = x.0 in
+    let none = slice_get_past contents.said count (omega (arith, few)) in
+    let bad : Some y.0 ≡ None = sym y.1 ∙ none in cc
+one_miscount contents count a b (inr x) (inl y) =
+    let few : length contents.said < count = y.0 in
+    let none = slice_get_past contents.said count (omega (arith, few)) in
+    let bad : Some x.0 ≡ None = sym x.1 ∙ none in cc
+one_miscount contents count a b (inr x) (inr y) =
+    let both : Some x.0 ≡ Some y.0 = sym x.1 ∙ y.1 in
+    let same : x.0 ≡ y.0 = cc in
+    x.2 ∙ ap (λ (each : SaidAnswer). Count (Some each.line)) same ∙ sym y.2
+
+-- as many are asked as the table has answers, so a fault of the table is one of these
+number_asked : (from to : ℕ) (rrsets : List ReceivedRrset) (asked : TableContents) → IsTableWithin (λ entry. Unknown) from to rrsets asked
+    → IsNumberAskedWithin from to rrsets (length asked.answers)
+number_asked from to rrsets asked is = record {
+  entries = is.entries;
+  asked = is.asked;
+  is = ap (λ (answers : List (Entry × Answer)). length answers) is.answers ∙ length-map is.entries (λ (entry : Entry). (entry, Unknown));
+}
+
+pub fault_of_asked : (from to : ℕ) (rrsets : List ReceivedRrset) (asked : TableContents) → IsTableWithin (λ entry. Unknown) from to rrsets asked
+    → (contents : AnswersContents) (error : AnswersError) → (error ≡ OutOfMemory) ⊎ AreMiscounted contents (length asked.answers) error
+    → (error ≡ OutOfMemory) ⊎ ((count : ℕ) × IsNumberAskedWithin from to rrsets count × AreMiscounted contents count error)
+fault_of_asked from to rrsets asked is contents error (inl memory) = inl memory
+fault_of_asked from to rrsets asked is contents error (inr miscounted) = inr (length asked.answers, number_asked from to rrsets asked is, miscounted)
 
 -- ---- a range of one moment
 

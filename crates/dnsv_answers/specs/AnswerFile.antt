@@ -1,5 +1,5 @@
 -- Files of answers: what a text says, and what it is refused for.
-use Rattle.std.specs.Prelude.{◌≡◌, ◌⊎◌, ◌<◌, ℕ, List, [], ◌∷◌, Some, None, codes, length, map, slice_get}
+use Rattle.std.specs.Prelude.{◌≡◌, ◌≢◌, ◌⊎◌, ◌<◌, ℕ, List, [], ◌∷◌, Some, None, codes, length, map, slice_get}
 use Rattle.dnsv_names.specs.Lines.{HasLines, NumberedLine}
 use Rattle.dnsv_verifier.specs.declared.answer.Answer.{Answer}
 use Rattle.dnsv_verifier.specs.declared.answer.Answer.TheVariants.{Invalid, Unknown, Valid}
@@ -79,10 +79,10 @@ pub record IsFaultOf (text : List ℕ) (fault : AnswersError) : Type 0 where
   pub has : HasLines text lines
   pub there : IsFaultOfLines lines fault
 
--- a text has a heading, so that memory may be needed
-abbrev pub BeginsWithHeading : List ℕ → Type 0
-BeginsWithHeading text = (first : NumberedLine) × (others : List NumberedLine) × HasLines text (first ∷ others)
-    × ((heading : Heading) × IsHeading first.octets heading)
+-- a text has a heading and a line behind it, so that memory may be needed
+abbrev pub HasLineBehindHeading : List ℕ → Type 0
+HasLineBehindHeading text = (first : NumberedLine) × (others : List NumberedLine) × HasLines text (first ∷ others)
+    × ((heading : Heading) × IsHeading first.octets heading) × (others ≢ [])
 
 -- ---- whether they are the answers to a list
 

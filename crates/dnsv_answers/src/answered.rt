@@ -1,12 +1,13 @@
 //! What answers by number say: the table of a capture's entries with them.
-ghost use Rattle.std.specs.Prelude.{◌≡◌, ◌⊎◌, ℕ, IfErr, IfOk, List, length, map};
+ghost use Rattle.std.specs.Prelude.{◌≡◌, ◌⊎◌, ℕ, Err, IfErr, IfOk, List, OnOk, length, map};
 ghost use Rattle.dnsv_verifier.specs.Asked.{IsNumberAsked};
 ghost use Rattle.dnsv_canonical.specs.Rrsets.{ReceivedRrset};
-ghost use Rattle.dnsv_verifier.specs.Table.{IsTableOf, TableContents, table_answer};
+ghost use Rattle.dnsv_verifier.specs.Table.{IsTableOf, TableContents, table_answer, with_answers};
 ghost use Rattle.dnsv_verifier.specs.Within.{IsTableWithin};
 ghost use Rattle.dnsv_verifier.specs.declared.answer.Answer.{Answer};
-ghost use Rattle.dnsv_answers.specs.AnswerFile.{AreMiscounted, answers_in};
+ghost use Rattle.dnsv_answers.specs.AnswerFile.{AreMiscounted, AreSoMany, answers_in};
 ghost use Rattle.dnsv_answers.specs.Answered.{IsAnsweredTable, IsAnsweredTableWithin, IsNumberAskedWithin};
+ghost use Rattle.dnsv_answers.specs.declared.error.AnswersError.{AnswersError};
 
 use crate::answers::Answers;
 use crate::error::AnswersError;
@@ -54,9 +55,8 @@ pub fn answered_table_within<'b>(
         × AreMiscounted answers.now count error)) }
 {
     let asked = ask_nobody(alloc, bump, capture, range)?;
-    answers.test_count(asked.len())?;
-    let said = said_answers(alloc, answers.as_slice())?;
-    Ok(asked.with_answers(said))
+    let table = answered(alloc, asked, answers)?;
+    Ok(table)
 }
 
 /// A law of answers: a table of them is that of a verifier, which says what the table does; there is one table for the
@@ -89,6 +89,24 @@ fn ask_nobody<'b>(
 {
     let mut count = Count::new();
     ask_within(alloc, bump, capture, range, &Nobody {}, &mut count)
+}
+
+/// The entries with the answers. A miscount is told, whatever memory there is.
+fn answered<'b>(
+    alloc: Global,
+    asked: Table<'b>,
+    answers: &Answers,
+) -> Result<Table<'b>, AnswersError>
+    ensures count { OnOk result (AreSoMany answers.now (length asked.entry.answers)) }
+    ensures table { IfOk result (λ table. table ≡ with_answers asked.entry (answers_in answers.now)) }
+    ensures fault { IfErr result (λ error. (error ≡ AnswersError.OutOfMemory)
+        ⊎ AreMiscounted answers.now (length asked.entry.answers) error) }
+    ensures every_fault { (fault : AnswersError) → AreMiscounted answers.now (length asked.entry.answers) fault
+        → result ≡ Err fault }
+{
+    answers.test_count(asked.len())?;
+    let said = said_answers(alloc, answers.as_slice())?;
+    Ok(asked.with_answers(said))
 }
 
 /// The answers without the numbers of their lines.

@@ -1,7 +1,7 @@
 //! Files of answers.
-ghost use Rattle.std.specs.Prelude.{◌≡◌, ◌⊎◌, ◌∷◌, Err, List, ℕ, length, IfErr, IfOk, OnErr, OnOk};
+ghost use Rattle.std.specs.Prelude.{◌≡◌, ◌≢◌, ◌⊎◌, ◌∷◌, [], Err, List, ℕ, length, IfErr, IfOk, OnErr, OnOk};
 ghost use Rattle.dnsv_names.specs.Lines.{HasLines, NumberedLine};
-ghost use Rattle.dnsv_answers.specs.AnswerFile.{AnswersContents, AreAnswersOf, AreMiscounted, AreOf, AreOfOther, AreSoMany, BeginsWithHeading, IsFaultOf, IsFirstNoAnswer, SayAnswers};
+ghost use Rattle.dnsv_answers.specs.AnswerFile.{AnswersContents, AreAnswersOf, AreMiscounted, AreOf, AreOfOther, AreSoMany, HasLineBehindHeading, IsFaultOf, IsFirstNoAnswer, SayAnswers};
 ghost use Rattle.dnsv_answers.specs.declared.error.AnswersError.{AnswersError};
 ghost use Rattle.dnsv_answers.specs.declared.said.SaidAnswer.{SaidAnswer};
 
@@ -38,6 +38,7 @@ impl Answers {
     /// passed over, but counted.
     ///
     /// The first line with a fault counts. It is reported whatever memory there is; a file without lines is at fault too.
+    /// A heading alone takes no memory.
     pub fn parse(alloc: Global, text: &[u8]) -> Result<Answers, AnswersError>
         // What is read is what the file says.
         ensures found { IfOk result (AreAnswersOf text.now) }
@@ -45,8 +46,8 @@ impl Answers {
         ensures fault { IfErr result (λ error. (error ≡ AnswersError.OutOfMemory) ⊎ IsFaultOf text.now error) }
         // A fault is told, whatever memory there is.
         ensures every_fault { (fault : AnswersError) → IsFaultOf text.now fault → result ≡ Err fault }
-        // Memory is wanted only behind a heading.
-        ensures memory { IfErr result (λ error. error ≡ AnswersError.OutOfMemory → BeginsWithHeading text.now) }
+        // Memory is wanted only where a line stands behind the heading.
+        ensures memory { IfErr result (λ error. error ≡ AnswersError.OutOfMemory → HasLineBehindHeading text.now) }
     {
         let mut lines = Lines::new(text);
         let Some(first) = lines.next() else {
@@ -133,8 +134,10 @@ fn test_answers(lines: Lines<'_>) -> Result<(), AnswersError>
 fn answers_behind(alloc: Global, text: &[u8]) -> Result<Vec<SaidAnswer>, AllocError>
     requires { (first : NumberedLine) × (others : List NumberedLine) × HasLines text.now (first ∷ others)
         × ((said : List SaidAnswer) × SayAnswers others said) }
-    ensures { IfOk result (λ said. (first : NumberedLine) × (others : List NumberedLine)
+    ensures said { IfOk result (λ said. (first : NumberedLine) × (others : List NumberedLine)
         × HasLines text.now (first ∷ others) × SayAnswers others said.items) }
+    ensures memory { OnErr result ((first : NumberedLine) × (others : List NumberedLine)
+        × HasLines text.now (first ∷ others) × (others ≢ [])) }
 {
     let mut lines = Lines::new(text);
     let Some(_heading) = lines.next() else {
@@ -147,7 +150,8 @@ fn answers_behind(alloc: Global, text: &[u8]) -> Result<Vec<SaidAnswer>, AllocEr
 /// The answers that these lines say.
 fn answers_in(alloc: Global, lines: Lines<'_>) -> Result<Vec<SaidAnswer>, AllocError>
     requires { (said : List SaidAnswer) × SayAnswers lines said }
-    ensures { IfOk result (λ said. SayAnswers lines.entry said.items) }
+    ensures said { IfOk result (λ said. SayAnswers lines.entry said.items) }
+    ensures memory { OnErr result (lines.entry ≢ []) }
 {
     let mut said = Vec::new(alloc);
     for line in lines {

@@ -21,7 +21,7 @@ const LINE_LIMIT: usize = ABOUT_LIMIT + 64;
 type Line = ArrayString<LINE_LIMIT>;
 
 /// Adds the lines of the message with this number: its header, its questions and its records (RFC 1035 4.1), which are
-/// numbered from 1 through the three sections. The error is that memory ran out; the text then has a beginning of them.
+/// numbered from 1 through the three sections. The error is that memory ran out.
 pub fn push_message(
     alloc: Global,
     text: &mut String,

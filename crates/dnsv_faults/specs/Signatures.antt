@@ -24,7 +24,8 @@ use Rattle.dnsv_zone_keys.specs.Keys.{HasKeys, IsKeyPlaced, IsNamed, IsZoneKey, 
 abbrev pub times_of : Rrsig → ℕ → SignatureTimes
 times_of rrsig by = record { inception = rrsig.inception; expiration = rrsig.expiration; by = by }
 
--- where the moment is before the inception: by how much (RFC 1982 3.2, RFC 4034 3.1.5)
+-- Where the moment is before the inception: by how much (RFC 1982 3.2, RFC 4034 3.1.5). Of two times just 2^31 seconds apart,
+-- RFC 1982 3.2 defines neither order: such a moment counts as before an inception, and as behind an expiration, off by 2^31.
 abbrev pub not_yet : ℕ → Rrsig → Option SignatureTimes
 not_yet moment rrsig =
     if nat_le (2 ^ 31) (seconds_on rrsig.inception.0 moment) then Some (times_of rrsig (seconds_on moment rrsig.inception.0)) else None

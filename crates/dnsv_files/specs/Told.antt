@@ -110,10 +110,10 @@ IsRefusalOf Holds (fault.TooLong file) = ⊥
 IsRefusalOf Holds (fault.OpenFailed file) = ⊥
 IsRefusalOf Holds fault.WriteFailed = ⊥
 
--- what refuses a text is told, unless it begins with a line that takes memory, and memory was refused
+-- what refuses a text is told, unless it may wait for memory, and memory was refused
 abbrev pub TellsRefusals : {T : Type 0} → (Refusal → Place → Type 0) → Type 0 → Result T Fault → Type 0
-TellsRefusals IsRefused Begins result = (why : Refusal) (place : Place) → IsRefused why place
-    → (result ≡ Err (fault.Refused why place)) ⊎ ((result ≡ Err fault.OutOfMemory) × Begins)
+TellsRefusals IsRefused Waits result = (why : Refusal) (place : Place) → IsRefused why place
+    → (result ≡ Err (fault.Refused why place)) ⊎ ((result ≡ Err fault.OutOfMemory) × Waits)
 
 -- besides the evidence that is held, the frame with this number is refused, at this place
 abbrev pub IsRefusedAt : Demand → Opening → Evidence → List ℕ → ℕ → Refusal → Place → Type 0

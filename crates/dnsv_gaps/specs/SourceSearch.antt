@@ -1,4 +1,5 @@
--- How the sources of a zone are kept and asked. No public clause cites this module.
+-- How the sources of a zone are kept and asked. The clauses of `zone_denials`, `sources_of` and `HeldSource::source` are public, and cite
+-- `AreZoneDenials`, `AreHeldSources`, `IsHeldIn`, `IsSourceIn`, `chain_of` and `held_chain`.
 use Rattle.std.specs.Prelude.{◌≡◌, ◌≢◌, ◌⊎◌, ◌↔◌, ◌≤◌, ℕ, IsTrue, List, [], ◌∷◌, Contains, length, map}
 use Rattle.std.specs.List.{AllByRecursion}
 use Rattle.std.specs.List.Sorted.{IsStrictlySortedBy}

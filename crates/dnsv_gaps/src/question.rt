@@ -27,7 +27,8 @@ use dnsv_remedies::QuestionFacts;
 use std::alloc::{AllocError, Global};
 
 /// What the evidence of the case has that may answer the question of a name and a type or deny it, whether it is trusted or not.
-/// `facts` are found in the case, `denials` are the records of denials that its trust secures, and `hashes` are those for the name. Nothing is asked of a verifier, and nothing is hashed.
+/// `facts` are found in the case, `denials` are the records of denials that its trust secures, and `hashes` are those for the
+/// name. Nothing is asked of a verifier, and nothing is hashed.
 pub fn question_facts<'s, 'a>(
     alloc: Global,
     capture: &'a Capture<'a>,

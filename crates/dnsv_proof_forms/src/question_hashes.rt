@@ -1,5 +1,5 @@
 //! The hashes of the names that a question asks for, kept by themselves.
-ghost use Rattle.std.specs.Prelude.{◌≡◌, ◌↔◌, ℕ, IfOk, IsTrue, List, MatchOption, Some, slice_get};
+ghost use Rattle.std.specs.Prelude.{◌≡◌, ◌≤◌, ◌↔◌, ℕ, IfOk, IsTrue, List, MatchOption, Some, slice_get};
 ghost use Rattle.dnsv_names.specs.Count.{counted};
 ghost use Rattle.dnsv_names.specs.Name.{Labels};
 ghost use Rattle.dnsv_names.specs.Order.{IsBelow};
@@ -60,6 +60,8 @@ impl<'a> Hashes<'a> {
         ensures count { IfOk result (λ hashes. (all : List Nsec3Parameters)
             → AreParameters (nsec3_rdata capture.now.rrsets) all
             → count.new ≡ counted count.old (hashes_for name.now all)) }
+        // Where memory is refused, too.
+        ensures grown { count.old ≤ count.new }
     {
         let sets = sets_of(alloc, capture.nsec3_parameters(), name, count)?;
         Ok(Hashes {

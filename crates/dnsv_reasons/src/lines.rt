@@ -63,7 +63,7 @@ fn said_line(
 {
     match told {
         Said::Trust(told) => trust_line(alloc, question.facts, question.name, told),
-        Said::NoCloser(number, labels) => closer_line(question, number, labels),
+        Said::NoCloser(number, labels) => Ok(closer_line(question, number, labels)),
         Said::Dname(dname) => Ok(dname_line(question, dname.labels, dname.rrset, None)),
         Said::DnameHeld(labels, number) => Ok(dname_line(
             question,
@@ -71,12 +71,12 @@ fn said_line(
             number.rrset,
             Some(number.place),
         )),
-        Said::Nsec3(why, number) => unusable_line(question, why, number),
+        Said::Nsec3(why, number) => Ok(unusable_line(question, why, number)),
         Said::Source(why, number, asked) => {
             source_line(alloc, question, named, why, number, asked)
         }
-        Said::AnswerMissing(zone) => missing_line(question, zone),
-        Said::DenialUnproved(zone) => unproved_line(question, zone),
+        Said::AnswerMissing(zone) => Ok(missing_line(question, zone)),
+        Said::DenialUnproved(zone) => Ok(unproved_line(question, zone)),
         Said::DsUnproved(cut) => Ok(cut_line(question, cut)),
     }
 }

@@ -1,5 +1,5 @@
 //! The lines of what keeps a question from being answered or denied.
-ghost use Rattle.std.specs.Prelude.{◌≡◌, IfOk, MatchOption, Option};
+ghost use Rattle.std.specs.Prelude.{◌≡◌, MatchOption, Option};
 ghost use Rattle.dnsv_lines.specs.declared.line.Line.{Line};
 ghost use Rattle.dnsv_remedies.specs.declared.said.Said.TheVariants as said;
 ghost use Rattle.dnsv_gaps.specs.Asking.{asking};
@@ -13,25 +13,24 @@ use dnsv_lines::{
 };
 use dnsv_remedies::CutNumber;
 use dnsv_trust_reasons::{above, shown};
-use std::alloc::AllocError;
 
 /// That a closer name than the wildcard behind the signature may be there, the one with so many labels (RFC 4035 5.3.4).
 pub fn closer_line(
     question: &AskedQuestion<'_, '_>,
     number: SignatureNumber,
     labels: usize,
-) -> Result<Option<Line>, AllocError>
-    ensures { IfOk result (λ found. MatchOption found
+) -> Option<Line>
+    ensures { MatchOption result
         ((each : Line) → ¬ IsSaidLine (asking question.now) (said.NoCloser number labels) each)
-        (IsSaidLine (asking question.now) (said.NoCloser number labels))) }
+        (IsSaidLine (asking question.now) (said.NoCloser number labels)) }
 {
     let Some(name) = above(question.name, labels) else {
-        return Ok(None);
+        return None;
     };
-    let Some(signature) = shown(question.facts.capture(), number)? else {
-        return Ok(None);
+    let Some(signature) = shown(question.facts.capture(), number) else {
+        return None;
     };
-    Ok(Some(Line::Reason(Reason::NoCloser(CloserName { signature, name }))))
+    Some(Line::Reason(Reason::NoCloser(CloserName { signature, name })))
 }
 
 /// That the name with so many labels owns the DNAME RRset, or is that of the record of a denial, at the place, with the type
@@ -56,61 +55,55 @@ pub fn unusable_line(
     question: &AskedQuestion<'_, '_>,
     why: WhyNsec3,
     number: RecordNumber,
-) -> Result<Option<Line>, AllocError>
-    ensures { IfOk result (λ found. MatchOption found ((each : Line) → ¬ IsSaidLine (asking question.now) (said.Nsec3 why number) each)
-        (IsSaidLine (asking question.now) (said.Nsec3 why number))) }
+) -> Option<Line>
+    ensures { MatchOption result ((each : Line) → ¬ IsSaidLine (asking question.now) (said.Nsec3 why number) each)
+        (IsSaidLine (asking question.now) (said.Nsec3 why number)) }
 {
     let Some(rrset) = question.facts.capture().rrset(number.rrset) else {
-        return Ok(None);
+        return None;
     };
-    Ok(Some(Line::Reason(Reason::Nsec3(UnusableNsec3 {
+    Some(Line::Reason(Reason::Nsec3(UnusableNsec3 {
         why,
-        owner: rrset.owner().clone()?,
+        owner: rrset.owner().clone().unwrap(),
         number,
-    }))))
+    })))
 }
 
 /// That there is neither an answer nor a denial of the zone that should speak, the one with so many labels, if there is one.
-pub fn missing_line(
-    question: &AskedQuestion<'_, '_>,
-    zone: Option<usize>,
-) -> Result<Option<Line>, AllocError>
-    ensures { IfOk result (λ found. MatchOption found
-        ((each : Line) → ¬ IsSaidLine (asking question.now) (said.AnswerMissing zone) each) (IsSaidLine (asking question.now) (said.AnswerMissing zone))) }
+pub fn missing_line(question: &AskedQuestion<'_, '_>, zone: Option<usize>) -> Option<Line>
+    ensures { MatchOption result
+        ((each : Line) → ¬ IsSaidLine (asking question.now) (said.AnswerMissing zone) each) (IsSaidLine (asking question.now) (said.AnswerMissing zone)) }
 {
     let Some(labels) = zone else {
-        return Ok(Some(Line::Reason(Reason::AnswerMissing(MissingAnswer {
-            name: question.name.clone()?,
+        return Some(Line::Reason(Reason::AnswerMissing(MissingAnswer {
+            name: question.name.clone().unwrap(),
             rtype: question.rtype,
             zone: None,
-        }))));
+        })));
     };
     let Some(zone) = above(question.name, labels) else {
-        return Ok(None);
+        return None;
     };
-    Ok(Some(Line::Reason(Reason::AnswerMissing(MissingAnswer {
-        name: question.name.clone()?,
+    Some(Line::Reason(Reason::AnswerMissing(MissingAnswer {
+        name: question.name.clone().unwrap(),
         rtype: question.rtype,
         zone: Some(zone),
-    }))))
+    })))
 }
 
 /// That there is no answer, and the denials of the zone with so many labels prove nothing.
-pub fn unproved_line(
-    question: &AskedQuestion<'_, '_>,
-    labels: usize,
-) -> Result<Option<Line>, AllocError>
-    ensures { IfOk result (λ found. MatchOption found
-        ((each : Line) → ¬ IsSaidLine (asking question.now) (said.DenialUnproved labels) each) (IsSaidLine (asking question.now) (said.DenialUnproved labels))) }
+pub fn unproved_line(question: &AskedQuestion<'_, '_>, labels: usize) -> Option<Line>
+    ensures { MatchOption result
+        ((each : Line) → ¬ IsSaidLine (asking question.now) (said.DenialUnproved labels) each) (IsSaidLine (asking question.now) (said.DenialUnproved labels)) }
 {
     let Some(zone) = above(question.name, labels) else {
-        return Ok(None);
+        return None;
     };
-    Ok(Some(Line::Reason(Reason::DenialUnproved(DenialUnproved {
-        name: question.name.clone()?,
+    Some(Line::Reason(Reason::DenialUnproved(DenialUnproved {
+        name: question.name.clone().unwrap(),
         rtype: question.rtype,
         zone,
-    }))))
+    })))
 }
 
 /// That a name may be an unsigned delegation, and the zone doesn't prove it (RFC 4035 5.2).

@@ -1,6 +1,6 @@
 -- What stands at a place of the evidence, and that nothing stands at another.
 use Rattle.std.proofs.Common.{◌≡◌, ◌-◌, ℕ, List, map, refl, subst}
-use Rattle.std.specs.List.{AllByRecursion, AllZip}
+use Rattle.std.specs.List.{AllZip}
 use Rattle.dnsv_records.specs.Rrsig.{IsRrsig}
 use Rattle.dnsv_records.specs.declared.rrsig.Rrsig.{Rrsig}
 use Rattle.dnsv_canonical.specs.Canonical.{IsCanonical}

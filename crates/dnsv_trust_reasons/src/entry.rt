@@ -1,8 +1,7 @@
 //! Trust anchors and DS records, as lines tell them.
 ghost use Rattle.std.specs.Prelude.{◌≡◌, IfOk, MatchOption};
 ghost use Rattle.dnsv_lines.specs.declared.line.fault.zone.Entry.{Entry};
-ghost use Rattle.dnsv_trust_reasons.specs.Places.{IsAnchorEntry, IsDsEntry, IsEntry, IsPlaced, anchor_digest, anchor_entry, ds_entry};
-ghost use Rattle.dnsv_records.specs.Ds.{IsDs};
+ghost use Rattle.dnsv_trust_reasons.specs.Places.{IsAnchorEntry, IsDsEntry, IsEntry, anchor_digest, anchor_entry, ds_entry};
 
 use dnsv_canonical::{Capture, RecordNumber, Rrset, in_canonical_order, numbered};
 use dnsv_chain::Anchor;
@@ -24,32 +23,31 @@ pub fn entry(
         (IsEntry facts.now.rrsets facts.now.anchors number)) }
 {
     match number {
-        EntryNumber::Anchor(anchor) => anchor_entry(facts.anchors(), anchor),
+        EntryNumber::Anchor(anchor) => Ok(anchor_entry(facts.anchors(), anchor)),
         EntryNumber::Ds(record) => ds_entry(alloc, facts.capture(), record),
     }
 }
 
 /// The trust anchor with the number.
-fn anchor_entry(anchors: &[Anchor<'_>], number: usize) -> Result<Option<Entry>, AllocError>
-    ensures { IfOk result (λ found. MatchOption found ((each : Entry) → ¬ IsAnchorEntry anchors.now number each)
-        (IsAnchorEntry anchors.now number)) }
+fn anchor_entry(anchors: &[Anchor<'_>], number: usize) -> Option<Entry>
+    ensures { MatchOption result ((each : Entry) → ¬ IsAnchorEntry anchors.now number each) (IsAnchorEntry anchors.now number) }
 {
     let Some(anchor) = numbered(anchors, number) else {
-        return Ok(None);
+        return None;
     };
-    Ok(Some(told_anchor(number, anchor)?))
+    Some(told_anchor(number, anchor))
 }
 
 /// The trust anchor, which has the number, as it is reported.
-fn told_anchor(number: usize, anchor: &Anchor<'_>) -> Result<Entry, AllocError>
-    ensures { IfOk result (λ entry. entry ≡ anchor_entry number anchor.now) }
+fn told_anchor(number: usize, anchor: &Anchor<'_>) -> Entry
+    ensures { result ≡ anchor_entry number anchor.now }
 {
-    Ok(Entry {
-        zone: anchor.owner().clone()?,
+    Entry {
+        zone: anchor.owner().clone().unwrap(),
         number: EntryNumber::Anchor(number),
         key: anchor_key_name(anchor),
         digest_type: anchor_digest(anchor),
-    })
+    }
 }
 
 /// The digest type of the anchor, where it is a DS record.
@@ -81,20 +79,20 @@ fn ds_entry(
     let Some(found) = numbered(&records, number.place) else {
         return Ok(None);
     };
-    Ok(Some(told_ds(number, rrset, found.record)?))
+    Ok(Some(told_ds(number, rrset, found.record)))
 }
 
 /// The DS record, which has the number, as it is reported.
-fn told_ds(number: RecordNumber, rrset: &Rrset<'_>, ds: &Ds<'_>) -> Result<Entry, AllocError>
-    ensures { IfOk result (λ entry. entry ≡ ds_entry number rrset.now ds.now) }
+fn told_ds(number: RecordNumber, rrset: &Rrset<'_>, ds: &Ds<'_>) -> Entry
+    ensures { result ≡ ds_entry number rrset.now ds.now }
 {
-    Ok(Entry {
-        zone: rrset.owner().clone()?,
+    Entry {
+        zone: rrset.owner().clone().unwrap(),
         number: EntryNumber::Ds(number),
         key: KeyName {
             tag: ds.key_tag,
             algorithm: ds.algorithm,
         },
         digest_type: Some(ds.digest_type),
-    })
+    }
 }

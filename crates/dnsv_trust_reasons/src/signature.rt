@@ -1,40 +1,32 @@
 //! Signatures, as lines tell them.
-ghost use Rattle.std.specs.Prelude.{◌≡◌, IfOk, MatchOption};
+ghost use Rattle.std.specs.Prelude.{◌≡◌, MatchOption};
 ghost use Rattle.dnsv_lines.specs.declared.line.fault.signature.ShownSignature.{ShownSignature};
 ghost use Rattle.dnsv_trust_reasons.specs.Places.{IsShown, shown_of};
 
 use dnsv_canonical::{Capture, Rrset, SignatureNumber, numbered};
 use dnsv_lines::{KeyName, ShownSignature};
 use dnsv_records::Rrsig;
-use std::alloc::AllocError;
 
 /// The signature with the number, if there is one.
-pub fn shown(
-    capture: &Capture<'_>,
-    number: SignatureNumber,
-) -> Result<Option<ShownSignature>, AllocError>
-    ensures { IfOk result (λ found. MatchOption found ((each : ShownSignature) → ¬ IsShown capture.now.rrsets number each)
-        (IsShown capture.now.rrsets number)) }
+pub fn shown(capture: &Capture<'_>, number: SignatureNumber) -> Option<ShownSignature>
+    ensures { MatchOption result ((each : ShownSignature) → ¬ IsShown capture.now.rrsets number each)
+        (IsShown capture.now.rrsets number) }
 {
     let Some(rrset) = capture.rrset(number.rrset) else {
-        return Ok(None);
+        return None;
     };
     let Some(rrsig) = numbered(rrset.signatures(), number.signature) else {
-        return Ok(None);
+        return None;
     };
-    Ok(Some(shown_of(number, rrset, rrsig)?))
+    Some(shown_of(number, rrset, rrsig))
 }
 
 /// The signature, which has the number, with the key that it names.
-fn shown_of(
-    number: SignatureNumber,
-    rrset: &Rrset<'_>,
-    rrsig: &Rrsig<'_>,
-) -> Result<ShownSignature, AllocError>
-    ensures { IfOk result (λ shown. shown ≡ shown_of number rrset.now rrsig.now) }
+fn shown_of(number: SignatureNumber, rrset: &Rrset<'_>, rrsig: &Rrsig<'_>) -> ShownSignature
+    ensures { result ≡ shown_of number rrset.now rrsig.now }
 {
-    Ok(ShownSignature {
-        owner: rrset.owner().clone()?,
+    ShownSignature {
+        owner: rrset.owner().clone().unwrap(),
         rtype: rrset.rtype(),
         number,
         key: KeyName {
@@ -42,5 +34,5 @@ fn shown_of(
             algorithm: rrsig.algorithm,
         },
         signer: rrsig.signer.to_name(),
-    })
+    }
 }

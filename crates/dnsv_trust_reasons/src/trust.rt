@@ -35,10 +35,10 @@ pub fn trust_line(
         Told::Zone(why, labels) => Ok(zone_line(name, why, labels)),
         Told::Entry(why, number) => entry_line(alloc, facts, why, number),
         Told::NotSelfSigned(number) => self_line(alloc, facts, number),
-        Told::NotVouched(number) => vouched_line(facts, number),
-        Told::Unsigned(number) => unsigned_line(facts, number),
-        Told::Signature(why, number) => signature_line(facts, why, number),
-        Told::Follows(number) => follows_line(facts, number),
+        Told::NotVouched(number) => Ok(vouched_line(facts, number)),
+        Told::Unsigned(number) => Ok(unsigned_line(facts, number)),
+        Told::Signature(why, number) => Ok(signature_line(facts, why, number)),
+        Told::Follows(number) => Ok(follows_line(facts, number)),
     }
 }
 
@@ -85,63 +85,59 @@ fn self_line(
         return Ok(None);
     };
     Ok(Some(Line::Reason(Reason::NotSelfSigned(KeyWithoutSignature {
-        zone: rrset.owner().clone()?,
+        zone: rrset.owner().clone().unwrap(),
         rrset: number.rrset,
         key,
     }))))
 }
 
 /// That nothing fits a key of the DNSKEY RRset with the number.
-fn vouched_line(facts: &CaseFacts<'_>, number: usize) -> Result<Option<Line>, AllocError>
-    ensures { (name : Labels) → IfOk result (λ found. MatchOption found ((each : Line) → ¬ IsTrustLine (basis_by facts.now) name (told.NotVouched number) each)
-        (IsTrustLine (basis_by facts.now) name (told.NotVouched number))) }
+fn vouched_line(facts: &CaseFacts<'_>, number: usize) -> Option<Line>
+    ensures { (name : Labels) → MatchOption result ((each : Line) → ¬ IsTrustLine (basis_by facts.now) name (told.NotVouched number) each)
+        (IsTrustLine (basis_by facts.now) name (told.NotVouched number)) }
 {
     let Some(rrset) = facts.capture().rrset(number) else {
-        return Ok(None);
+        return None;
     };
-    Ok(Some(Line::Reason(Reason::NotVouched(KeysNotVouched {
-        zone: rrset.owner().clone()?,
+    Some(Line::Reason(Reason::NotVouched(KeysNotVouched {
+        zone: rrset.owner().clone().unwrap(),
         rrset: number,
-    }))))
+    })))
 }
 
 /// That the RRset with the number has no signatures.
-fn unsigned_line(facts: &CaseFacts<'_>, number: usize) -> Result<Option<Line>, AllocError>
-    ensures { (name : Labels) → IfOk result (λ found. MatchOption found ((each : Line) → ¬ IsTrustLine (basis_by facts.now) name (told.Unsigned number) each)
-        (IsTrustLine (basis_by facts.now) name (told.Unsigned number))) }
+fn unsigned_line(facts: &CaseFacts<'_>, number: usize) -> Option<Line>
+    ensures { (name : Labels) → MatchOption result ((each : Line) → ¬ IsTrustLine (basis_by facts.now) name (told.Unsigned number) each)
+        (IsTrustLine (basis_by facts.now) name (told.Unsigned number)) }
 {
     let Some(rrset) = facts.capture().rrset(number) else {
-        return Ok(None);
+        return None;
     };
-    Ok(Some(Line::Reason(Reason::Unsigned(UnsignedRrset {
-        owner: rrset.owner().clone()?,
+    Some(Line::Reason(Reason::Unsigned(UnsignedRrset {
+        owner: rrset.owner().clone().unwrap(),
         rtype: rrset.rtype(),
         rrset: number,
-    }))))
+    })))
 }
 
 /// That the signature proves nothing.
-fn signature_line(
-    facts: &CaseFacts<'_>,
-    why: WhySignature,
-    number: SignatureNumber,
-) -> Result<Option<Line>, AllocError>
-    ensures { (name : Labels) → IfOk result (λ found. MatchOption found ((each : Line) → ¬ IsTrustLine (basis_by facts.now) name (told.Signature why number) each)
-        (IsTrustLine (basis_by facts.now) name (told.Signature why number))) }
+fn signature_line(facts: &CaseFacts<'_>, why: WhySignature, number: SignatureNumber) -> Option<Line>
+    ensures { (name : Labels) → MatchOption result ((each : Line) → ¬ IsTrustLine (basis_by facts.now) name (told.Signature why number) each)
+        (IsTrustLine (basis_by facts.now) name (told.Signature why number)) }
 {
-    let Some(signature) = shown(facts.capture(), number)? else {
-        return Ok(None);
+    let Some(signature) = shown(facts.capture(), number) else {
+        return None;
     };
-    Ok(Some(Line::Reason(Reason::Signature(SignatureFault { why, signature }))))
+    Some(Line::Reason(Reason::Signature(SignatureFault { why, signature })))
 }
 
 /// That the signature proves nothing because its signer isn't trusted.
-fn follows_line(facts: &CaseFacts<'_>, number: SignatureNumber) -> Result<Option<Line>, AllocError>
-    ensures { (name : Labels) → IfOk result (λ found. MatchOption found ((each : Line) → ¬ IsTrustLine (basis_by facts.now) name (told.Follows number) each)
-        (IsTrustLine (basis_by facts.now) name (told.Follows number))) }
+fn follows_line(facts: &CaseFacts<'_>, number: SignatureNumber) -> Option<Line>
+    ensures { (name : Labels) → MatchOption result ((each : Line) → ¬ IsTrustLine (basis_by facts.now) name (told.Follows number) each)
+        (IsTrustLine (basis_by facts.now) name (told.Follows number)) }
 {
-    let Some(signature) = shown(facts.capture(), number)? else {
-        return Ok(None);
+    let Some(signature) = shown(facts.capture(), number) else {
+        return None;
     };
-    Ok(Some(Line::Follows(UntrustedSigner { signature })))
+    Some(Line::Follows(UntrustedSigner { signature }))
 }

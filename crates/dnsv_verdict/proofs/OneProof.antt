@@ -22,6 +22,7 @@ use Rattle.dnsv_denial.specs.gathering.EvidenceWords.{Chain, GoesBefore, nsec_fi
 use Rattle.dnsv_proof_forms.specs.records.Numbers.{number_cmp}
 use Rattle.dnsv_proof_forms.specs.records.ParametersOrder.{parameters_cmp}
 use Rattle.dnsv_denial.specs.gathering.EvidenceWords.Chain.{ByNsec, ByNsec3}
+use Rattle.dnsv_denial.proofs.lemmas.proving.NumberLemmas.{number_cmp_exact, number_cmp_total}
 use Rattle.dnsv_canonical.specs.declared.number.RecordNumber.{RecordNumber}
 
 -- ---- orders
@@ -29,14 +30,6 @@ use Rattle.dnsv_canonical.specs.declared.number.RecordNumber.{RecordNumber}
 then_Equal : (a b : Ordering) → ordering_then a b ≡ Equal → (a ≡ Equal) × (b ≡ Equal)
 then_Equal Equal b e = (refl, e)
 then_Equal a b e = cc
-
-pub number_total : IsTotalOrder number_cmp
-number_total = then_total (on_total (λ (n : RecordNumber). n.rrset) nat_cmp_total) (on_total (λ (n : RecordNumber). n.place) nat_cmp_total)
-
-pub number_exact : (a b : RecordNumber) → number_cmp a b ≡ Equal → a ≡ b
-number_exact a b e =
-    let both = then_Equal (nat_cmp a.rrset b.rrset) (nat_cmp a.place b.place) e in
-    λ i. record { rrset = exact_unsigned a.rrset b.rrset both.0 i; place = exact_unsigned a.place b.place both.1 i }
 
 pub parameters_total : IsTotalOrder parameters_cmp
 parameters_total = then_total (on_total (λ (p : Parameters). p.iterations) nat_cmp_total) (on_total (λ (p : Parameters). p.salt) nat_list_cmp_total)
@@ -160,7 +153,7 @@ module _ {Index : Type 0} (cmp : Index → Index → Ordering) (total : IsTotalO
 
 pub one_list : (parts xs ys : List RecordNumber) → AreRecordsOf parts xs → AreRecordsOf parts ys → xs ≡ ys
 one_list parts xs ys first second =
-    rising_unique number_cmp number_total number_exact xs ys first.rising second.rising
+    rising_unique number_cmp number_cmp_total number_cmp_exact xs ys first.rising second.rising
     (λ x m. IsMember-from_contains ys x ((second.members x).1 ((first.members x).0 (Contains-from_member xs x m))))
     (λ x m. IsMember-from_contains xs x ((first.members x).1 ((second.members x).0 (Contains-from_member ys x m))))
 
@@ -213,12 +206,12 @@ module _ (S : ℕ → ℕ → Type 0) (rrsets : List ReceivedRrset) (name : Labe
 pub one_first_no_name : (S : ℕ → ℕ → Type 0) (rrsets : List ReceivedRrset) (name : Labels) (a b : ProofRecords)
     → IsFirstNoName S rrsets name a → IsFirstNoName S rrsets name b → a ≡ b
 one_first_no_name S rrsets name =
-    one_proof S rrsets name _ _ (λ said zone. one_no_name number_cmp number_total number_exact said zone name)
+    one_proof S rrsets name _ _ (λ said zone. one_no_name number_cmp number_cmp_total number_cmp_exact said zone name)
 
 pub one_first_no_data : (S : ℕ → ℕ → Type 0) (rrsets : List ReceivedRrset) (name : Labels) (t : ℕ) (a b : ProofRecords)
     → IsFirstNoData S rrsets name t a → IsFirstNoData S rrsets name t b → a ≡ b
 one_first_no_data S rrsets name t =
-    one_proof S rrsets name _ _ (λ said zone. one_no_data number_cmp number_total number_exact said zone name t)
+    one_proof S rrsets name _ _ (λ said zone. one_no_data number_cmp number_cmp_total number_cmp_exact said zone name t)
 
 -- ---- the cut
 

@@ -1,5 +1,5 @@
 //! The making of the hashes that a question asks for.
-ghost use Rattle.std.specs.Prelude.{◌≡◌, ◌+◌, ◌*◌, IfOk, length};
+ghost use Rattle.std.specs.Prelude.{◌≡◌, ◌≤◌, ◌+◌, ◌*◌, IfOk, length};
 ghost use Rattle.dnsv_names.specs.Count.{counted};
 ghost use Rattle.dnsv_names.specs.Name.{rightmost};
 ghost use Rattle.dnsv_names.specs.Tree.{wildcard_of};
@@ -32,6 +32,8 @@ pub fn hash_names(
         hashed.above.items hashed.wildcards.items) }
     ensures count { IfOk result (λ hashed. count.new
         ≡ counted count.old ((2 * length name.now + 1) * (parameters.now.iterations.0 + 1))) }
+    // Where memory is refused, too.
+    ensures grown { count.old ≤ count.new }
 {
     let above = hash_above(alloc, name, parameters, count)?;
     let wildcards = hash_wildcards(alloc, name, parameters, count)?;
@@ -50,6 +52,7 @@ fn hash_above(
         hashes.items) }
     ensures count { IfOk result (λ hashes. count.new
         ≡ counted count.old ((length name.now + 1) * (parameters.now.iterations.0 + 1))) }
+    ensures grown { count.old ≤ count.new }
 {
     // What is true of every count.
     let _ = count.value();
@@ -79,6 +82,7 @@ fn hash_wildcards(
         hashes.items) }
     ensures count { IfOk result (λ hashes. count.new
         ≡ counted count.old (length name.now * (parameters.now.iterations.0 + 1))) }
+    ensures grown { count.old ≤ count.new }
 {
     // What is true of every count.
     let _ = count.value();

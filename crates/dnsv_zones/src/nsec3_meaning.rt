@@ -16,7 +16,7 @@ ghost use Rattle.dnsv_zones.specs.chains.Nsec3Chain.{
   IsNsec3ChainOf,
   HasNoCollision,
 };
-ghost use Rattle.dnsv_zones.specs.forms.Nsec3.{nsec3_words, IsCovered, OptOutForm, OptedOutNextCloserForm};
+ghost use Rattle.dnsv_zones.specs.forms.Nsec3.{nsec3_words, IsCovered, IsOptedOut, OptOutForm, OptedOutNextCloserForm};
 ghost use Rattle.dnsv_zones.specs.examples.Example.{zone as example_zone, e_name, s_name};
 ghost use Rattle.dnsv_zones.specs.examples.OptOutExample.{wire_hash, opt_out_records};
 ghost use Rattle.dnsv_zones.specs.forms.Forms.{NoNameForm, NoDataForm, NoWildcardDataForm, NoCloserForm, UnsignedCutForm};
@@ -62,7 +62,9 @@ pub fn unsigned_cut_by_nsec3_is_an_unsigned_delegation()
 
 /// What a cover means, with Opt-Out or without: the covered name, if it is a node at all, is a delegation
 /// without DS or an empty non-terminal that exists through such alone. So it is for the next closer name of
-/// an unsigned cut by Opt-Out, and of an answer from a wildcard. It holds whatever names share a hash.
+/// an unsigned cut by Opt-Out, and of an answer from a wildcard. Of an unsigned cut whose next closer name no record
+/// covers with the flag, that name is no node, and the wildcard is such a node if it is one (RFC 5155 8.6, 9.2). It holds
+/// whatever names share a hash.
 pub fn opted_out_nodes_are_unsigned_ends()
     ensures covered { (zone : Zone) (apex name : Labels) (hash : NameHash)
         (records : List Nsec3Record) → HasNsec3Records zone apex hash records
@@ -71,6 +73,13 @@ pub fn opted_out_nodes_are_unsigned_ends()
         (records : List Nsec3Record) → HasNsec3Records zone apex hash records
         → OptOutForm hash records apex name labels ⊎ OptedOutNextCloserForm hash records apex name labels
         → IsNode zone (rightmost name (labels + 1)) → IsUnsignedEnd zone (rightmost name (labels + 1)) }
+    ensures wildcard { (zone : Zone) (apex name : Labels) (labels : ℕ) (hash : NameHash)
+        (records : List Nsec3Record) → HasNsec3Records zone apex hash records
+        → OptOutForm hash records apex name labels
+        → IsOptedOut hash records (rightmost name (labels + 1))
+        ⊎ ((¬ IsNode zone (rightmost name (labels + 1)))
+        × (IsNode zone (wildcard_of (rightmost name labels))
+        → IsUnsignedEnd zone (wildcard_of (rightmost name labels)))) }
 {}
 
 /// The premises can be met under Opt-Out: a small zone has a whole chain that leaves out its delegation without DS, no

@@ -1,4 +1,4 @@
--- How a view keeps the records of a zone. No public clause cites this module.
+-- How a view keeps the records of a zone.
 use Rattle.std.specs.Prelude.{◌≡◌, ◌↔◌, ◌⊎◌, ⊤, Contains, IsTrue, ℕ, List, map}
 use Rattle.std.specs.List.{AllByRecursion}
 use Rattle.std.specs.List.Sorted.{IsStrictlySortedBy}

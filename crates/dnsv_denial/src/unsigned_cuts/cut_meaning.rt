@@ -32,8 +32,7 @@ pub fn a_shown_encloser_is_an_open_node_of_the_zone()
 
 /// What a record of the evidence with the Opt-Out flag means for a name that it covers: in each zone that has the
 /// record in its chain the name is no node, or a delegation without DS, or an empty non-terminal that exists through
-/// such alone (RFC 5155 6, 8.6, 8.8, 9.2), whatever hashes
-/// collide.
+/// such alone (RFC 5155 6, 8.6, 8.8, 9.2), whatever hashes collide.
 pub fn an_opted_out_name_is_no_node_or_an_unsigned_end()
     ensures { (trust : KeptTrust) (rrsets : List ReceivedRrset) (apex covered : Labels) (chain : Chain)
         (number : RecordNumber) (zone : Zone)

@@ -34,7 +34,7 @@ pub enum ShownCut {
         /// The name's number of labels.
         labels: usize,
     },
-    /// Opt-Out may leave out a delegation at the next closer name (RFC 5155 8.6, 9.2).
+    /// Opt-Out may leave out a delegation at the next closer name, or at the wildcard beside it (RFC 5155 8.6, 9.2).
     OptOut {
         /// The closest encloser's number of labels.
         labels: usize,

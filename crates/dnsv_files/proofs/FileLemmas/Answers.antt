@@ -1,20 +1,19 @@
 -- A text of answers says one list of them, or has one fault.
-use Rattle.std.proofs.Common.{◌≡◌, ◌⊎◌, ◌<◌, ℕ, List, Option, Some, None, Result, Err, inl, inr, refl, sym, ap, subst, ◌∙◌, arith, length, slice_get}
+use Rattle.std.proofs.Common.{◌≡◌, ◌⊎◌, ℕ, List, Option, Some, None, Result, Err, inl, inr, refl, sym, ap, subst, ◌∙◌, length}
 use Rattle.std.proofs.lemmas.List.{append-nil}
-use Rattle.std.proofs.lemmas.Option.{slice_get_past}
 use Rattle.std.specs.List.{AllByRecursion, flat_map}
 use Rattle.std.specs.Prelude.{IfErr, ⊤}
 use Rattle.sha2.specs.Sha256.{sha256}
 use Rattle.dnsv_message.specs.Streams.Frames.{IsCapture, IsFramed, frame}
 use Rattle.dnsv_canonical.specs.Rrsets.{ReceivedRrset}
-use Rattle.dnsv_answers.specs.AnswerFile.{AnswersContents, AreAnswersOf, AreMiscounted, AreOf, AreOfOther, BeginsWithHeading, IsFaultOf}
+use Rattle.dnsv_answers.specs.AnswerFile.{AnswersContents, AreAnswersOf, AreMiscounted, AreOf, AreOfOther, HasLineBehindHeading, IsFaultOf}
 use Rattle.dnsv_answers.specs.Answered.{IsNumberAskedWithin}
 use Rattle.dnsv_answers.specs.declared.error.AnswersError.{AnswersError}
 use Rattle.dnsv_answers.specs.declared.error.AnswersError.TheVariants as answers
 use Rattle.dnsv_answers.specs.declared.heading.Moments.{Moments}
-use Rattle.dnsv_answers.specs.declared.said.SaidAnswer.{SaidAnswer}
 use Rattle.dnsv_answers.proofs.AnswerLaws.{AreAnswersOf-no_fault, AreAnswersOf-only, IsFaultOf-only}
 use Rattle.dnsv_answers.proofs.AnsweredLaws.{one_number_within}
+use Rattle.dnsv_answers.proofs.AnsweredLemmas.{none_miscounted, one_miscount}
 use Rattle.dnsv_files.specs.declared.status.Fault.{Fault}
 use Rattle.dnsv_files.specs.declared.status.Fault.TheVariants as fault
 use Rattle.dnsv_files.specs.declared.status.InputFile.{InputFile}
@@ -69,36 +68,21 @@ refused_for P (answers.Count line) (fault.Refused a p) tells (inr is) = (answers
 refused_for P (answers.Count line) fault.OutOfMemory tells is = absurd tells
 refused_for P error found tells is = absurd tells
 
--- what refuses the text is told, or memory was refused before it
+-- what refuses the text is told
 pub every_answers_fault : {T U : Type 0} (text : List ℕ) (error : AnswersError) (found : Fault) → IsAnswersFault error found
     → ((first : AnswersError) → IsFaultOf text first → Path (Result U AnswersError) (Err error) (Err first))
-    → TellsRefusals {T = T} (λ why place. (first : AnswersError) × IsFaultOf text first × TellsAnswersError first why place) (BeginsWithHeading text) (Err found)
+    → TellsRefusals {T = T} (λ why place. (first : AnswersError) × IsFaultOf text first × TellsAnswersError first why place) ⊥ (Err found)
 every_answers_fault text error found is every =
-    every_told (IsFaultOf text) TellsAnswersError (BeginsWithHeading text) answers.OutOfMemory error found (refused_as error found is)
+    every_told (IsFaultOf text) TellsAnswersError ⊥ answers.OutOfMemory error found (refused_as error found is)
     (λ same. subst (λ (e : AnswersError). IsAnswersFault e found) same is) (λ first bad. inl (every first bad))
 
--- memory is wanted only for a text that begins with a heading
-pub wanted_for_answers : {T : Type 0} (text : List ℕ) (error : AnswersError) (found : Fault) → IsAnswersFault error found → (error ≡ answers.OutOfMemory → BeginsWithHeading text)
-    → Path (Result T Fault) (Err found) (Err fault.OutOfMemory) → BeginsWithHeading text
+-- memory is wanted only where a line stands behind the heading
+pub wanted_for_answers : {T : Type 0} (text : List ℕ) (error : AnswersError) (found : Fault) → IsAnswersFault error found → (error ≡ answers.OutOfMemory → HasLineBehindHeading text)
+    → Path (Result T Fault) (Err found) (Err fault.OutOfMemory) → HasLineBehindHeading text
 wanted_for_answers text answers.OutOfMemory found tells begins is = begins refl
 wanted_for_answers text error found tells begins is = let same : found ≡ fault.OutOfMemory = cc in absurd (subst (IsAnswersFault error) same tells)
 
 -- ---- one fault
-
-one_miscount : (contents : AnswersContents) (count : ℕ) (a b : AnswersError) → AreMiscounted contents count a → AreMiscounted contents count b → a ≡ b
-one_miscount contents count a b (inl x) (inl y) = x.1 ∙ sym y.1
-one_miscount contents count a b (inl x) (inr y) =
-    let few : length contents.said < count = x.0 in
-    let none = slice_get_past contents.said count (omega (arith, few)) in
-    let bad : Some y.0 ≡ None = sym y.1 ∙ none in cc
-one_miscount contents count a b (inr x) (inl y) =
-    let few : length contents.said < count = y.0 in
-    let none = slice_get_past contents.said count (omega (arith, few)) in
-    let bad : Some x.0 ≡ None = sym x.1 ∙ none in cc
-one_miscount contents count a b (inr x) (inr y) =
-    let both : Some x.0 ≡ Some y.0 = sym x.1 ∙ y.1 in
-    let same : x.0 ≡ y.0 = cc in
-    x.2 ∙ ap (λ (each : SaidAnswer). answers.Count (Some each.line)) same ∙ sym y.2
 
 module _ (capture : List ℕ) (moments : Moments) (text : List ℕ) where
   -- what is said of another list isn't said of this one
@@ -148,17 +132,11 @@ module _ (capture : List ℕ) (moments : Moments) (text : List ℕ) where
     no_answers_fault contents said so_many =
         no_text_fault Answers (AreRefusedFor capture moments rrsets) text said.has.within (λ why place bad. stands why place bad)
       where
-        counted : (error : AnswersError) (count : ℕ) → length contents.said ≡ count → AreMiscounted contents count error → ⊥
-        counted error count same (inl few) = let less : length contents.said < count = few.0 in omega (arith, same, less)
-        counted error count same (inr many) =
-            let none = slice_get_past contents.said count (omega (arith, same)) in
-            let bad : Some many.0 ≡ None = sym many.1 ∙ none in cc
-
         stands : (why : Refusal) (place : Place) → AreRefusedFor capture moments rrsets text why place → ⊥
         stands why place (inl bad) = counted_stands contents said.has.are said.are_for why place bad
         stands why place (inr bad) =
             let same = AreAnswersOf-only text bad.0 contents bad.1 said.has.are in
-            counted bad.3.0 bad.3.1.0 (so_many bad.3.1.0 bad.3.1.1) (subst (λ (each : AnswersContents). AreMiscounted each bad.3.1.0 bad.3.0) same bad.3.1.2)
+            none_miscounted contents bad.3.1.0 bad.3.0 (so_many bad.3.1.0 bad.3.1.1) (subst (λ (each : AnswersContents). AreMiscounted each bad.3.1.0 bad.3.0) same bad.3.1.2)
 
 -- answers of another list are refused, so no read has failed
 other_found : (line : ℕ) (found : Fault) → IsAnswersFault (answers.OtherList line) found → IsRefusalOf (λ why place. ⊤) found

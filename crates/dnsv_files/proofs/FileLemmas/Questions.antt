@@ -1,5 +1,5 @@
 -- A text of questions is one list of them, or has one fault.
-use Rattle.std.proofs.Common.{◌≡◌, ◌⊎◌, ℕ, List, Result, Err, refl, subst}
+use Rattle.std.proofs.Common.{◌≡◌, ℕ, List, Result, Err, inl, refl, subst}
 use Rattle.dnsv_canonical.specs.Question.{Asked}
 use Rattle.dnsv_questions.specs.QuestionFile.{BeginsWithQuestion, IsFaultOf}
 use Rattle.dnsv_questions.proofs.QuestionFileLaws.{AreQuestionsOf-no_fault, AreQuestionsOf-only, IsFaultOf-only}
@@ -31,12 +31,13 @@ told_as (questions.Syntax line) (fault.Refused a p) is why place tells = one_tel
 told_as (questions.TooMany line) (fault.Refused a p) is why place tells = one_telling (questions.TooMany line) a why p place is tells
 told_as error found is why place tells = absurd is
 
--- what refuses the text is told, or memory was refused before it
+-- what refuses the text is told
 pub every_questions_fault : {T U : Type 0} (text : List ℕ) (error : QuestionsError) (found : Fault) → IsQuestionsFault error found
-    → ((first : QuestionsError) → IsFaultOf text first → Path (Result U QuestionsError) (Err error) (Err first) ⊎ (Path (Result U QuestionsError) (Err error) (Err questions.OutOfMemory) × BeginsWithQuestion text))
-    → TellsRefusals {T = T} (λ why place. (first : QuestionsError) × IsFaultOf text first × TellsQuestionsError first why place) (BeginsWithQuestion text) (Err found)
+    → ((first : QuestionsError) → IsFaultOf text first → Path (Result U QuestionsError) (Err error) (Err first))
+    → TellsRefusals {T = T} (λ why place. (first : QuestionsError) × IsFaultOf text first × TellsQuestionsError first why place) ⊥ (Err found)
 every_questions_fault text error found is every =
-    every_told (IsFaultOf text) TellsQuestionsError (BeginsWithQuestion text) questions.OutOfMemory error found (told_as error found is) (λ same. subst (λ (e : QuestionsError). IsQuestionsFault e found) same is) every
+    every_told (IsFaultOf text) TellsQuestionsError ⊥ questions.OutOfMemory error found (told_as error found is)
+    (λ same. subst (λ (e : QuestionsError). IsQuestionsFault e found) same is) (λ first bad. inl (every first bad))
 
 -- a text of questions has no fault
 pub no_questions_fault : (text : List ℕ) (asked : List Asked) (told : Fault) → HasQuestions text asked → IsFaultOfQuestions text told → ⊥

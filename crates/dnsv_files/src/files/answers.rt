@@ -16,14 +16,16 @@ use std::alloc::Global;
 use std::io::Read;
 
 impl FromText for Answers {
-    ghost use Rattle.dnsv_answers.specs.AnswerFile.{BeginsWithHeading};
+    ghost use Rattle.dnsv_answers.specs.AnswerFile.{HasLineBehindHeading};
     ghost use Rattle.dnsv_files.specs.Files.Answers.{AreAnswersRefused, HasAnswers};
 
     ghost says = { HasAnswers };
 
     ghost is_refused = { AreAnswersRefused };
 
-    ghost begins = { BeginsWithHeading };
+    ghost begins = { HasLineBehindHeading };
+
+    ghost waits = { λ _. ⊥ };
 
     fn from_text(alloc: Global, text: &[u8]) -> Result<Answers, Fault> {
         match Answers::parse(alloc, text) {

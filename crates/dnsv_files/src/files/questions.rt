@@ -19,6 +19,8 @@ impl FromText for Questions {
 
     ghost begins = { BeginsWithQuestion };
 
+    ghost waits = { λ _. ⊥ };
+
     fn from_text(alloc: Global, text: &[u8]) -> Result<Questions, Fault> {
         match Questions::parse(alloc, text) {
             Ok(questions) => Ok(questions),

@@ -19,6 +19,8 @@ impl FromText for Statements {
 
     ghost begins = { BeginsWithStatement };
 
+    ghost waits = { BeginsWithStatement };
+
     fn from_text(alloc: Global, text: &[u8]) -> Result<Statements, Fault> {
         match Statements::parse(alloc, text) {
             Ok(statements) => Ok(statements),

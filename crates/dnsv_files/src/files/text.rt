@@ -23,16 +23,19 @@ pub trait FromText: Drop + Sized {
     /// The text is refused so, at the place.
     ghost is_refused: { List ℕ → Refusal → Place → Type 0 };
 
-    /// The text begins with a line that takes memory.
+    /// The text begins with what takes memory.
     ghost begins: { List ℕ → Type 0 };
 
-    /// What the text says; the fault is that of its first line at fault. It is reported, unless memory was refused to a line
-    /// before it.
+    /// A fault of the text may wait for memory, which the lines before it take.
+    ghost waits: { List ℕ → Type 0 };
+
+    /// What the text says; the fault is that of its first line at fault. It is reported, unless it waits for memory, and that
+    /// was refused.
     fn from_text(alloc: Global, text: &[u8]) -> Result<Self, Fault>
         ensures said { IfOk result (λ value. length text.now ≤ file_limit → says text.now value) }
         ensures fault { IfErr result (IsFaultOf (is_refused text.now)) }
-        ensures every_fault { TellsRefusals (is_refused text.now) (begins text.now) result }
-        // Memory is wanted only where the first line says something.
+        ensures every_fault { TellsRefusals (is_refused text.now) (waits text.now) result }
+        // Memory is wanted only where the text begins with something.
         ensures memory { result ≡ Err Fault.OutOfMemory → begins text.now };
 }
 

@@ -19,6 +19,8 @@ impl FromText for KeyRing {
 
     ghost begins = { BeginsWithKey };
 
+    ghost waits = { BeginsWithKey };
+
     fn from_text(alloc: Global, text: &[u8]) -> Result<KeyRing, Fault> {
         match KeyRing::parse(alloc, text) {
             Ok(ring) => Ok(ring),

@@ -44,6 +44,8 @@ impl FromText for RequestMacs {
 
     ghost begins = { BeginsWithMac };
 
+    ghost waits = { BeginsWithMac };
+
     fn from_text(alloc: Global, text: &[u8]) -> Result<RequestMacs, Fault> {
         let each = macs_of(alloc, text)?;
         Ok(RequestMacs { each })

@@ -1,4 +1,5 @@
--- The forms that ask something of the wildcard at the closest encloser (RFC 4035 5.4, RFC 5155 8.4, 8.7).
+-- The forms that ask something of the wildcard at the closest encloser (RFC 4035 5.4, RFC 5155 8.4, 8.7). No public
+-- clause cites this module.
 use Rattle.std.specs.Prelude.{ℕ, ◌≤◌}
 use Rattle.std.specs.Ordering.{nat_cmp}
 use Rattle.dnsv_names.specs.Name.{Labels, rightmost}

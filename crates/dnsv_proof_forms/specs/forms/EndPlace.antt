@@ -1,4 +1,4 @@
--- The places of the records that show where a search ends, and what they show.
+-- The places of the records that show where a search ends, and what they show. No public clause cites this module.
 use Rattle.std.specs.Prelude.{◌+◌, ℕ, List, [], ◌∷◌, ◌++◌}
 use Rattle.std.specs.Ordering.{nat_cmp}
 use Rattle.dnsv_names.specs.Name.{Labels, rightmost}

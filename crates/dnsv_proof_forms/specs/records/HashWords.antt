@@ -1,4 +1,4 @@
--- What NSEC3 records say of a hash.
+-- What NSEC3 records say of a hash. No public clause cites this module.
 use Rattle.std.specs.Prelude.{◌≡◌, ℕ, List}
 use Rattle.dnsv_names.specs.Order.{label_cmp}
 use Rattle.dnsv_names.specs.Circle.{Gap}

@@ -1,4 +1,4 @@
--- The order of the parameters of NSEC3 records (RFC 5155 4).
+-- An order of the parameters of NSEC3 records (RFC 5155 3.1.3, 3.1.5), which is this project's own.
 use Rattle.std.specs.Ordering.{nat_cmp, ordering_then}
 use Rattle.std.specs.declared.cmp.Ordering.{Ordering}
 use Rattle.dnsv_names.specs.Octets.{octets_cmp}

@@ -39,7 +39,7 @@ pub fn unsigned_delegation(apex: &Name, name: &Name, records: &ChainRecords<'_>)
 }
 
 /// How many labels the closest encloser with most labels has below which an unsigned delegation may be left out at the next
-/// closer name, or `None` where there is none (RFC 5155 8.6, 9.2).
+/// closer name, or at the wildcard beside it; `None` where there is none (RFC 5155 8.6, 9.2).
 pub fn opt_out(apex: &Name, name: &Name, records: &ChainRecords<'_>) -> Option<usize>
     requires { HasHashes name.now records.now }
     ensures { MatchOption result
@@ -59,7 +59,8 @@ pub fn opt_out(apex: &Name, name: &Name, records: &ChainRecords<'_>) -> Option<u
     None
 }
 
-/// Whether an unsigned delegation may be left out at the next closer name of a closest encloser with so many labels.
+/// Whether an unsigned delegation may be left out at the next closer name of a closest encloser with so many labels, or at
+/// the wildcard beside it.
 fn opts_out(apex: &Name, name: &Name, labels: usize, records: &ChainRecords<'_>) -> bool
     requires { HasHashes name.now records.now }
     ensures { IsTrue result ↔ OptsOut (chain_said apex.now records.now) apex.now name.now labels }

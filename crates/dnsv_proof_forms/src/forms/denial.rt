@@ -22,13 +22,14 @@ use dnsv_names::{Name, RecordType};
 pub enum Denial {
     /// There is no such name (RFC 4035 5.4, RFC 5155 8.4).
     NoName,
-    /// The type isn't there (RFC 4035 5.4, RFC 5155 8.5 to 8.7).
+    /// Neither the type nor CNAME is there (RFC 4035 5.4, RFC 5155 8.5 to 8.7), and this side of a cut may say so.
     NoData(RecordType),
     /// No closer name than the wildcard below so many of its rightmost labels is there (RFC 4035 5.3.4, RFC 5155 8.8).
     NoCloser(usize),
     /// A delegation without DS is at so many of its rightmost labels (RFC 4035 5.2, RFC 5155 8.9).
     Delegation(usize),
-    /// Opt-Out may leave out a delegation at the next closer name to so many of its rightmost labels (RFC 5155 8.6, 9.2).
+    /// Opt-Out may leave out a delegation at the next closer name to so many of its rightmost labels, or at the wildcard
+    /// beside it (RFC 5155 8.6, 9.2).
     OptOut(usize),
     /// It may do so against an answer from the wildcard below so many of its rightmost labels (RFC 5155 8.8).
     OptOutCloser(usize),

@@ -35,7 +35,7 @@ pub enum ProofForm<Index> {
     EmptyWildcard(WildcardParts<Index>),
     /// There is no closer name than the wildcard (RFC 4035 5.3.4, RFC 5155 8.8).
     NoCloser {
-        /// The closest encloser is the question's so many rightmost labels.
+        /// The question's so many rightmost labels, taken as the closest encloser.
         labels: usize,
         /// The record that shows that the next closer name is no node.
         next_closer: Index,
@@ -47,21 +47,21 @@ pub enum ProofForm<Index> {
         /// The record with its types.
         delegation: Index,
     },
-    /// Opt-Out may leave out a delegation at the next closer name (RFC 5155 8.6, 9.2).
+    /// Opt-Out may leave out a delegation at the next closer name: a record with the flag covers it (RFC 5155 8.6, 9.2).
     OptOut {
         /// The closest encloser is the question's so many rightmost labels.
         labels: usize,
-        /// The record that shows the closest encloser, where one is needed.
+        /// The record that shows the closest encloser; never `None`, since the form is by NSEC3 alone.
         encloser: Option<Index>,
         /// The record with the Opt-Out flag that covers the next closer name.
         next_closer: Index,
     },
-    /// The same, since a record with the flag covers the wildcard at the closest encloser, and one without it the next
-    /// closer name.
+    /// It may do so at the wildcard beside the next closer name: a record with the flag covers the wildcard at the closest
+    /// encloser, and one without it the next closer name.
     WildcardOptOut(WildcardParts<Index>),
     /// Opt-Out may leave out a delegation at the next closer name, against an answer from the wildcard (RFC 5155 8.8).
     OptOutCloser {
-        /// The closest encloser is the question's so many rightmost labels.
+        /// The question's so many rightmost labels, taken as the closest encloser.
         labels: usize,
         /// The record with the Opt-Out flag that covers the next closer name.
         next_closer: Index,

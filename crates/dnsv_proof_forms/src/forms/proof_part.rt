@@ -109,25 +109,21 @@ pub fn form_parts(chain: ChainKind, form: ProofForm<RecordNumber>) -> ArrayVec<P
 {
     match form {
         ProofForm::NoName(parts) => wildcard_parts(chain, parts, PartRelation::Covered),
-        ProofForm::NoData(by) => alone(said(PartName::Name, PartRelation::Matched, by)),
-        ProofForm::EmptyNonTerminal(by) => {
-            alone(said(PartName::Name, PartRelation::NonTerminal, by))
-        }
+        ProofForm::NoData(by) => alone(PartName::Name, PartRelation::Matched, by),
+        ProofForm::EmptyNonTerminal(by) => alone(PartName::Name, PartRelation::NonTerminal, by),
         ProofForm::WildcardNoData(parts) => wildcard_parts(chain, parts, PartRelation::Matched),
         ProofForm::EmptyWildcard(parts) => wildcard_parts(chain, parts, PartRelation::NonTerminal),
         ProofForm::NoCloser {
             labels,
             next_closer,
-        } => alone(said(
+        } => alone(
             PartName::NextCloser(labels),
             PartRelation::Covered,
             next_closer,
-        )),
-        ProofForm::Delegation { labels, delegation } => alone(said(
-            PartName::Cut(labels),
-            PartRelation::Matched,
-            delegation,
-        )),
+        ),
+        ProofForm::Delegation { labels, delegation } => {
+            alone(PartName::Cut(labels), PartRelation::Matched, delegation)
+        }
         ProofForm::OptOut {
             labels,
             encloser,
@@ -137,11 +133,11 @@ pub fn form_parts(chain: ChainKind, form: ProofForm<RecordNumber>) -> ArrayVec<P
         ProofForm::OptOutCloser {
             labels,
             next_closer,
-        } => alone(said(
+        } => alone(
             PartName::NextCloser(labels),
             PartRelation::OptOut,
             next_closer,
-        )),
+        ),
     }
 }
 
@@ -212,11 +208,11 @@ fn said(name: PartName, relation: PartRelation, by: RecordNumber) -> ProofPart
     }
 }
 
-/// One part.
-fn alone(part: ProofPart) -> ArrayVec<ProofPart, 3>
-    ensures { result.items ≡ part ∷ [] }
+/// The part that a record says, alone.
+fn alone(name: PartName, relation: PartRelation, by: RecordNumber) -> ArrayVec<ProofPart, 3>
+    ensures { result.items ≡ record { name = name; relation = relation; by = Some by } ∷ [] }
 {
     let mut parts = ArrayVec::new();
-    parts.push(part);
+    parts.push(said(name, relation, by));
     parts
 }

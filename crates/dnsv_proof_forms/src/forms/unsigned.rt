@@ -52,8 +52,9 @@ fn lies_below(apex: &Name, name: &Name, labels: usize) -> bool
 }
 
 /// The first records that leave open that an unsigned delegation lies at or below the next closer name to the name's so
-/// many labels: of the closest encloser, and of the next closer name with the Opt-Out flag; or, where none covers that with
-/// the flag, of it without the flag, and of the wildcard with it (RFC 5155 8.6, 9.2). `None` where none do.
+/// many labels, or at the wildcard beside it: of the closest encloser, and of the next closer name with the Opt-Out flag;
+/// or, where none covers that with the flag, of it without the flag, and of the wildcard with it (RFC 5155 8.6, 9.2).
+/// `None` where none do.
 pub fn opt_out_at(
     apex: &Name,
     name: &Name,

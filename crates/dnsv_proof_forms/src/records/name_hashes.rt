@@ -1,5 +1,5 @@
 //! The hashes of the names that a question asks for, one set for each of the parameters.
-ghost use Rattle.std.specs.Prelude.{◌≡◌, ◌↔◌, IfOk, Contains, map};
+ghost use Rattle.std.specs.Prelude.{◌≡◌, ◌≤◌, ◌↔◌, IfOk, Contains, map};
 ghost use Rattle.std.specs.List.{AllByRecursion};
 ghost use Rattle.std.specs.List.Sorted.{IsStrictlySortedBy};
 ghost use Rattle.dnsv_names.specs.Count.{counted};
@@ -39,6 +39,7 @@ pub fn sets_of<'a>(
         ↔ Contains (map (λ set. set.parameters.now) sets.items) each) }
     ensures count { IfOk result (λ sets. count.new
         ≡ counted count.old (hashes_for name.now (map (λ set. set.parameters.now) sets.items))) }
+    ensures grown { count.old ≤ count.new }
 {
     // What is true of every count.
     let _ = count.value();

@@ -42,7 +42,7 @@ pub enum AskedTypes {
     Delegation,
     /// Neither a delegation nor a DNAME is there (RFC 5155 8.3).
     Open,
-    /// The type isn't there (RFC 4035 5.4).
+    /// Neither the type nor CNAME is there (RFC 4035 5.4), and this side of a cut may say so (RFC 6840 4.1).
     Without(RecordType),
     /// A delegation without DS is there (RFC 4035 5.2).
     UnsignedDelegation,
@@ -73,7 +73,7 @@ pub enum AskedWildcard {
     Absent,
     /// It is an empty non-terminal (RFC 4592 2.2.2).
     Empty,
-    /// It is there without the type (RFC 4035 3.1.3.4, RFC 5155 8.7).
+    /// It is there with neither the type nor CNAME (RFC 4035 3.1.3.4, RFC 5155 8.7), and this side of a cut may say so.
     Without(RecordType),
 }
 

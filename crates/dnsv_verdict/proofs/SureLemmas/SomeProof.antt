@@ -24,9 +24,10 @@ use Rattle.dnsv_proof_forms.specs.records.Numbers.{number_cmp}
 use Rattle.dnsv_proof_forms.specs.records.ParametersOrder.{parameters_cmp}
 use Rattle.dnsv_denial.specs.gathering.EvidenceWords.Chain.{ByNsec, ByNsec3}
 use Rattle.dnsv_denial.proofs.lemmas.gathering.NameHashesLemmas.{member_at}
+use Rattle.dnsv_denial.proofs.lemmas.proving.NumberLemmas.{number_cmp_exact, number_cmp_total}
 use Rattle.dnsv_canonical.specs.declared.number.RecordNumber.{RecordNumber}
 use Rattle.dnsv_verdict.proofs.SureLemmas.FiniteLemmas.{IsFinite, finite_each, finite_one, finite_within, some_first, some_sorted}
-use Rattle.dnsv_verdict.proofs.OneProof.{number_exact, number_total, parameters_exact, parameters_total}
+use Rattle.dnsv_verdict.proofs.OneProof.{parameters_exact, parameters_total}
 use Rattle.dnsv_verdict.proofs.SureLemmas.{Surely, surely, and_then, by_cases, some_fewest, some_most, some_record}
 
 -- ---- chosen records
@@ -161,7 +162,7 @@ finite_parameters rrsets zone =
 
 some_records : (parts : List RecordNumber) → Surely ((records : List RecordNumber) × AreRecordsOf parts records)
 some_records parts =
-    and_then (some_sorted number_cmp number_total number_exact (λ n. IsMember n parts) (surely (parts, λ n member. member)))
+    and_then (some_sorted number_cmp number_cmp_total number_cmp_exact (λ n. IsMember n parts) (surely (parts, λ n member. member)))
     (λ all. surely (
       all.0,
       record {

@@ -73,10 +73,10 @@ pub record UnsignedCutForm (words : Words) (apex name cut : Labels) : Type 0 whe
 
 -- ---- Opt-Out
 
--- An unsigned delegation may lie at or below the next closer name: it is covered, and it or the wildcard at the
--- closest encloser by a record with the Opt-Out flag (RFC 5155 8.6, 9.2). Records say which name is a closest encloser,
--- which is covered, and which with the flag. Where the type DS is asked, this is no proof that there is none: the name may
--- be unsigned, and the question ends as Insecure.
+-- An unsigned delegation may lie at or below the next closer name, or at the wildcard beside it: the next closer name is
+-- covered, and it or the wildcard by a record with the Opt-Out flag (RFC 5155 8.6, 9.2). Records say which name is a
+-- closest encloser, which is covered, and which with the flag. Where the type DS is asked, this is no proof that there is
+-- none: the name may be unsigned, and the question ends as Insecure.
 pub record OptOut (Encloser Covered OptedOut : Labels → Type 0) (apex name : Labels) (labels : ℕ) : Type 0 where
   pub above : IsAbove apex name labels
   pub encloser : Encloser (rightmost name labels)

@@ -52,7 +52,8 @@ IsCovered hash records name = Any (λ nsec3. Covers hash nsec3 name) records
 abbrev pub IsOptedOut : NameHash → List Nsec3Record → Labels → Type 0
 IsOptedOut hash records name = Any (λ nsec3. IsOptedOutBy hash nsec3 name) records
 
--- these records leave open that an unsigned delegation lies at or below the next closer name
+-- these records leave open that an unsigned delegation lies at or below the next closer name, or at the wildcard beside
+-- it
 abbrev pub OptOutForm : NameHash → List Nsec3Record → Labels → Labels → ℕ → Type 0
 OptOutForm hash records =
     OptOut (λ name. (nsec3_words hash records).Encloser name) (IsCovered hash records) (IsOptedOut hash records)

@@ -101,7 +101,7 @@ pub record IsNoCloserPart
   pub above : IsAbove apex name labels
   pub next_closer : IsFirstToSay cmp (said.Absent (rightmost name (labels + 1))) part
 
--- the records leave open that an unsigned delegation lies at or below the next closer name
+-- the records leave open that an unsigned delegation lies at or below the next closer name, or at the wildcard beside it
 abbrev pub OptsOut : {Index : Type 0} → RecordWords Index → Labels → Labels → ℕ → Type 0
 OptsOut {Index} said =
     OptOut (λ name. (words said).Encloser name)
@@ -118,8 +118,8 @@ pub record IsHighestCut {Index : Type 0} (said : RecordWords Index) (apex name :
   pub cut : UnsignedCutForm (words said) apex name (rightmost name labels)
   pub fewest : (fewer : ℕ) → fewer < labels → ¬ UnsignedCutForm (words said) apex name (rightmost name fewer)
 
--- the closest encloser with most labels where an unsigned delegation may lie at or below the next closer name has so
--- many
+-- the closest encloser with most labels where an unsigned delegation may lie at or below the next closer name, or at the
+-- wildcard beside it, has so many
 pub record IsOptOutWithMostLabels
     {Index : Type 0} (said : RecordWords Index) (apex name : Labels) (labels : ℕ) : Type 0 where
   pub opts_out : OptsOut said apex name labels

@@ -1,3 +1,4 @@
+use Rattle.std.proofs.lemmas.Result.{err_from_is_err_and}
 use Rattle.dnsv_answers.proofs.AnswerLemmas.{has_first, no_line, say_behind}
 use Rattle.dnsv_answers.proofs.answers.answers_behind.Goals as goal
 
@@ -11,5 +12,10 @@ answers_in-requires c =
     let (first, others, has, (said, say)) = c.requires in
     (said, say_behind c.args.text.now first _ others _ said has (has_first c.args.text.now _ _ _ c.in-Some.ensures.steps c.new-lines.ensures) say)
 
-pub returns : goal.returns
-returns c = (_, _, has_first c.args.text.now _ _ _ c.in-Some.ensures.steps c.new-lines.ensures, c.in_ok-said.ensures)
+pub returns-clause-said : goal.returns-clause-said
+returns-clause-said c = (_, _, has_first c.args.text.now _ _ _ c.in-Some.ensures.steps c.new-lines.ensures, c.in_ok-said.ensures.said)
+
+pub returns-in_err-said-clause-memory : goal.returns-in_err-said-clause-memory
+returns-in_err-said-clause-memory c =
+    let p = err_from_is_err_and c.from_residual.result c.from_residual.ensures.1 in
+    rw p.1 (_, _, has_first c.args.text.now _ _ _ c.in-Some.ensures.steps c.new-lines.ensures, c.in_err-said.ensures.memory)

@@ -13,7 +13,8 @@ use Rattle.std.specs.Cmp.{IsEquivalence, IsTotalOrder, unsigned_ties}
 use Rattle.std.specs.Cmp.Derive.{on_tied, then_tied, tie}
 use Rattle.std.specs.List.{IsDistinct, list_any, dedup, dedup_from, refill}
 use Rattle.std.specs.List.Sorted.{IsPermutation, IsSorted, IsStrictlySortedBy}
-use Rattle.std.specs.Ordering.{nat_cmp, eq_by_cmp}
+use Rattle.std.specs.Ordering.{nat_cmp, eq_by_cmp, is_eq}
+use Rattle.std.specs.declared.cmp.Ordering.TheVariants.{Equal}
 use Rattle.std.specs.Prelude.{Contains, nat_eq, ◌↔◌}
 use Rattle.dnsv_denial.specs.proving.FirstProof.{AreRecordsOf}
 use Rattle.dnsv_proof_forms.specs.records.Numbers.{number_cmp}
@@ -34,6 +35,9 @@ same_number a b same =
 
 pub number_eq_ties : (a b : RecordNumber) → number_eq a b ≡ eq_by_cmp number_cmp a b
 number_eq_ties = (then_tied (on_tied (λ (n : RecordNumber). n.rrset) (tie nat_cmp unsigned_ties)) (on_tied (λ (n : RecordNumber). n.place) (tie nat_cmp unsigned_ties))).ties
+
+pub number_cmp_exact : (a b : RecordNumber) → number_cmp a b ≡ Equal → a ≡ b
+number_cmp_exact a b tied = same_number a b (number_eq_ties a b ∙ ap is_eq tied)
 
 pub number_eq_equiv : IsEquivalence number_eq
 number_eq_equiv = record {

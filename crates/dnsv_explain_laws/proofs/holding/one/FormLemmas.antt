@@ -23,14 +23,14 @@ use Rattle.dnsv_proof_forms.specs.declared.forms.proof_form.ProofForm.{ProofForm
 use Rattle.dnsv_proof_forms.specs.declared.forms.proof_form.ProofForm.TheVariants as form
 use Rattle.dnsv_proof_forms.specs.declared.forms.proof_form.WildcardParts.{WildcardParts}
 use Rattle.dnsv_canonical.specs.declared.number.RecordNumber.{RecordNumber}
-use Rattle.dnsv_verdict.proofs.OneProof.{number_exact, number_total}
+use Rattle.dnsv_denial.proofs.lemmas.proving.NumberLemmas.{number_cmp_exact, number_cmp_total}
 use Rattle.dnsv_derivations.proofs.lemmas.one.StepLemmas.{even}
 
 first_by : (Says : RecordNumber → Type 0) (a b : RecordNumber) (o : Ordering) → number_cmp a b ≡ o → IsFirstToSay number_cmp Says a
     → IsFirstToSay number_cmp Says b → a ≡ b
 first_by Says a b Less is x y = absurd (y.earliest a x.says is)
-first_by Says a b Equal is x y = number_exact a b is
-first_by Says a b Greater is x y = absurd (x.earliest b y.says (number_total.antisymm b a ∙ ap ordering_reverse is))
+first_by Says a b Equal is x y = number_cmp_exact a b is
+first_by Says a b Greater is x y = absurd (x.earliest b y.says (number_cmp_total.antisymm b a ∙ ap ordering_reverse is))
 
 -- the first record that says something is one
 one_first : (Says : RecordNumber → Type 0) (a b : RecordNumber) → IsFirstToSay number_cmp Says a → IsFirstToSay number_cmp Says b → a ≡ b

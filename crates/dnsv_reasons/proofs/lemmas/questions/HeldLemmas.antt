@@ -15,7 +15,7 @@ use Rattle.dnsv_remedies.specs.declared.facts.denial.RecordsAt.{RecordsAt}
 use Rattle.dnsv_remedies.specs.declared.facts.denial.RecordsAt.TheVariants as records
 use Rattle.dnsv_remedies.specs.declared.facts.denial.WildcardFacts.{WildcardFacts}
 use Rattle.dnsv_remedies.specs.declared.facts.denial.WildcardFacts.TheVariants as wildcard
-use Rattle.dnsv_verdict.proofs.OneProof.{number_exact, number_total}
+use Rattle.dnsv_denial.proofs.lemmas.proving.NumberLemmas.{number_cmp_exact, number_cmp_total}
 use Rattle.dnsv_chain.specs.Basis.{Basis}
 use Rattle.dnsv_gaps.specs.Cases.{AreHeld, AreRecordsAt, AreWildcardFacts, IsAt, IsDenying, IsHeld, IsHeldAt, IsRuledOut, why_held}
 use Rattle.dnsv_gaps.specs.Cases.IsHeld.{asked, alias, apex, none}
@@ -30,8 +30,8 @@ use Rattle.dnsv_reasons.proofs.lemmas.questions.SourceLemmas.{HasOneTypes}
 
 lowest_by : (a b : RecordNumber) (o : Ordering) → number_cmp a b ≡ o → number_cmp a b ≢ Less → number_cmp b a ≢ Less → a ≡ b
 lowest_by a b Less is up down = absurd (up is)
-lowest_by a b Equal is up down = number_exact a b is
-lowest_by a b Greater is up down = absurd (down (number_total.antisymm b a ∙ ap ordering_reverse is))
+lowest_by a b Equal is up down = number_cmp_exact a b is
+lowest_by a b Greater is up down = absurd (down (number_cmp_total.antisymm b a ∙ ap ordering_reverse is))
 
 -- neither goes before the other
 pub same_number : (a b : RecordNumber) → number_cmp a b ≢ Less → number_cmp b a ≢ Less → a ≡ b
@@ -73,7 +73,7 @@ module _ (basis : Basis) (said : RecordWords RecordNumber) (types : HasOneTypes 
   one_held_list : (name : Labels) (a b : List WhySource) → AreHeld said name t a → AreHeld said name t b → a ≡ b
   one_held_list name a b x y =
       let numbers : x.numbers ≡ y.numbers =
-      one_rising number_cmp number_total (IsAt said name) x.numbers y.numbers x.are_at.rising y.are_at.rising x.are_at.members
+      one_rising number_cmp number_cmp_total (IsAt said name) x.numbers y.numbers x.are_at.rising y.are_at.rising x.are_at.members
       y.are_at.members in
       zip_same (IsHeldAt said name t) (one_told name) y.numbers a b
       (subst (λ (each : List RecordNumber). AllZip (IsHeldAt said name t) each a) numbers x.each) y.each

@@ -10,12 +10,12 @@ use Rattle.dnsv_zones.specs.forms.RecordWords.{RecordWords}
 use Rattle.dnsv_canonical.specs.declared.number.RecordNumber.{RecordNumber}
 use Rattle.dnsv_denial.proofs.lemmas.gathering.EvidenceLemmas.{one_nsec_of}
 use Rattle.dnsv_denial.proofs.lemmas.gathering.NumberedLemmas.{one_nsec3_of}
+use Rattle.dnsv_denial.proofs.lemmas.proving.NumberLemmas.{number_cmp_total}
 use Rattle.dnsv_denial.proofs.lemmas.proving.ZoneChainLemmas.{no_circle}
 use Rattle.dnsv_denial.specs.gathering.EvidenceWords.{Chain, GoesBefore}
 use Rattle.dnsv_proof_forms.specs.records.Numbers.{number_cmp}
 use Rattle.dnsv_denial.specs.gathering.EvidenceWords.Chain.{ByNsec, ByNsec3}
 use Rattle.dnsv_remedies.specs.declared.facts.name.UnusableFacts.{UnusableFacts}
-use Rattle.dnsv_verdict.proofs.OneProof.{number_total}
 use Rattle.dnsv_gaps.specs.Asking.{Asking}
 use Rattle.dnsv_gaps.specs.Cases.{IsAt}
 use Rattle.dnsv_gaps.specs.Sources.{AreSources, HasRecords, source_said}
@@ -56,6 +56,6 @@ module _ (a : Asking) (zone : Labels) where
 
   pub one_unusable : (c d : List UnusableFacts) → AreUnusable a zone c → AreUnusable a zone d → c ≡ d
   one_unusable c d x y =
-      one_by_keys number_cmp number_total (λ (each : UnusableFacts). each.number)
+      one_by_keys number_cmp number_cmp_total (λ (each : UnusableFacts). each.number)
       (λ (each : UnusableFacts). IsUnusableOf a zone each.number each.why) c d x.rising y.rising (λ each. x.members each.number each.why)
       (λ each. y.members each.number each.why)

@@ -13,7 +13,7 @@ returns-in-Trust c =
 
 pub returns-in-NoCloser : goal.returns-in-NoCloser
 returns-in-NoCloser c =
-    subst (λ (told : Said). IfOk c.closer_line.result (λ found. MatchOption found ((each : Line) → ¬ IsSaidLine (asking c.args.question.now) told each) (IsSaidLine (asking c.args.question.now) told)))
+    subst (λ (told : Said). MatchOption c.closer_line.result ((each : Line) → ¬ IsSaidLine (asking c.args.question.now) told each) (IsSaidLine (asking c.args.question.now) told))
     (sym c.in-NoCloser.is) c.closer_line.ensures
 
 pub returns-in-Dname : goal.returns-in-Dname
@@ -28,7 +28,7 @@ returns-in-DnameHeld c =
 
 pub returns-in-Nsec3 : goal.returns-in-Nsec3
 returns-in-Nsec3 c =
-    subst (λ (told : Said). IfOk c.unusable_line.result (λ found. MatchOption found ((each : Line) → ¬ IsSaidLine (asking c.args.question.now) told each) (IsSaidLine (asking c.args.question.now) told)))
+    subst (λ (told : Said). MatchOption c.unusable_line.result ((each : Line) → ¬ IsSaidLine (asking c.args.question.now) told each) (IsSaidLine (asking c.args.question.now) told))
     (sym c.in-Nsec3.is) c.unusable_line.ensures
 
 pub returns-in-Source : goal.returns-in-Source
@@ -38,12 +38,12 @@ returns-in-Source c =
 
 pub returns-in-AnswerMissing : goal.returns-in-AnswerMissing
 returns-in-AnswerMissing c =
-    subst (λ (told : Said). IfOk c.missing_line.result (λ found. MatchOption found ((each : Line) → ¬ IsSaidLine (asking c.args.question.now) told each) (IsSaidLine (asking c.args.question.now) told)))
+    subst (λ (told : Said). MatchOption c.missing_line.result ((each : Line) → ¬ IsSaidLine (asking c.args.question.now) told each) (IsSaidLine (asking c.args.question.now) told))
     (sym c.in-AnswerMissing.is) c.missing_line.ensures
 
 pub returns-in-DenialUnproved : goal.returns-in-DenialUnproved
 returns-in-DenialUnproved c =
-    subst (λ (told : Said). IfOk c.unproved_line.result (λ found. MatchOption found ((each : Line) → ¬ IsSaidLine (asking c.args.question.now) told each) (IsSaidLine (asking c.args.question.now) told)))
+    subst (λ (told : Said). MatchOption c.unproved_line.result ((each : Line) → ¬ IsSaidLine (asking c.args.question.now) told each) (IsSaidLine (asking c.args.question.now) told))
     (sym c.in-DenialUnproved.is) c.unproved_line.ensures
 
 pub returns-in-DsUnproved : goal.returns-in-DsUnproved

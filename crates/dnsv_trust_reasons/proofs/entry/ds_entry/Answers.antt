@@ -30,7 +30,7 @@ returns c =
     let found = c.in-Some-numbered.found.now in
     let read = subst (λ (each : List (ReadRecord Ds)). AllByRecursion (λ (one : ReadRecord Ds). IsDs one.rdata.now one.record.now) each)
     (sym c.deref.ensures.value) c.in_ok-records.ensures.read in
-    subst (λ (entry : Entry). IsDsEntry c.args.capture.now.rrsets c.args.number entry) (sym c.in_ok-told_ds.ensures) (record {
+    subst (λ (entry : Entry). IsDsEntry c.args.capture.now.rrsets c.args.number entry) (sym c.told_ds.ensures) (record {
       rrset = rrset;
       numbered = c.in-Some.ensures;
       rtype = sym c.rtype.ensures ∙ eqb-true _ _ (not-false _ (sym c.ne.ensures ∙ c.if-ne.false));

@@ -10,10 +10,10 @@ use Rattle.dnsv_trust_reasons.proofs.entry.entry.Goals as goal
 pub returns-in-Anchor : goal.returns-in-Anchor
 returns-in-Anchor c =
     let facts = c.args.facts.now in
-    subst (λ (number : EntryNumber). IfOk c.anchor_entry.result (λ found. MatchOption found
-    ((each : Entry) → ¬ IsEntry facts.rrsets facts.anchors number each) (IsEntry facts.rrsets facts.anchors number))) (sym c.in-Anchor.is)
-    (subst (λ (anchors : List Anchor). IfOk c.anchor_entry.result (λ found. MatchOption found
-    ((each : Entry) → ¬ IsAnchorEntry anchors c.in-Anchor.anchor each) (IsAnchorEntry anchors c.in-Anchor.anchor)))
+    subst (λ (number : EntryNumber). MatchOption c.anchor_entry.result
+    ((each : Entry) → ¬ IsEntry facts.rrsets facts.anchors number each) (IsEntry facts.rrsets facts.anchors number)) (sym c.in-Anchor.is)
+    (subst (λ (anchors : List Anchor). MatchOption c.anchor_entry.result
+    ((each : Entry) → ¬ IsAnchorEntry anchors c.in-Anchor.anchor each) (IsAnchorEntry anchors c.in-Anchor.anchor))
     c.anchors.ensures c.anchor_entry.ensures)
 
 pub returns-in-Ds : goal.returns-in-Ds

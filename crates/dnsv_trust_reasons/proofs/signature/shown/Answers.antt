@@ -11,6 +11,6 @@ returns-in_default-numbered c =
 
 pub returns : goal.returns
 returns c =
-    subst (λ (shown : ShownSignature). IsShown c.args.capture.now.rrsets c.args.number shown) (sym c.in_ok-shown_of.ensures)
+    subst (λ (shown : ShownSignature). IsShown c.args.capture.now.rrsets c.args.number shown) (sym c.shown_of.ensures)
     (some_shown c.args.capture.now.rrsets c.args.number c.in-Some.rrset.now c.signatures.result.now c.in-Some.ensures c.signatures.ensures
     c.in-Some-numbered.rrsig.now c.in-Some-numbered.ensures)

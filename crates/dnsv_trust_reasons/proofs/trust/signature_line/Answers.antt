@@ -7,4 +7,4 @@ use Rattle.dnsv_trust_reasons.proofs.trust.signature_line.Goals as goal
 pub returns-in_default : goal.returns-in_default
 returns-in_default c = λ name line is.
     let Shown : List ReceivedRrset → Type 0 = λ each. IsShown each c.args.number is.0 in
-    MatchOption-at_none _ _ c.in_default.is c.in_ok-signature.ensures is.0 (subst Shown (sym c.capture.ensures) is.1)
+    MatchOption-at_none _ _ c.in_default.is c.shown.ensures is.0 (subst Shown (sym c.capture.ensures) is.1)

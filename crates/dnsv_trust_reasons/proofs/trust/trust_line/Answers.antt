@@ -23,20 +23,20 @@ returns-in-NotSelfSigned c =
 
 pub returns-in-NotVouched : goal.returns-in-NotVouched
 returns-in-NotVouched c =
-    subst (λ (told : Told). IfOk c.vouched_line.result (λ found. MatchOption found ((each : Line) → ¬ IsTrustLine (basis_by c.args.facts.now) c.args.name.now told each) (IsTrustLine (basis_by c.args.facts.now) c.args.name.now told)))
+    subst (λ (told : Told). MatchOption c.vouched_line.result ((each : Line) → ¬ IsTrustLine (basis_by c.args.facts.now) c.args.name.now told each) (IsTrustLine (basis_by c.args.facts.now) c.args.name.now told))
     (sym c.in-NotVouched.is) (c.vouched_line.ensures c.args.name.now)
 
 pub returns-in-Unsigned : goal.returns-in-Unsigned
 returns-in-Unsigned c =
-    subst (λ (told : Told). IfOk c.unsigned_line.result (λ found. MatchOption found ((each : Line) → ¬ IsTrustLine (basis_by c.args.facts.now) c.args.name.now told each) (IsTrustLine (basis_by c.args.facts.now) c.args.name.now told)))
+    subst (λ (told : Told). MatchOption c.unsigned_line.result ((each : Line) → ¬ IsTrustLine (basis_by c.args.facts.now) c.args.name.now told each) (IsTrustLine (basis_by c.args.facts.now) c.args.name.now told))
     (sym c.in-Unsigned.is) (c.unsigned_line.ensures c.args.name.now)
 
 pub returns-in-Signature : goal.returns-in-Signature
 returns-in-Signature c =
-    subst (λ (told : Told). IfOk c.signature_line.result (λ found. MatchOption found ((each : Line) → ¬ IsTrustLine (basis_by c.args.facts.now) c.args.name.now told each) (IsTrustLine (basis_by c.args.facts.now) c.args.name.now told)))
+    subst (λ (told : Told). MatchOption c.signature_line.result ((each : Line) → ¬ IsTrustLine (basis_by c.args.facts.now) c.args.name.now told each) (IsTrustLine (basis_by c.args.facts.now) c.args.name.now told))
     (sym c.in-Signature.is) (c.signature_line.ensures c.args.name.now)
 
 pub returns-in-Follows : goal.returns-in-Follows
 returns-in-Follows c =
-    subst (λ (told : Told). IfOk c.follows_line.result (λ found. MatchOption found ((each : Line) → ¬ IsTrustLine (basis_by c.args.facts.now) c.args.name.now told each) (IsTrustLine (basis_by c.args.facts.now) c.args.name.now told)))
+    subst (λ (told : Told). MatchOption c.follows_line.result ((each : Line) → ¬ IsTrustLine (basis_by c.args.facts.now) c.args.name.now told each) (IsTrustLine (basis_by c.args.facts.now) c.args.name.now told))
     (sym c.in-Follows.is) (c.follows_line.ensures c.args.name.now)

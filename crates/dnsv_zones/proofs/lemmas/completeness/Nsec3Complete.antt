@@ -1,7 +1,6 @@
 -- A whole NSEC3 chain of a zone proves each denial of its lookup, or that an unsigned delegation may be there.
 use Rattle.std.proofs.Common.{◌≡◌, ◌≢◌, ℕ, ◌+◌, ◌<◌, ◌≤◌, ◌⊎◌, Bool, List, [], ◌∷◌, map, length, refl, sym, ap, ◌∙◌, inl, inr, ⊎_elim, arith, subst}
 use Rattle.std.proofs.lemmas.Cmp.{tied_itself, nat_list_cmp_total}
-use Rattle.std.proofs.lemmas.Bool.Decides.{Decides-eqb}
 use Rattle.std.specs.Prelude.{nat_eq}
 use Rattle.std.specs.declared.cmp.Ordering.TheVariants.{Equal}
 use Rattle.std.specs.Cmp.Lexicographic.{pointwise, bytes_decides}
@@ -28,12 +27,12 @@ use Rattle.dnsv_zones.specs.chains.Nsec3Chain.IsAsked.{itself as asked_above, wi
 use Rattle.dnsv_zones.specs.chains.Nsec3Chain.IsUnsignedEnd.{delegation, non_terminal}
 use Rattle.dnsv_zones.specs.forms.Nsec3.{Matches, Covers, nsec3_words, IsCovered, IsOptedOut, OptOutForm}
 use Rattle.dnsv_zones.specs.forms.Forms.{IsAbove, EndsAt, NoNameForm, NoDataForm, NoDataForms, UnsignedCutForm}
-use Rattle.dnsv_zones.proofs.lemmas.AnyLemmas.{any_map, found, any_both}
+use Rattle.dnsv_zones.proofs.lemmas.AnyLemmas.{any_map, any_both}
 use Rattle.dnsv_zones.proofs.lemmas.zones.ZoneLemmas.{holds_owner, holds_respects, owner_node, apex_node, node_above, node_not_below, node_respects, closest, name_no_node}
 use Rattle.dnsv_zones.proofs.lemmas.zones.LookupLemmas.{one_encloser, open_above_here}
 use Rattle.dnsv_zones.proofs.lemmas.zones.AnswerLemmas.{Decided, any_decided, HasMostLabels, most_labels_part}
 use Rattle.dnsv_zones.proofs.lemmas.meaning.MeaningLemmas.{no_name, any_no_data}
-use Rattle.dnsv_zones.proofs.lemmas.meaning.Nsec3Truth.{matched, without_opt_out_no_node, nsec3_true}
+use Rattle.dnsv_zones.proofs.lemmas.meaning.Nsec3Truth.{matched, absent, absent_or_opted_out, nsec3_true}
 use Rattle.dnsv_zones.proofs.lemmas.chains.BitmapLemmas.{plain_type, bits_closed, denies_bits, may_deny_here, may_deny_wildcard}
 
 -- a name of the chain with this hash
@@ -159,20 +158,10 @@ module _ (zone : Zone) (apex : Labels) (hash : NameHash) (records : List Nsec3Re
     without_opt_out_or_opted_out : (x : Labels) → HasCover zone hash chain.has_records.names records x
         → (((nsec3_words hash records).Absent x × ¬ IsNode zone x) ⊎ (IsOptedOut hash records x × IsCovered hash records x))
     without_opt_out_or_opted_out x some =
-        let there = found (λ (r : Nsec3Record). Covers hash r x × IsInNsec3Chain zone hash chain.has_records.names r) records some in
         let cover : IsCovered hash records x =
         any_map (λ r. Covers hash r x × IsInNsec3Chain zone hash chain.has_records.names r) (λ r. Covers hash r x) records (λ r both. both.0) some in
-        ⊎_elim (λ (without_opt_out : there.member.flags ≡ 0). inl (
-          any_map (λ r. r ≡ there.member) (λ r. Covers hash r x × (r.flags ≡ 0)) records
-              (λ r is. subst (λ (each : Nsec3Record). Covers hash each x × (each.flags ≡ 0)) (sym is) (there.holds.0, without_opt_out)) there.is_there,
-          without_opt_out_no_node zone hash chain.has_records.names there.member there.holds.1 x there.holds.0 without_opt_out,
-        ))
-        (λ (opted : ¬ (there.member.flags ≡ 0)). inr (
-          any_map (λ r. r ≡ there.member) (λ r. Covers hash r x × (r.flags ≢ 0)) records
-              (λ r is. subst (λ (each : Nsec3Record). Covers hash each x × (each.flags ≢ 0)) (sym is) (there.holds.0, opted)) there.is_there,
-          cover,
-        ))
-        (decided (nat_eq there.member.flags 0) (Decides-eqb there.member.flags 0))
+        ⊎_elim (λ (none : (nsec3_words hash records).Absent x). inl (none, absent zone hash chain.has_records.names records chain.has_records.in_chain x none))
+        (λ (opted : IsOptedOut hash records x). inr (opted, cover)) (absent_or_opted_out hash x records cover)
 
     asked_part : (labels : ℕ) → IsAsked name (rightmost name labels)
     asked_part labels = asked_above (rightmost name labels) (rightmost_above name labels)

@@ -1,9 +1,12 @@
 -- What NSEC3 records of a zone's chain say is so.
-use Rattle.std.proofs.Common.{◌≡◌, ℕ, List, [], ◌∷◌, map, sym, ap, ◌∙◌, inl, inr, ⊎_elim}
+use Rattle.std.proofs.Common.{◌≡◌, ◌≢◌, ℕ, ◌+◌, ◌⊎◌, List, [], ◌∷◌, map, sym, ap, ◌∙◌, inl, inr, ⊎_elim}
 use Rattle.std.proofs.lemmas.Cmp.{tied_itself, nat_list_cmp_total}
+use Rattle.std.proofs.lemmas.Bool.Decides.{Decides-eqb}
+use Rattle.std.specs.Prelude.{nat_eq}
 use Rattle.std.specs.List.{AllByRecursion}
 use Rattle.dnsv_names.specs.Name.{Labels, SameName, rightmost}
 use Rattle.dnsv_names.specs.Order.{IsBelow, label_cmp}
+use Rattle.dnsv_names.specs.Tree.{wildcard_of}
 use Rattle.dnsv_names.specs.Circle.{has, IsMember}
 use Rattle.dnsv_zones.specs.Any.{Any}
 use Rattle.dnsv_zones.specs.zones.Types.{IsClosed}
@@ -12,9 +15,10 @@ use Rattle.dnsv_zones.specs.zones.Lookup.{IsClosestEncloser}
 use Rattle.dnsv_zones.specs.chains.NsecChain.{IsInBitmap, IsBitmapOf}
 use Rattle.dnsv_zones.specs.chains.Nsec3Chain.{Nsec3Record, NameHash, IsUnsignedEnd, IsChained, AreChainNames, IsInNsec3Chain, IsAsked, HasNoCollision}
 use Rattle.dnsv_zones.specs.chains.Nsec3Chain.IsAsked.{itself as asked_above}
-use Rattle.dnsv_zones.specs.forms.Nsec3.{Matches, Covers, nsec3_words}
+use Rattle.dnsv_zones.specs.forms.Nsec3.{Matches, Covers, nsec3_words, IsCovered, IsOptedOut, OptOutForm}
 use Rattle.dnsv_names.specs.Tree.AncestorLaws.{rightmost_above}
-use Rattle.dnsv_zones.proofs.lemmas.AnyLemmas.{found_of}
+use Rattle.dnsv_names.specs.Tree.TreeLaws.{decided}
+use Rattle.dnsv_zones.proofs.lemmas.AnyLemmas.{any_map, found_of}
 use Rattle.dnsv_zones.proofs.lemmas.zones.ZoneLemmas.{node_respects, nothing_closed}
 use Rattle.dnsv_zones.proofs.lemmas.meaning.MeaningLemmas.{Told, AreTrue}
 use Rattle.dnsv_zones.proofs.lemmas.chains.BitmapLemmas.{closed_bits, bitmap_respects}
@@ -29,6 +33,17 @@ hash_by hash (first ∷ names) name some =
 
 pub hash_member : (hash : NameHash) (names : List Labels) (name : Labels) → IsChained names name → IsMember label_cmp (map hash.of names) (hash.of name)
 hash_member hash names name chained = record { there = hash_by hash names name chained.entry }
+
+-- a cover is without the Opt-Out flag, or with it
+pub absent_or_opted_out : (hash : NameHash) (x : Labels) (records : List Nsec3Record) → IsCovered hash records x
+    → (nsec3_words hash records).Absent x ⊎ IsOptedOut hash records x
+absent_or_opted_out hash x [] some = absurd some
+absent_or_opted_out hash x (r ∷ records) some =
+    ⊎_elim (λ (here : Covers hash r x). ⊎_elim (λ (without : r.flags ≡ 0). inl (inl (here, without))) (λ (opted : ¬ (r.flags ≡ 0)). inr (inl (here, opted)))
+    (decided (nat_eq r.flags 0) (Decides-eqb r.flags 0)))
+    (λ (rest : IsCovered hash records x). ⊎_elim (λ (none : (nsec3_words hash records).Absent x). inl (inr none)) (λ (opted : IsOptedOut hash records x). inr (inr opted))
+    (absent_or_opted_out hash x records rest))
+    some
 
 -- the name is of the chain, and these are its types
 pub record IsMatched (zone : Zone) (names : List Labels) (r : Nsec3Record) (name : Labels) : Type 0 where
@@ -81,6 +96,24 @@ module _ (zone : Zone) (hash : NameHash) (names : List Labels) (records : List N
   covered_end chain x some =
       let by = found_of (λ (r : Nsec3Record). Covers hash r x) (IsInNsec3Chain zone hash names) records all some in
       covered_unsigned zone hash names chain by.member by.kind x by.holds
+
+  -- Under Opt-Out the flag stands over the next closer name; or that is no node, and the wildcard is an unsigned end.
+  pub opted_out_wildcard : AreChainNames zone names → (apex name : Labels) (labels : ℕ) → OptOutForm hash records apex name labels
+      → IsOptedOut hash records (rightmost name (labels + 1))
+      ⊎ ((¬ IsNode zone (rightmost name (labels + 1)))
+      × (IsNode zone (wildcard_of (rightmost name labels)) → IsUnsignedEnd zone (wildcard_of (rightmost name labels))))
+  opted_out_wildcard chain apex name labels form =
+      let next = rightmost name (labels + 1) in
+      let star = wildcard_of (rightmost name labels) in
+      ⊎_elim (λ (opted : IsOptedOut hash records next). inl opted)
+      (λ (opted : IsOptedOut hash records star). ⊎_elim
+      (λ (none : (nsec3_words hash records).Absent next). inr (
+        absent next none,
+        covered_end chain star (any_map (λ r. Covers hash r star × (r.flags ≢ 0)) (λ r. Covers hash r star) records (λ r both. both.0) opted),
+      ))
+      (λ (both : IsOptedOut hash records next). inl both)
+      (absent_or_opted_out hash next records form.next_closer))
+      form.opted_out
 
 module _ (zone : Zone) (hash : NameHash) (names : List Labels) (records : List Nsec3Record) (name : Labels) (well : IsWellFormed zone) (chain : AreChainNames zone names) (apart : HasNoCollision zone hash name) (all : AllByRecursion (IsInNsec3Chain zone hash names) records) where
   types : (x : Labels) (Says : (ℕ → Type 0) → Type 0) → IsAsked name x → Any (λ r. Matches hash r x × Says (IsInBitmap r.types)) records → Told zone x Says

@@ -1,5 +1,5 @@
 use Rattle.std.proofs.Common.{inl}
-use Rattle.dnsv_answers.specs.AnswerFile.{BeginsWithHeading, IsFaultOf}
+use Rattle.dnsv_answers.specs.AnswerFile.{IsFaultOf}
 use Rattle.dnsv_answers.specs.declared.error.AnswersError.TheVariants.{OutOfMemory}
 use Rattle.dnsv_files.specs.Files.Answers.{TellsAnswersError}
 use Rattle.dnsv_files.proofs.FileLemmas.Answers.{every_answers_fault, refused_for, wanted_for_answers}
@@ -12,7 +12,7 @@ returns-in-Err-clause-every_fault c =
 
 pub returns-in-Ok-clause-every_fault : goal.returns-in-Ok-clause-every_fault
 returns-in-Ok-clause-every_fault c =
-    never_told (IsFaultOf c.args.text.now) TellsAnswersError (BeginsWithHeading c.args.text.now) OutOfMemory c.in-Ok.answers c.in-Ok.answers
+    never_told (IsFaultOf c.args.text.now) TellsAnswersError ⊥ OutOfMemory c.in-Ok.answers c.in-Ok.answers
     (λ first bad. inl (c.in-Ok.ensures.every_fault first bad))
 
 pub returns-in-Err-clause-memory : goal.returns-in-Err-clause-memory
