@@ -2,7 +2,7 @@
 use Rattle.std.proofs.Common.{ℕ, Bool, List, Option, subst, string_bytes}
 use Rattle.std.specs.Prelude.{Result, Ok, Err, IfOk}
 use Rattle.dnsv_names.specs.Name.{Labels}
-use Rattle.dnsv_chain.specs.declared.anchor.Anchor.{Anchor}
+use Rattle.dnsv_anchors.specs.declared.anchor.Anchor.{Anchor}
 use Rattle.dnsv_canonical.specs.Rrsets.{ReceivedRrset}
 use Rattle.dnsv_chain.specs.Basis.{Basis, basis_of}
 use Rattle.dnsv_answers.specs.declared.heading.Moments.TheVariants.{At}

@@ -8,7 +8,7 @@ use Rattle.dnsv_canonical.specs.Rrsets.{IsQuestion, ReceivedRrset, forms_rrsets}
 use Rattle.dnsv_lines.specs.declared.line.Line.{Line}
 use Rattle.dnsv_verifier.specs.declared.answer.Answer.{Answer}
 use Rattle.dnsv_verifier.specs.declared.entry.Entry.{Entry}
-use Rattle.dnsv_chain.specs.declared.anchor.Anchor.{Anchor}
+use Rattle.dnsv_anchors.specs.declared.anchor.Anchor.{Anchor}
 use Rattle.dnsv_verdict.specs.Way.{IsRefusedFor, IsVerdictOf}
 use Rattle.dnsv_verdict.specs.declared.report.Report.{Report}
 use Rattle.dnsv_verdict.specs.declared.verdict.Verdict.{Verdict}

@@ -21,7 +21,7 @@ use Rattle.dnsv_verifier.specs.declared.entry.Entry.{Entry}
 use Rattle.dnsv_chain.specs.Trusted.{IsKeyOf}
 use Rattle.dnsv_chain.specs.Chain.{AddsDelegation, AddsKeys, AddsKeysTo, AddsTrusted, AreKeysOfSet, AreKeysTo, AreVouched, HasRdata, IsSignedByVouched, IsVouchedFor}
 use Rattle.dnsv_chain.specs.Signing.{AreGoodNumbers, IsGoodNumber, IsSignedUnderSome}
-use Rattle.dnsv_chain.specs.declared.anchor.Anchor.{Anchor}
+use Rattle.dnsv_anchors.specs.declared.anchor.Anchor.{Anchor}
 use Rattle.dnsv_chain.proofs.ZipLemmas.{zip_at, zip_length}
 
 -- ---- the records of an RRset

@@ -13,10 +13,11 @@ use Rattle.dnsv_canonical.specs.Rdata.{rdata_of_type}
 use Rattle.dnsv_canonical.specs.Rrsets.{ReceivedRrset}
 use Rattle.dnsv_verifier.specs.Admissible.{DnskeyRecord}
 use Rattle.dnsv_chain.specs.Chain.{IsDelegatedBySome}
-use Rattle.dnsv_chain.specs.Ds.DsReading.{DelegatesByDigest, DelegatesByType, HasNamed, HasNamedDigest, HasSome, IsLeading, Leads, NamesByType}
+use Rattle.dnsv_anchors.specs.Ds.DsReading.{IsLeading, Leads}
+use Rattle.dnsv_chain.specs.Ds.DsReading.{DelegatesByDigest, DelegatesByType, HasNamed, HasNamedDigest, HasSome, NamesByType}
 use Rattle.dnsv_chain.proofs.ChainLemmas.{its_rdata, same_ds}
-use Rattle.dnsv_chain.proofs.MatchingLemmas.{by_digest, match_is_named, no_digest}
-use Rattle.dnsv_chain.proofs.UsableLemmas.{compared, number_by, number_of, of_three, one_number, usable_matches}
+use Rattle.dnsv_chain.proofs.MatchingLemmas.{by_digest, match_is_named, no_digest, usable_matches}
+use Rattle.dnsv_anchors.proofs.UsableLemmas.{compared, number_by, number_of, of_three, one_number}
 
 -- ---- some of the RRsets that lie elsewhere
 

@@ -9,7 +9,7 @@ use Rattle.dnsv_verifier.specs.declared.answer.Answer.{Answer}
 use Rattle.dnsv_verifier.specs.declared.entry.Entry.{Entry}
 use Rattle.dnsv_chain.specs.Derivation.{IsLink, LeadsTo, HasDerivation}
 use Rattle.dnsv_chain.specs.Trusted.{IsKeyOf, IsSignedUnder, DelegatesTo, IsTrusted, anchored, delegated}
-use Rattle.dnsv_chain.specs.declared.anchor.Anchor.{Anchor}
+use Rattle.dnsv_anchors.specs.declared.anchor.Anchor.{Anchor}
 
 -- the DS RRset has the owner of the set whose key it matches
 pub same_owner_labels : (ds set : ReceivedRrset) (key : DnskeyRecord) → DelegatesTo ds key → IsKeyOf set key

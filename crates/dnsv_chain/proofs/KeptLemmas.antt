@@ -13,7 +13,7 @@ use Rattle.std.specs.List.Sorted.{IsPermutation, IsSorted, IsStrictlySortedBy}
 use Rattle.std.specs.Map.{lookup}
 use Rattle.std.specs.Option.{option_map_or}
 use Rattle.dnsv_names.specs.Name.{Labels, SameName, same_name}
-use Rattle.dnsv_chain.specs.declared.by_owner.key.OwnerKey.{OwnerKey}
+use Rattle.dnsv_anchors.specs.declared.by_owner.key.OwnerKey.{OwnerKey}
 use Rattle.dnsv_records.specs.Dnskey.{IsDnskey}
 use Rattle.dnsv_records.specs.declared.dnskey.Dnskey.{Dnskey}
 use Rattle.dnsv_message.specs.declared.record.Section.TheVariants as section
@@ -28,7 +28,7 @@ use Rattle.dnsv_chain.specs.Trusted.{IsSecured}
 use Rattle.dnsv_chain.specs.Chain.{AreKeysByOwner}
 use Rattle.dnsv_chain.specs.Kept.{AreDistinct, AreKeysOf, AreSigned, AreZonesBefore, IsKept, IsZoneOf}
 use Rattle.dnsv_chain.specs.Signing.{AreGoodNumbers, IsGoodNumber}
-use Rattle.dnsv_chain.specs.declared.anchor.Anchor.{Anchor}
+use Rattle.dnsv_anchors.specs.declared.anchor.Anchor.{Anchor}
 use Rattle.dnsv_chain.proofs.WalkLemmas.{same_rdata_good}
 use Rattle.dnsv_chain.proofs.ZipLemmas.{zip_at, zip_length, zip_push}
 

@@ -1,5 +1,3 @@
-pub mod AnchorLaws
-pub mod ByOwnerLemmas
 pub mod ChainLemmas
 pub mod DelegatedLemmas
 pub mod DerivationLemmas
@@ -9,6 +7,6 @@ pub mod NumberedLemmas
 pub mod SigningLemmas
 pub mod StepLemmas
 pub mod TrustedLemmas
-pub mod UsableLemmas
+pub mod UnusableDsLemmas
 pub mod WalkLemmas
 pub mod ZipLemmas

@@ -1,9 +1,14 @@
 -- DS records that match a key, by the one digest that the key has of their digest type.
-use Rattle.std.proofs.Common.{◌≡◌, ◌↔◌, ℕ, List, Some, None, sym, ap, ◌∙◌}
+use Rattle.std.proofs.Common.{◌≡◌, ◌↔◌, ℕ, List, Some, None, sym, ap, ◌∙◌, subst}
+use Rattle.std.specs.Prelude.{IsTrue}
 use Rattle.dnsv_names.specs.Name.{Labels, SameName}
 use Rattle.dnsv_digest.specs.Digest.{ds_digest_of}
+use Rattle.dnsv_records.specs.Algorithm.{is_supported}
 use Rattle.dnsv_records.specs.declared.ds.Ds.{Ds}
 use Rattle.dnsv_verifier.specs.Admissible.{DnskeyRecord}
+use Rattle.dnsv_anchors.specs.Ds.DsReading.{IsLeading, Leads}
+use Rattle.dnsv_anchors.proofs.UsableLemmas.{usable_leader, usable_leads}
+use Rattle.dnsv_chain.specs.Ds.{HasUsableMatch}
 use Rattle.dnsv_chain.specs.Ds.DsReading.{HasLeadingMatch, HasNamed, HasNamedDigest}
 
 module _ (owner : Labels) (records : List Ds) (number : ℕ) (key : DnskeyRecord) where
@@ -48,3 +53,18 @@ module _ (owner : Labels) (records : List Ds) (number : ℕ) (key : DnskeyRecord
           digest_is = both;
         },
   )
+
+-- ---- the digest type that leads
+
+pub usable_matches : (owner : Labels) (records : List Ds) (key : DnskeyRecord) (leading : ℕ) → Leads records leading
+    → IsTrue (is_supported key.dnskey.algorithm.0)
+    → (HasLeadingMatch owner records leading key → HasUsableMatch owner records key) × (HasUsableMatch owner records key → HasLeadingMatch owner records leading key)
+usable_matches owner records key leading leads supported =
+    let P : ℕ → Type 0 = λ algorithm. IsTrue (is_supported algorithm) in (
+      λ has. record { ds = has.ds; among = has.among; usable = usable_leader records leading has.ds leads has.is (subst P (sym has.matching.algorithm) supported); matching = has.matching },
+      λ has. record { ds = has.ds; among = has.among; is = usable_leads records leading has.ds leads has.among has.usable; matching = has.matching },
+    )
+
+-- where no digest type leads nothing matches
+pub none_matches : (owner : Labels) (records : List Ds) (key : DnskeyRecord) → IsLeading records None → HasUsableMatch owner records key → ⊥
+none_matches owner records key none has = none has.ds has.among has.usable.digest_type

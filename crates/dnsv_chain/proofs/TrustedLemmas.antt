@@ -11,7 +11,7 @@ use Rattle.dnsv_verifier.specs.declared.answer.Answer.{Answer}
 use Rattle.dnsv_verifier.specs.declared.answer.Answer.TheVariants.{Valid}
 use Rattle.dnsv_verifier.specs.declared.entry.Entry.{Entry}
 use Rattle.dnsv_chain.specs.Trusted.{IsKeyOf, IsSignedUnder, SignsItsSet, IsTrusted, anchored, delegated, IsTrustedKey, IsGoodByTrust, IsSecured}
-use Rattle.dnsv_chain.specs.declared.anchor.Anchor.{Anchor}
+use Rattle.dnsv_anchors.specs.declared.anchor.Anchor.{Anchor}
 
 -- a trusted set is one of the evidence
 pub trusted_among : {m : Entry → Answer} {t : ℕ} {rs : List ReceivedRrset} {as' : List Anchor} {set : ReceivedRrset}

@@ -16,7 +16,7 @@ use Rattle.dnsv_chain.specs.Trusted.{IsKeyOf, IsTrusted, anchored, delegated}
 use Rattle.dnsv_chain.specs.Chain.{AddsDelegation, AddsTrusted, AreKeysByOwner, HasKeys, HasRdata, IsDelegation, IsSignedByVouched, IsWalked}
 use Rattle.dnsv_chain.specs.Order.{AreSteps, IsStepOf}
 use Rattle.dnsv_chain.specs.Signing.{IsGoodNumber}
-use Rattle.dnsv_chain.specs.declared.anchor.Anchor.{Anchor}
+use Rattle.dnsv_anchors.specs.declared.anchor.Anchor.{Anchor}
 use Rattle.dnsv_chain.specs.declared.order.Step.{Step}
 use Rattle.dnsv_chain.proofs.DerivationLemmas.{same_owner_labels}
 use Rattle.dnsv_chain.proofs.StepLemmas.{earlier, fewer_first, ds_first, one_rrset}

@@ -6,9 +6,9 @@ use Rattle.dnsv_canonical.specs.Rrsets.{ReceivedRrset}
 use Rattle.dnsv_verifier.specs.Table.{IsTableOf, TableContents, hoped_answer, table_answer}
 use Rattle.dnsv_verifier.specs.declared.answer.Answer.{Answer}
 use Rattle.dnsv_verifier.specs.declared.entry.Entry.{Entry}
-use Rattle.dnsv_chain.specs.Anchor.{anchor_owner}
+use Rattle.dnsv_anchors.specs.Anchor.{anchor_owner}
 use Rattle.dnsv_chain.specs.Trust.{IsTrustOf, KeptTrust}
-use Rattle.dnsv_chain.specs.declared.anchor.Anchor.{Anchor}
+use Rattle.dnsv_anchors.specs.declared.anchor.Anchor.{Anchor}
 
 -- ---- the basis
 

@@ -7,7 +7,7 @@ use Rattle.dnsv_verifier.specs.declared.answer.Answer.{Answer}
 use Rattle.dnsv_verifier.specs.declared.entry.Entry.{Entry}
 use Rattle.dnsv_chain.specs.Anchor.{HasAnchorMatch}
 use Rattle.dnsv_chain.specs.Trusted.{IsKeyOf, IsSignedUnder, SignsItsSet, DelegatesTo}
-use Rattle.dnsv_chain.specs.declared.anchor.Anchor.{Anchor}
+use Rattle.dnsv_anchors.specs.declared.anchor.Anchor.{Anchor}
 
 -- a key of the DNSKEY RRset of the evidence signs it and matches an anchor
 pub record IsAnchored

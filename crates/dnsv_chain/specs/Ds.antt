@@ -1,37 +1,12 @@
--- Which records of a DS RRset count (RFC 4509 3), and which keys they match (RFC 4034 5.2, RFC 4035 5.2).
+-- Which keys the records of a DS RRset match (RFC 4034 5.2, RFC 4035 5.2).
 pub mod DsReading
-use Rattle.std.specs.Prelude.{◌≡◌, ℕ, List, Some, Contains, IsTrue}
+use Rattle.std.specs.Prelude.{◌≡◌, List, Some, Contains}
 use Rattle.dnsv_names.specs.Name.{Labels, SameName}
-use Rattle.dnsv_records.specs.Algorithm.{is_supported}
 use Rattle.dnsv_records.specs.Dnskey.KeyTag.{key_tag_of}
 use Rattle.dnsv_records.specs.declared.ds.Ds.{Ds}
 use Rattle.dnsv_digest.specs.Digest.{ds_digest_of}
-use Rattle.dnsv_digest.specs.DigestAlgorithm.{IsStronger, digest_algorithm_of}
-use Rattle.dnsv_digest.specs.declared.digest_algorithm.DigestAlgorithm.{DigestAlgorithm}
 use Rattle.dnsv_verifier.specs.Admissible.{DnskeyRecord}
-
--- a digest type with the number is supported
-abbrev pub IsSupported : ℕ → Type 0
-IsSupported number = (supported : DigestAlgorithm) × (digest_algorithm_of number ≡ Some supported)
-
--- the digest type with the number a goes before that with the number b; a number that isn't supported has no place
-abbrev pub GoesBefore : ℕ → ℕ → Type 0
-GoesBefore a b =
-    (stronger : DigestAlgorithm) × (weaker : DigestAlgorithm)
-    × (digest_algorithm_of a ≡ Some stronger) × (digest_algorithm_of b ≡ Some weaker) × IsStronger stronger weaker
-
--- A record of a DS RRset is ignored beside a record of the same RRset whose digest type goes before its own, whatever
--- the algorithm of that one is (RFC 4509 3).
-pub record IsIgnored (records : List Ds) (ds : Ds) : Type 0 where
-  pub other : Ds
-  pub among : Contains records other
-  pub before : GoesBefore other.digest_type.0 ds.digest_type.0
-
--- A record of a DS RRset is usable where its algorithm and its digest type are supported, and it isn't ignored.
-pub record IsUsable (records : List Ds) (ds : Ds) : Type 0 where
-  pub algorithm : IsTrue (is_supported ds.algorithm.0)
-  pub digest_type : IsSupported ds.digest_type.0
-  pub counts : ¬ IsIgnored records ds
+use Rattle.dnsv_anchors.specs.Ds.{IsUsable}
 
 -- the digest of a DS record is the key's, by a digest type that is supported (RFC 4034 5.1.4)
 abbrev pub HasDigestOf : Ds → DnskeyRecord → Type 0
@@ -44,12 +19,6 @@ pub record IsMatch (owner : Labels) (ds : Ds) (key : DnskeyRecord) : Type 0 wher
   pub algorithm : ds.algorithm.0 ≡ key.dnskey.algorithm.0
   pub key_tag : ds.key_tag.0 ≡ key_tag_of key.rdata
   pub digest : HasDigestOf ds key
-
--- a DS RRset has a usable record
-pub record HasUsable (records : List Ds) : Type 0 where
-  pub ds : Ds
-  pub among : Contains records ds
-  pub usable : IsUsable records ds
 
 -- a usable record of a DS RRset of the owner matches the key
 pub record HasUsableMatch (owner : Labels) (records : List Ds) (key : DnskeyRecord) : Type 0 where

@@ -3,7 +3,7 @@ use Rattle.std.specs.Prelude.{◌≡◌, ℕ, List, ◌++◌, Contains, Vec, map
 use Rattle.std.specs.BTreeMap.{BTreeMap}
 use Rattle.std.specs.List.{AllZip}
 use Rattle.dnsv_names.specs.Name.{Labels}
-use Rattle.dnsv_chain.specs.declared.by_owner.key.OwnerKey.{OwnerKey}
+use Rattle.dnsv_anchors.specs.declared.by_owner.key.OwnerKey.{OwnerKey}
 use Rattle.dnsv_records.specs.declared.dnskey.Dnskey.{Dnskey}
 use Rattle.dnsv_canonical.specs.Canonical.{IsCanonical}
 use Rattle.dnsv_canonical.specs.Rrsets.{ReceivedRrset}

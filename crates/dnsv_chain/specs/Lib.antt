@@ -1,6 +1,4 @@
 pub mod Anchor
-pub mod AnchorFile
-pub mod AnchorsError
 pub mod Basis
 pub mod ByOwner
 pub mod Chain

@@ -5,7 +5,7 @@ use Rattle.dnsv_names.specs.Name.{Labels, IsAtOrBelow}
 use Rattle.dnsv_records.specs.Ds.{IsDs}
 use Rattle.dnsv_records.specs.declared.ds.Ds.{Ds}
 use Rattle.dnsv_canonical.specs.Rrsets.{ReceivedRrset}
-use Rattle.dnsv_chain.specs.Ds.{HasUsable}
+use Rattle.dnsv_anchors.specs.Ds.{HasUsable}
 
 -- the RRset is a secured DS RRset at or above the name, of which no record is usable
 pub record IsUnusableDs (Secured : ℕ → Type 0) (rrset : ReceivedRrset) (name : Labels) : Type 0 where

@@ -1,20 +1,20 @@
 //! The chain of trust: which DNSKEY RRsets of a capture are trusted (RFC 4035 5).
 ghost use Rattle.std.specs.Prelude.{◌↔◌, ◌≡◌, IfOk, IsTrue, OnOk, map};
 ghost use Rattle.dnsv_verifier.specs.Table.{table_answer};
-ghost use Rattle.dnsv_chain.specs.ByOwner.{rrsets_at, values_at};
+ghost use Rattle.dnsv_anchors.specs.ByOwner.{values_at};
+ghost use Rattle.dnsv_chain.specs.ByOwner.{rrsets_at};
 ghost use Rattle.dnsv_chain.specs.Trust.{IsTrustOf};
 ghost use Rattle.dnsv_chain.specs.Chain.{AddsDelegation, AddsKeys, AddsTrusted, AreKeysByOwner, AreKeysOfSet, AreKnown, AreVouched, IsSignedByVouched, IsVouchedFor};
 ghost use Rattle.dnsv_chain.specs.Signing.{IsOfTable};
 
-use crate::anchors::Anchors;
-use crate::by_owner::key::OwnerKey;
-use crate::by_owner::{ByOwner, add, at};
+use crate::anchored::has_anchor_match;
 use crate::by_rdata::ByRdata;
 use crate::delegated::is_delegated;
 use crate::order::steps;
 use crate::signing::answered::AnsweredRrset;
 use crate::signing::{TrustedKeys, good_numbers, is_signed_under_some};
 use crate::trust::Trust;
+use dnsv_anchors::{Anchors, ByOwner, OwnerKey, add, at};
 use dnsv_canonical::Rrset;
 use dnsv_names::{RecordType, WireName};
 use dnsv_verifier::{KeyRecord, Table};
@@ -162,7 +162,7 @@ fn vouched_keys<'a>(
 fn is_vouched_for(anchors: &Anchors<'_>, delegations: &[&Rrset<'_>], key: &KeyRecord<'_>) -> bool
     ensures { IsTrue result ↔ IsVouchedFor anchors.now (map (λ ds. ds.now) delegations.now) key.now }
 {
-    anchors.is_match(key) || is_delegated(delegations, key)
+    has_anchor_match(anchors, key) || is_delegated(delegations, key)
 }
 
 /// Adds the keys of the DNSKEY RRset, but those whose RDATA is there.

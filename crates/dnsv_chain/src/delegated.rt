@@ -1,10 +1,11 @@
 //! Which keys are delegated to by DS RRsets.
 ghost use Rattle.std.specs.Prelude.{◌↔◌, IsTrue, map};
 ghost use Rattle.dnsv_chain.specs.Chain.{IsDelegatedBySome};
-ghost use Rattle.dnsv_chain.specs.Ds.DsReading.{DelegatesByDigest, DelegatesByType, HasSome, Leads, NamesByType};
+ghost use Rattle.dnsv_anchors.specs.Ds.DsReading.{Leads};
+ghost use Rattle.dnsv_chain.specs.Ds.DsReading.{DelegatesByDigest, DelegatesByType, HasSome, NamesByType};
 
 use crate::matching::{digest_of, has_named, has_named_digest, is_owner};
-use crate::usable::leading_digest_type;
+use dnsv_anchors::leading_digest_type;
 use dnsv_canonical::Rrset;
 use dnsv_digest::Digest;
 use dnsv_names::RecordType;

@@ -10,9 +10,9 @@ ghost use Rattle.dnsv_verifier.specs.declared.answer.Answer.{Answer};
 ghost use Rattle.dnsv_verifier.specs.declared.entry.Entry.{Entry};
 ghost use Rattle.dnsv_chain.specs.Derivation.{HasDerivation};
 ghost use Rattle.dnsv_chain.specs.Trusted.{IsGoodByTrust, IsSecured, IsTrusted, IsTrustedKey};
-ghost use Rattle.dnsv_chain.specs.declared.anchor.Anchor.{Anchor};
+ghost use Rattle.dnsv_anchors.specs.declared.anchor.Anchor.{Anchor};
 
-use crate::anchor::Anchor;
+use dnsv_anchors::Anchor;
 use dnsv_verifier::{Answer, good_depends_on_what_is_asked};
 
 /// A DNSKEY RRset is trusted just where links lead down to it from one that is anchored, each to an owner with more

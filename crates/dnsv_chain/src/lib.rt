@@ -4,11 +4,12 @@
 //! DS RRset that is signed by a trusted RRset above.
 #![tactic(auto)]
 
-pub use anchor::Anchor;
-pub use anchors::{Anchors, AnchorsError, a_text_is_one_list_of_anchors};
-pub use by_owner::key::OwnerKey;
-pub use by_owner::{ByOwner, add_at, at};
+pub use anchored::{has_anchor_match, is_anchor_match};
 pub use chain::trusted;
+pub use dnsv_anchors::{
+    Anchor, Anchors, AnchorsError, ByOwner, OwnerKey, a_text_is_one_list_of_anchors, add_at, at,
+    goes_before, has_usable, is_usable,
+};
 pub use laws::{
     more_evidence_takes_no_trust_away, nothing_is_trusted_without_an_anchor,
     trust_depends_on_what_is_asked, trust_leads_down_from_an_anchor,
@@ -16,12 +17,9 @@ pub use laws::{
 pub use matching::{has_usable_match, is_match};
 pub use signing::good::is_good;
 pub use trust::Trust;
-pub use usable::unusable_ds::is_unusable_ds;
-pub use usable::{goes_before, has_usable, is_usable};
+pub use unusable_ds::is_unusable_ds;
 
-mod anchor;
-mod anchors;
-mod by_owner;
+mod anchored;
 mod by_rdata;
 mod chain;
 mod delegated;
@@ -30,4 +28,4 @@ mod matching;
 mod order;
 mod signing;
 mod trust;
-mod usable;
+mod unusable_ds;

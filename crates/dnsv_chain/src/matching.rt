@@ -5,7 +5,7 @@ ghost use Rattle.dnsv_digest.specs.Digest.{ds_digest_of};
 ghost use Rattle.dnsv_chain.specs.Ds.{HasDigestOf, HasUsableMatch, IsMatch};
 ghost use Rattle.dnsv_chain.specs.Ds.DsReading.{HasLeadingMatch, HasNamed, HasNamedDigest, NamesKey};
 
-use crate::usable::leading_digest_type;
+use dnsv_anchors::leading_digest_type;
 use dnsv_digest::{Digest, ds_digest};
 use dnsv_names::Name;
 use dnsv_records::{DigestType, Ds};

@@ -7,11 +7,11 @@ ghost use Rattle.std.specs.Prelude.{◌↔◌, ◌≡◌, IfOk, IfSome, IsTrue};
 ghost use Rattle.dnsv_canonical.specs.Rrsets.{ReceivedRrset};
 ghost use Rattle.dnsv_verifier.specs.Admissible.{IsGood, IsVerifiable, entry_over};
 ghost use Rattle.dnsv_verifier.specs.Table.{HasNumber, table_answer};
-ghost use Rattle.dnsv_chain.specs.ByOwner.{values_at};
+ghost use Rattle.dnsv_anchors.specs.ByOwner.{values_at};
 ghost use Rattle.dnsv_chain.specs.Signing.{AreGoodNumbers, IsGoodUnderSome, IsOfTable, IsSignatureAt, IsSignedUnderSome, IsValidBy, IsValidBySome, MayHaveMadeOne};
 
-use crate::by_owner::{ByOwner, at};
 use crate::signing::answered::AnsweredRrset;
+use dnsv_anchors::{ByOwner, at};
 use dnsv_canonical::{SignatureNumber, signed_data};
 use dnsv_records::Rrsig;
 use dnsv_verifier::{

@@ -1,7 +1,7 @@
 //! What is kept of trust.
 ghost use Rattle.std.specs.Prelude.{◌≡◌, IfOk, map};
 ghost use Rattle.dnsv_verifier.specs.Table.{table_answer};
-ghost use Rattle.dnsv_chain.specs.ByOwner.{values_at};
+ghost use Rattle.dnsv_anchors.specs.ByOwner.{values_at};
 ghost use Rattle.dnsv_chain.specs.Trust.{keys_among, keys_of, signed_of};
 ghost use Rattle.dnsv_chain.specs.Kept.{AreDistinct, AreKeysOf, AreSigned, AreZones, IsKept};
 

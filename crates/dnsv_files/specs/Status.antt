@@ -13,7 +13,7 @@ use Rattle.dnsv_tsig.specs.Errors.{key_file_error_code, tsig_error_code}
 use Rattle.dnsv_canonical.specs.CaptureError.{capture_error_code}
 use Rattle.dnsv_statements.specs.StatementsError.{statements_error_code}
 use Rattle.dnsv_answers.specs.AnswersError.{answers_error_code}
-use Rattle.dnsv_chain.specs.AnchorsError.{anchors_error_code}
+use Rattle.dnsv_anchors.specs.AnchorsError.{anchors_error_code}
 use Rattle.dnsv_verdict.specs.VerdictError.{verdict_error_code}
 use Rattle.dnsv_questions.specs.QuestionsError.{questions_error_code}
 use Rattle.dnsv_files.specs.declared.status.Status.{Status}

@@ -20,8 +20,8 @@ use Rattle.dnsv_statements.specs.declared.statements.StatementsError.{Statements
 use Rattle.dnsv_statements.specs.declared.statements.StatementsError.TheVariants as statements
 use Rattle.dnsv_answers.specs.declared.error.AnswersError.{AnswersError}
 use Rattle.dnsv_answers.specs.declared.error.AnswersError.TheVariants as answers
-use Rattle.dnsv_chain.specs.declared.anchors.AnchorsError.{AnchorsError}
-use Rattle.dnsv_chain.specs.declared.anchors.AnchorsError.TheVariants as anchors
+use Rattle.dnsv_anchors.specs.declared.anchors.AnchorsError.{AnchorsError}
+use Rattle.dnsv_anchors.specs.declared.anchors.AnchorsError.TheVariants as anchors
 use Rattle.dnsv_files.specs.Files.Anchors.{TellsAnchorsError}
 use Rattle.dnsv_files.specs.Files.Answers.{TellsAnswersError}
 use Rattle.dnsv_tsig.specs.declared.error.TsigError.{TsigError}

@@ -4,7 +4,7 @@ use Rattle.dnsv_names.specs.Name.{Labels, SameName}
 use Rattle.dnsv_canonical.specs.Rrsets.{IsNumbered, ReceivedRrset}
 use Rattle.dnsv_chain.specs.Anchor.{IsAnchorMatch}
 use Rattle.dnsv_chain.specs.Ds.{IsMatch}
-use Rattle.dnsv_chain.specs.declared.anchor.Anchor.{Anchor}
+use Rattle.dnsv_anchors.specs.declared.anchor.Anchor.{Anchor}
 use Rattle.dnsv_proof_forms.specs.records.Numbers.{number_cmp}
 use Rattle.dnsv_canonical.specs.declared.number.RecordNumber.{RecordNumber}
 use Rattle.dnsv_derivations.specs.Explained.{Setting}

@@ -3,7 +3,8 @@
 ghost use Rattle.std.specs.Prelude.{◌↔◌, IfOk, IsTrue, OnOk};
 ghost use Rattle.dnsv_canonical.specs.Rrsets.{IsNumbered};
 ghost use Rattle.dnsv_chain.specs.Trusted.{IsKeyOf};
-ghost use Rattle.dnsv_chain.specs.Ds.{IsMatch, IsUsable};
+ghost use Rattle.dnsv_anchors.specs.Ds.{IsUsable};
+ghost use Rattle.dnsv_chain.specs.Ds.{IsMatch};
 ghost use Rattle.dnsv_derivations.specs.Explained.{setting_in};
 ghost use Rattle.dnsv_derivations.specs.Following.{IsGoodUnder};
 ghost use Rattle.dnsv_derivations.specs.derivations.WaySearch.{AreKeysInOrder, signature_of};
@@ -13,7 +14,7 @@ ghost use Rattle.dnsv_derivations.specs.derivations.Ways.{record_at};
 
 use crate::zones::is_in_question;
 use dnsv_canonical::{RecordNumber, Rrset, in_canonical_order};
-use dnsv_chain::is_usable;
+use dnsv_chain::{is_anchor_match, is_usable};
 use dnsv_derivations::{DigestedKey, Evidence, is_ds_match, key_name, keys_in_order, lowest_good};
 use dnsv_lines::{Line, ShownKey};
 use dnsv_names::{Name, RecordType};
@@ -148,7 +149,7 @@ fn lowest_anchor(evidence: &Evidence<'_>, key: &KeyRecord<'_>) -> Option<usize>
     ensures { IsLowestOf (IsMatchedByAnchor (setting_in evidence.now) key.now) result }
 {
     for (place, anchor) in evidence.anchors().iter().enumerate() {
-        if anchor.is_match(key) {
+        if is_anchor_match(anchor, key) {
             return Some(place + 1);
         }
     }

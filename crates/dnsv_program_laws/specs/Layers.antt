@@ -26,9 +26,9 @@ use Rattle.dnsv_verifier.specs.Table.{TableContents}
 use Rattle.dnsv_verifier.specs.Within.{IsTableWithin}
 use Rattle.dnsv_verifier.specs.declared.answer.Answer.{Answer}
 use Rattle.dnsv_verifier.specs.declared.entry.Entry.{Entry}
-use Rattle.dnsv_chain.specs.AnchorFile.{AreAnchorsOf, IsFaultOf}
-use Rattle.dnsv_chain.specs.declared.anchor.Anchor.{Anchor}
-use Rattle.dnsv_chain.specs.declared.anchors.AnchorsError.{AnchorsError}
+use Rattle.dnsv_anchors.specs.AnchorFile.{AreAnchorsOf, IsFaultOf}
+use Rattle.dnsv_anchors.specs.declared.anchor.Anchor.{Anchor}
+use Rattle.dnsv_anchors.specs.declared.anchors.AnchorsError.{AnchorsError}
 use Rattle.dnsv_chain.specs.Basis.{Basis}
 use Rattle.dnsv_verdict.specs.Way.{IsRefusedFor, IsVerdictOf}
 use Rattle.dnsv_verdict.specs.declared.error.VerdictError.{VerdictError}

@@ -6,7 +6,7 @@ use Rattle.std.specs.Str.{bytes_eq}
 use Rattle.hex.specs.Hex.{decode_of}
 use Rattle.dnsv_names.specs.Lines.{AreFields}
 use Rattle.dnsv_names.specs.Lines.LineLaws.{AreFields-only}
-use Rattle.dnsv_verifier.specs.HexField.{AreDigitsOf, hex_value}
+use Rattle.dnsv_anchors.specs.HexField.{AreDigitsOf, hex_value}
 use Rattle.dnsv_statements.specs.Statements.{States, word_text}
 use Rattle.dnsv_statements.specs.StatementsReading.{IsStatement, word_of}
 use Rattle.dnsv_verifier.specs.declared.entry.Entry.{Entry}

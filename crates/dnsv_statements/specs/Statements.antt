@@ -7,7 +7,7 @@ use Rattle.std.specs.Ordering.{is_eq}
 use Rattle.dnsv_names.specs.Lines.LineFile.{BeginsWithValue, HasFirstFault, SaysValues}
 use Rattle.dnsv_names.specs.Lines.{AreFields, NumberedLine}
 use Rattle.dnsv_verifier.specs.Entry.{entry_cmp}
-use Rattle.dnsv_verifier.specs.HexField.{hex_value}
+use Rattle.dnsv_anchors.specs.HexField.{hex_value}
 use Rattle.dnsv_verifier.specs.declared.answer.Answer.{Answer}
 use Rattle.dnsv_verifier.specs.declared.answer.Answer.TheVariants.{Valid, Invalid, Unknown}
 use Rattle.dnsv_verifier.specs.declared.entry.Entry.{Entry}

@@ -7,7 +7,7 @@ use Rattle.std.specs.List.{Contains}
 use Rattle.dnsv_names.specs.Lines.{NumberedLine}
 use Rattle.dnsv_names.specs.Lines.LineFileLaws.{HasFirstFault-only, IsLineFile, SaysValues-no_fault, SaysValues-only}
 use Rattle.dnsv_names.specs.Lines.LineLaws.{AreFields-only}
-use Rattle.dnsv_verifier.specs.HexField.{hex_value}
+use Rattle.dnsv_anchors.specs.HexField.{hex_value}
 use Rattle.dnsv_statements.specs.Statements.{Agree, AreStatementsOf, IsFaultOf, IsFaultOfLine, IsStatementOf, States, other_word, word_text}
 use Rattle.dnsv_verifier.specs.declared.entry.Entry.{Entry}
 use Rattle.dnsv_statements.specs.declared.statements.statement.Word.{Word}

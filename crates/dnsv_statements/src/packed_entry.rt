@@ -6,8 +6,9 @@ ghost use Rattle.std.proofs.lemmas.Cmp.{eq_by_cmp_equiv};
 ghost use Rattle.hex.specs.Hex.{decode_of};
 ghost use Rattle.dnsv_verifier.specs.Entry.{entry_cmp};
 
+use dnsv_anchors::push_decoded;
 use dnsv_records::{Algorithm, Octets};
-use dnsv_verifier::{Entry, SignedData, push_decoded};
+use dnsv_verifier::{Entry, SignedData};
 use std::alloc::{AllocError, Global};
 use std::cmp::Ordering;
 use std::marker::Model;

@@ -12,8 +12,8 @@ use Rattle.dnsv_canonical.specs.Rrsets.{IsNumbered, ReceivedRrset}
 use Rattle.dnsv_canonical.specs.declared.number.RecordNumber.{RecordNumber}
 use Rattle.dnsv_canonical.specs.declared.number.SignatureNumber.{SignatureNumber}
 use Rattle.dnsv_canonical.proofs.OrderLemmas.{each_of}
-use Rattle.dnsv_chain.specs.Anchor.{anchor_owner}
-use Rattle.dnsv_chain.specs.declared.anchor.Anchor.{Anchor}
+use Rattle.dnsv_anchors.specs.Anchor.{anchor_owner}
+use Rattle.dnsv_anchors.specs.declared.anchor.Anchor.{Anchor}
 use Rattle.dnsv_canonical.proofs.NumberLemmas.{each_number, IsOneAt, one_numbered}
 use Rattle.dnsv_lines.specs.declared.line.Line.{Line}
 use Rattle.dnsv_lines.specs.declared.line.Line.TheVariants as line

@@ -6,7 +6,7 @@ use Rattle.dnsv_verifier.specs.Table.{IsTableOf, TableContents, table_answer}
 use Rattle.dnsv_verifier.specs.declared.answer.Answer.{Answer}
 use Rattle.dnsv_verifier.specs.declared.entry.Entry.{Entry}
 use Rattle.dnsv_chain.specs.Trust.{IsTrustOf}
-use Rattle.dnsv_chain.specs.declared.anchor.Anchor.{Anchor}
+use Rattle.dnsv_anchors.specs.declared.anchor.Anchor.{Anchor}
 use Rattle.dnsv_verdict.proofs.ReportLemmas.{table_of_itself}
 use Rattle.dnsv_chain.specs.Basis.{CaseContents, HasTrust, IsCaseOf, IsCaseWith, Basis, basis_of}
 

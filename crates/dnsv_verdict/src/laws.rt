@@ -11,7 +11,7 @@ ghost use Rattle.dnsv_names.specs.Name.{Labels};
 ghost use Rattle.dnsv_verifier.specs.declared.answer.Answer.{Answer};
 ghost use Rattle.dnsv_verifier.specs.declared.answer.Answer.TheVariants.{Valid};
 ghost use Rattle.dnsv_verifier.specs.declared.entry.Entry.{Entry};
-ghost use Rattle.dnsv_chain.specs.declared.anchor.Anchor.{Anchor};
+ghost use Rattle.dnsv_anchors.specs.declared.anchor.Anchor.{Anchor};
 ghost use Rattle.dnsv_verdict.specs.Settled.NoLess.{AnswersNoLess, IsNoLess, basis_of_messages, case_of};
 ghost use Rattle.dnsv_chain.specs.Basis.{Basis, HasAnchor, with_meaning};
 ghost use Rattle.dnsv_verdict.specs.Verdict.{IsSettledVerdict, IsVerdictAt, IsSettledBy};

@@ -1,7 +1,6 @@
 pub mod AdmissibleLemmas
 pub mod AskLemmas
 pub mod EntryLemmas
-pub mod HexFieldLemmas
 pub mod KeyLemmas
 pub mod ListedLemmas
 pub mod NamedLemmas

@@ -3,7 +3,6 @@ pub mod Asked
 pub mod Asking
 pub mod Entry
 pub mod EntryLaws
-pub mod HexField
 pub mod Numbers
 pub mod Panel
 pub mod SignedData

@@ -6,7 +6,6 @@ pub use answer::Answer;
 pub use ask::{ask_all, ask_within};
 pub use entries::Entries;
 pub use entry::{Entry, entry_over};
-pub use hex_field::{digits_of, hex_octets, push_decoded};
 pub use key::KeyRecord;
 pub use key::keys::{add_keys, all_keys};
 pub use laws::{
@@ -24,7 +23,6 @@ mod answer;
 mod ask;
 mod entries;
 mod entry;
-mod hex_field;
 mod key;
 mod laws;
 mod panel;

@@ -11,7 +11,7 @@ use Rattle.dnsv_files.specs.declared.opening.Opening.{Opening}
 use Rattle.dnsv_work.specs.Opening.{IsOpeningAt, IsOpeningReachedAt}
 use Rattle.dnsv_answers.specs.declared.heading.Moments.{Moments}
 use Rattle.dnsv_answers.specs.declared.heading.Moments.TheVariants.{At, Between}
-use Rattle.dnsv_chain.specs.declared.anchor.Anchor.{Anchor}
+use Rattle.dnsv_anchors.specs.declared.anchor.Anchor.{Anchor}
 use Rattle.dnsv_files.specs.Files.Anchors.{HasAnchors}
 use Rattle.dnsv_files.specs.Told.{IsFaultOf}
 use Rattle.dnsv_work.specs.Known.{IsKnownReached}

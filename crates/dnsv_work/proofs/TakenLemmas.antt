@@ -11,7 +11,7 @@ use Rattle.dnsv_work.specs.Opening.{IsFaultOfOpeningAt, IsOpeningAt}
 use Rattle.dnsv_files.specs.declared.inputs.Inputs.{Inputs}
 use Rattle.dnsv_files.specs.declared.status.InputFile.TheVariants.{Anchors, Answers, Capture, Keys, Macs, Questions, Statements}
 use Rattle.dnsv_files.specs.Files.{Files, AreToldBeside, IsToldBy, given_failures, octets_or_none}
-use Rattle.dnsv_chain.specs.declared.anchor.Anchor.{Anchor}
+use Rattle.dnsv_anchors.specs.declared.anchor.Anchor.{Anchor}
 use Rattle.dnsv_files.specs.Files.Anchors.{HasAnchors, IsFaultOfAnchors}
 use Rattle.dnsv_work.specs.Faults.{HasEvidence, IsFirstFaultOfFiles}
 use Rattle.dnsv_canonical.specs.Rrsets.{ReceivedRrset}

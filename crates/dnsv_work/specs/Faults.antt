@@ -11,7 +11,7 @@ use Rattle.dnsv_message.specs.Message.{Contents}
 use Rattle.dnsv_canonical.specs.Evidence.{evidence_of}
 use Rattle.dnsv_canonical.specs.Rrsets.{IsQuestion, ReceivedRrset}
 use Rattle.dnsv_answers.specs.declared.heading.Moments.{Moments}
-use Rattle.dnsv_chain.specs.declared.anchor.Anchor.{Anchor}
+use Rattle.dnsv_anchors.specs.declared.anchor.Anchor.{Anchor}
 use Rattle.dnsv_files.specs.declared.opening.Opening.{Opening}
 use Rattle.dnsv_files.specs.declared.opening.Opening.TheVariants.{Plain}
 use Rattle.dnsv_commands.specs.declared.request.Listing.{Listing}

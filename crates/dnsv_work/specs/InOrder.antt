@@ -6,7 +6,7 @@ use Rattle.dnsv_canonical.specs.Rrsets.{ReceivedRrset}
 use Rattle.dnsv_verifier.specs.declared.answer.Answer.{Answer}
 use Rattle.dnsv_verifier.specs.declared.entry.Entry.{Entry}
 use Rattle.dnsv_answers.specs.declared.heading.Moments.{Moments}
-use Rattle.dnsv_chain.specs.declared.anchor.Anchor.{Anchor}
+use Rattle.dnsv_anchors.specs.declared.anchor.Anchor.{Anchor}
 use Rattle.dnsv_chain.specs.Basis.{Basis, basis_of}
 use Rattle.dnsv_files.specs.Files.Anchors.{HasAnchors}
 use Rattle.dnsv_files.specs.declared.opening.Opening.{Opening}

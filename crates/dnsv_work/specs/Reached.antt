@@ -1,7 +1,7 @@
 -- What a failed read comes behind, as far as requests have it in common.
 use Rattle.std.specs.Prelude.{⊤, List}
 use Rattle.dnsv_answers.specs.declared.heading.Moments.{Moments}
-use Rattle.dnsv_chain.specs.declared.anchor.Anchor.{Anchor}
+use Rattle.dnsv_anchors.specs.declared.anchor.Anchor.{Anchor}
 use Rattle.dnsv_files.specs.declared.opening.Opening.{Opening}
 use Rattle.dnsv_files.specs.declared.opening.Opening.TheVariants.{Plain}
 use Rattle.dnsv_commands.specs.declared.request.Listing.{Listing}

@@ -9,7 +9,8 @@ use Rattle.dnsv_records.specs.Algorithm.{is_supported}
 use Rattle.dnsv_records.specs.Dnskey.KeyTag.{key_tag_of}
 use Rattle.dnsv_records.specs.declared.ds.Ds.{Ds}
 use Rattle.dnsv_canonical.specs.Rrsets.{ReceivedRrset}
-use Rattle.dnsv_chain.specs.Ds.{HasDigestOf, IsIgnored, IsSupported}
+use Rattle.dnsv_anchors.specs.Ds.{IsIgnored, IsSupported}
+use Rattle.dnsv_chain.specs.Ds.{HasDigestOf}
 use Rattle.dnsv_verifier.specs.Admissible.{DnskeyRecord}
 use Rattle.dnsv_lines.specs.declared.line.derivation.KeyName.{KeyName}
 use Rattle.dnsv_lines.specs.declared.line.fault.zone.EntryNumber.{EntryNumber}

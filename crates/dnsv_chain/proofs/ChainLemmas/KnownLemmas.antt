@@ -13,7 +13,7 @@ use Rattle.dnsv_names.specs.Name.{Labels, SameName, same_name}
 use Rattle.dnsv_names.specs.Order.ByWire.{search_cmp}
 use Rattle.dnsv_names.specs.Order.ByWireLaws.{search_ties}
 use Rattle.dnsv_names.specs.Order.OrderLaws.{same_name_Decides}
-use Rattle.dnsv_chain.specs.declared.by_owner.key.OwnerKey.{OwnerKey}
+use Rattle.dnsv_anchors.specs.declared.by_owner.key.OwnerKey.{OwnerKey}
 use Rattle.dnsv_records.specs.declared.dnskey.Dnskey.{Dnskey}
 use Rattle.dnsv_canonical.specs.Canonical.{rdata_cmp}
 use Rattle.dnsv_verifier.specs.Admissible.{DnskeyRecord}

@@ -8,7 +8,7 @@ use Rattle.dnsv_zones.specs.forms.Forms.{IsAbove, UnsignedCutForm}
 use Rattle.dnsv_zones.specs.forms.Parts.{OptsOut}
 use Rattle.dnsv_zones.specs.forms.RecordWords.{words}
 use Rattle.dnsv_canonical.specs.Rrsets.{IsNumbered, ReceivedRrset}
-use Rattle.dnsv_chain.specs.Ds.{HasUsable}
+use Rattle.dnsv_anchors.specs.Ds.{HasUsable}
 use Rattle.dnsv_denial.specs.gathering.EvidenceWords.{Chain, evidence_said}
 use Rattle.dnsv_canonical.specs.declared.number.RecordNumber.{RecordNumber}
 

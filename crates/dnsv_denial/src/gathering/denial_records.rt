@@ -2,7 +2,7 @@
 ghost use Rattle.std.specs.Prelude.{◌↔◌, ℕ, Contains, IfOk, IsTrue, List};
 ghost use Rattle.dnsv_names.specs.Name.{Labels};
 ghost use Rattle.dnsv_canonical.specs.Rrsets.{ReceivedRrset};
-ghost use Rattle.dnsv_chain.specs.ByOwner.{values_at};
+ghost use Rattle.dnsv_anchors.specs.ByOwner.{values_at};
 ghost use Rattle.dnsv_chain.specs.Trust.{KeptTrust, SecuredIn};
 ghost use Rattle.dnsv_denial.specs.gathering.Evidence.{IsSecuredBy};
 ghost use Rattle.dnsv_denial.specs.gathering.Gathered.{AreListed, IsListing};

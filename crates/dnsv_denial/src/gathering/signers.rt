@@ -1,7 +1,7 @@
 //! Which RRsets of NSEC and NSEC3 records the zones signed, by their numbers.
 ghost use Rattle.std.specs.Prelude.{◌≡◌, ◌↔◌, ℕ, Contains, IfOk, IsTrue, OnOk};
 ghost use Rattle.dnsv_names.specs.Name.{Labels};
-ghost use Rattle.dnsv_chain.specs.ByOwner.{values_at};
+ghost use Rattle.dnsv_anchors.specs.ByOwner.{values_at};
 ghost use Rattle.dnsv_chain.specs.Trust.{SecuredIn};
 ghost use Rattle.dnsv_denial.specs.gathering.Evidence.{HasZoneSignature};
 ghost use Rattle.dnsv_denial.specs.gathering.Gathered.{AreListed, IsDenialType};

@@ -6,7 +6,7 @@ use Rattle.dnsv_records.specs.Ds.{IsDs}
 use Rattle.dnsv_records.specs.declared.ds.Ds.{Ds}
 use Rattle.dnsv_zones.specs.forms.Parts.{OptsOut, OptsOutNextCloser}
 use Rattle.dnsv_canonical.specs.Rrsets.{IsNumbered, ReceivedRrset}
-use Rattle.dnsv_chain.specs.Ds.{HasUsable}
+use Rattle.dnsv_anchors.specs.Ds.{HasUsable}
 use Rattle.dnsv_proof_forms.specs.forms.Denials.{IsDelegationAt}
 use Rattle.dnsv_denial.specs.gathering.EvidenceWords.{Chain, evidence_said}
 use Rattle.dnsv_lines.specs.declared.line.cut.Cut.{Cut}

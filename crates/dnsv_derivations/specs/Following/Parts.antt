@@ -9,7 +9,7 @@ use Rattle.dnsv_records.specs.declared.ds.Ds.{Ds}
 use Rattle.dnsv_zones.specs.forms.RecordWords.{RecordWords}
 use Rattle.dnsv_zones.specs.zones.Types.{Denies, IsUnsignedDelegation}
 use Rattle.dnsv_canonical.specs.Rrsets.{IsNumbered, ReceivedRrset}
-use Rattle.dnsv_chain.specs.Ds.{IsIgnored, IsSupported}
+use Rattle.dnsv_anchors.specs.Ds.{IsIgnored, IsSupported}
 use Rattle.dnsv_denial.specs.gathering.Evidence.{IsRecordAt}
 use Rattle.dnsv_denial.specs.gathering.EvidenceWords.{Chain, evidence_said}
 use Rattle.dnsv_denial.specs.gathering.EvidenceWords.Chain.{ByNsec, ByNsec3}

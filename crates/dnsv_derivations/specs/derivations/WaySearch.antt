@@ -10,8 +10,8 @@ use Rattle.dnsv_verifier.specs.Admissible.{DnskeyRecord}
 use Rattle.dnsv_chain.specs.Anchor.{IsAnchorMatch}
 use Rattle.dnsv_chain.specs.Ds.{IsMatch}
 use Rattle.dnsv_chain.specs.Trusted.{IsKeyOf, IsTrusted}
-use Rattle.dnsv_chain.specs.declared.anchor.Anchor.{Anchor}
-use Rattle.dnsv_chain.specs.declared.anchor.Anchor.TheVariants as anchor
+use Rattle.dnsv_anchors.specs.declared.anchor.Anchor.{Anchor}
+use Rattle.dnsv_anchors.specs.declared.anchor.Anchor.TheVariants as anchor
 use Rattle.dnsv_proof_forms.specs.records.Numbers.{number_cmp}
 use Rattle.dnsv_derivations.specs.Explained.{IsTodo, Setting}
 use Rattle.dnsv_derivations.specs.Following.{IsGoodUnder, IsNamed}

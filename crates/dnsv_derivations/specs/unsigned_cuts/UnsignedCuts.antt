@@ -5,7 +5,7 @@ use Rattle.dnsv_names.specs.Name.{Labels, SameName}
 use Rattle.dnsv_records.specs.Ds.{IsDs}
 use Rattle.dnsv_records.specs.declared.ds.Ds.{Ds}
 use Rattle.dnsv_canonical.specs.Rrsets.{IsNumbered, ReceivedRrset}
-use Rattle.dnsv_chain.specs.Ds.{HasUsable}
+use Rattle.dnsv_anchors.specs.Ds.{HasUsable}
 use Rattle.dnsv_denial.specs.gathering.Evidence.{IsRecordAt}
 use Rattle.dnsv_derivations.specs.Explained.{Setting}
 use Rattle.dnsv_derivations.specs.derivations.OwnDerivations.{IsSignatureTold}

@@ -2,7 +2,7 @@
 ghost use Rattle.std.specs.Prelude.{◌≡◌, ◌↔◌, ◌+◌, ℕ, IfOk, IsTrue, MatchOption, None, OnOk};
 ghost use Rattle.dnsv_names.specs.Name.{Labels};
 ghost use Rattle.dnsv_canonical.specs.Rrsets.{IsNumbered};
-ghost use Rattle.dnsv_chain.specs.Ds.{IsUsable};
+ghost use Rattle.dnsv_anchors.specs.Ds.{IsUsable};
 ghost use Rattle.dnsv_derivations.specs.Explained.{setting_in};
 ghost use Rattle.dnsv_derivations.specs.Following.Parts.{IsWhy};
 ghost use Rattle.dnsv_derivations.specs.Saying.{Adds};

@@ -1,9 +1,9 @@
 -- A text of trust anchors is one list of them, or has one fault.
 use Rattle.std.proofs.Common.{◌≡◌, ◌⊎◌, inl, inr, refl, subst, sym, ℕ, List, Result, Err}
-use Rattle.dnsv_chain.specs.AnchorFile.{AreAnchorsOf, BeginsWithAnchor, IsFaultOf}
-use Rattle.dnsv_chain.specs.declared.anchor.Anchor.{Anchor}
-use Rattle.dnsv_chain.specs.declared.anchors.AnchorsError.{AnchorsError}
-use Rattle.dnsv_chain.specs.declared.anchors.AnchorsError.TheVariants as anchors
+use Rattle.dnsv_anchors.specs.AnchorFile.{AreAnchorsOf, BeginsWithAnchor, IsFaultOf}
+use Rattle.dnsv_anchors.specs.declared.anchor.Anchor.{Anchor}
+use Rattle.dnsv_anchors.specs.declared.anchors.AnchorsError.{AnchorsError}
+use Rattle.dnsv_anchors.specs.declared.anchors.AnchorsError.TheVariants as anchors
 use Rattle.dnsv_files.specs.declared.status.Fault.{Fault}
 use Rattle.dnsv_files.specs.declared.status.Fault.TheVariants as fault
 use Rattle.dnsv_files.specs.declared.status.InputFile.TheVariants.{Anchors}

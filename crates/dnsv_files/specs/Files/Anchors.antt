@@ -1,10 +1,10 @@
 -- Files of trust anchors: what they say, and what they are refused for.
 use Rattle.std.specs.Prelude.{◌≡◌, ◌≤◌, ℕ, List, length}
 use Rattle.dnsv_message.specs.Streams.Frames.{file_limit}
-use Rattle.dnsv_chain.specs.AnchorFile.{AreAnchorsOf, IsFaultOf}
-use Rattle.dnsv_chain.specs.declared.anchor.Anchor.{Anchor}
-use Rattle.dnsv_chain.specs.declared.anchors.AnchorsError.{AnchorsError}
-use Rattle.dnsv_chain.specs.declared.anchors.AnchorsError.TheVariants as anchors
+use Rattle.dnsv_anchors.specs.AnchorFile.{AreAnchorsOf, IsFaultOf}
+use Rattle.dnsv_anchors.specs.declared.anchor.Anchor.{Anchor}
+use Rattle.dnsv_anchors.specs.declared.anchors.AnchorsError.{AnchorsError}
+use Rattle.dnsv_anchors.specs.declared.anchors.AnchorsError.TheVariants as anchors
 use Rattle.dnsv_files.specs.declared.status.Fault.{Fault}
 use Rattle.dnsv_files.specs.declared.status.InputFile.TheVariants.{Anchors}
 use Rattle.dnsv_files.specs.declared.status.Place.{Place}

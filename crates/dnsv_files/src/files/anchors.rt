@@ -1,7 +1,7 @@
 //! Files of trust anchors.
 ghost use Rattle.std.specs.Prelude.{◌≡◌, ◌≤◌, Err, IfErr, IfOk, List, None, Option, ℕ, length};
-ghost use Rattle.dnsv_chain.specs.AnchorFile.{BeginsWithAnchor};
-ghost use Rattle.dnsv_chain.specs.AnchorsError.{anchors_error_code};
+ghost use Rattle.dnsv_anchors.specs.AnchorFile.{BeginsWithAnchor};
+ghost use Rattle.dnsv_anchors.specs.AnchorsError.{anchors_error_code};
 ghost use Rattle.dnsv_message.specs.Streams.Frames.{file_limit};
 ghost use Rattle.dnsv_files.specs.Files.Anchors.{AreAnchorsRefused, HasAnchors};
 ghost use Rattle.dnsv_files.specs.Files.Faults.{IsAbout, IsTextFault, OfFailedRead, OfOctets, TellsFailedReads};

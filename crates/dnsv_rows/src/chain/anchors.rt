@@ -2,7 +2,7 @@
 
 use crate::evidence::dnskey_of;
 use bumpalo::Bump;
-use dnsv_chain::{Anchor, Anchors, AnchorsError};
+use dnsv_chain::{Anchor, Anchors, AnchorsError, has_anchor_match};
 use dnsv_names::Name;
 use dnsv_row_text::{Row, RowError, list_text, octets_text};
 use dnsv_verifier::KeyRecord;
@@ -74,7 +74,7 @@ fn anchors_match(row: &Row) -> Result<String, RowError> {
     let anchors = trust_anchors(row, 0, &bump)?;
     let (owner, rdata) = (row.name(1)?, row.octets(2)?);
     let dnskey = dnskey_of(rdata.as_slice())?;
-    let is_matched = anchors.is_match(&KeyRecord::new(&owner, rdata.as_slice(), &dnskey));
+    let is_matched = has_anchor_match(&anchors, &KeyRecord::new(&owner, rdata.as_slice(), &dnskey));
     Ok(format!(in row.alloc(); "{is_matched}")?)
 }
 

@@ -6,8 +6,9 @@ ghost use Rattle.dnsv_verifier.specs.declared.entry.Entry.{Entry};
 ghost use Rattle.dnsv_statements.specs.StatementsReading.{IsStatement, word_of};
 
 use crate::packed_entry::PackedEntry;
+use dnsv_anchors::digits_of;
 use dnsv_names::{Line, decimal_u8};
-use dnsv_verifier::{Answer, digits_of};
+use dnsv_verifier::Answer;
 use std::alloc::{AllocError, Global};
 
 type FiveFields<'a> = (&'a [u8], &'a [u8], &'a [u8], &'a [u8], &'a [u8]);

@@ -9,7 +9,7 @@ use Rattle.dnsv_verifier.specs.declared.answer.Answer.TheVariants.{Valid, Invali
 use Rattle.dnsv_verifier.specs.declared.entry.Entry.{Entry}
 use Rattle.dnsv_chain.proofs.TrustedLemmas.{numbered_left}
 use Rattle.dnsv_chain.specs.Trusted.{IsSecured}
-use Rattle.dnsv_chain.specs.declared.anchor.Anchor.{Anchor}
+use Rattle.dnsv_anchors.specs.declared.anchor.Anchor.{Anchor}
 use Rattle.dnsv_denial.specs.proving.FirstProof.{CanProveNoData, CanProveNoName}
 use Rattle.dnsv_verdict.proofs.CaseLemmas.{unsigned_stands}
 use Rattle.dnsv_denial.proofs.lemmas.more.EvidenceLemmas.{no_name_can_to, no_data_can_to}

@@ -13,8 +13,8 @@ use Rattle.dnsv_canonical.specs.Rrsets.{ReceivedRrset}
 use Rattle.dnsv_canonical.specs.declared.canonical_order.ReadRecord.{ReadRecord}
 use Rattle.dnsv_canonical.proofs.ListLemmas.{each_at}
 use Rattle.dnsv_canonical.proofs.OrderLemmas.{each_of}
-use Rattle.dnsv_chain.specs.Ds.{GoesBefore, IsIgnored}
-use Rattle.dnsv_chain.specs.declared.anchor.Anchor.{Anchor}
+use Rattle.dnsv_anchors.specs.Ds.{GoesBefore, IsIgnored}
+use Rattle.dnsv_anchors.specs.declared.anchor.Anchor.{Anchor}
 use Rattle.dnsv_digest.specs.DigestAlgorithm.{digest_algorithm_of}
 use Rattle.dnsv_digest.specs.declared.digest_algorithm.DigestAlgorithm.TheVariants.{Sha1, Sha256, Sha384}
 use Rattle.dnsv_chain.specs.Basis.{Basis}

@@ -2,7 +2,8 @@ use Rattle.std.proofs.Common.{◌≡◌, ◌<◌, ◌==◌, ℕ, Bool, true, fal
 use Rattle.std.proofs.lemmas.Bool.Decides.{nat_tests}
 use Rattle.dnsv_names.specs.Name.{Labels, same_name}
 use Rattle.dnsv_verifier.specs.Table.{table_answer}
-use Rattle.dnsv_chain.specs.ByOwner.{rrsets_at, values_at}
+use Rattle.dnsv_anchors.specs.ByOwner.{values_at}
+use Rattle.dnsv_chain.specs.ByOwner.{rrsets_at}
 use Rattle.dnsv_chain.proofs.ChainLemmas.{delegation_added, delegation_skipped}
 use Rattle.dnsv_chain.proofs.chain.add_delegation.Goals as goal
 use Rattle.dnsv_chain.proofs.chain.add_delegation.Goals.{then-not-is_empty+in_ok-add, else-not-is_empty}

@@ -2,13 +2,13 @@ use Rattle.std.proofs.Common.{◌≡◌, ◌++◌, ◌∷◌, [], List, ℕ, if�
 use Rattle.std.proofs.lemmas.List.Elements.{Contains-append_left}
 use Rattle.std.specs.List.{Contains}
 use Rattle.dnsv_names.specs.Name.{Labels, same_name}
-use Rattle.dnsv_chain.specs.declared.by_owner.key.OwnerKey.{OwnerKey}
+use Rattle.dnsv_anchors.specs.declared.by_owner.key.OwnerKey.{OwnerKey}
 use Rattle.dnsv_records.specs.declared.dnskey.Dnskey.{Dnskey}
 use Rattle.dnsv_verifier.proofs.KeyLemmas.{reads_as}
 use Rattle.dnsv_verifier.specs.Admissible.{DnskeyRecord}
-use Rattle.dnsv_chain.specs.ByOwner.{values_at}
+use Rattle.dnsv_anchors.specs.ByOwner.{values_at}
 use Rattle.dnsv_chain.specs.Chain.{HasRdata}
-use Rattle.dnsv_chain.proofs.ByOwnerLemmas.{values_same}
+use Rattle.dnsv_anchors.proofs.ByOwnerLemmas.{values_same}
 use Rattle.dnsv_chain.proofs.ChainLemmas.{place_within, all_places, key_stands, key_added, key_there, all_added}
 use Rattle.dnsv_chain.proofs.ChainLemmas.KnownLemmas.{found_known, added_key, known_more, known_unchanged}
 use Rattle.dnsv_chain.proofs.chain.add_keys.Goals as goal

@@ -1,4 +1,4 @@
-use Rattle.dnsv_chain.specs.ByOwner.{values_at}
+use Rattle.dnsv_anchors.specs.ByOwner.{values_at}
 use Rattle.dnsv_chain.specs.Chain.{AddsKeysTo, AreKnown}
 use Rattle.dnsv_chain.proofs.chain.add_keys.Given as goal
 

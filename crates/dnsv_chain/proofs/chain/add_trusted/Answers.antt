@@ -1,7 +1,8 @@
 use Rattle.std.proofs.Common.{◌≡◌, Bor, List, map, ap, ◌∙◌, subst}
 use Rattle.dnsv_canonical.specs.Rrsets.{ReceivedRrset}
 use Rattle.dnsv_verifier.specs.Table.{table_answer}
-use Rattle.dnsv_chain.specs.ByOwner.{rrsets_at, values_at}
+use Rattle.dnsv_anchors.specs.ByOwner.{values_at}
+use Rattle.dnsv_chain.specs.ByOwner.{rrsets_at}
 use Rattle.dnsv_chain.specs.Chain.{IsSignedByVouched}
 use Rattle.dnsv_chain.proofs.ChainLemmas.{trusted_added}
 use Rattle.dnsv_chain.proofs.chain.add_trusted.Goals as goal

@@ -1,5 +1,5 @@
 use Rattle.dnsv_verifier.specs.Table.{table_answer}
-use Rattle.dnsv_chain.specs.ByOwner.{values_at}
+use Rattle.dnsv_anchors.specs.ByOwner.{values_at}
 use Rattle.dnsv_chain.proofs.KeptLemmas.{is_trust_of}
 use Rattle.dnsv_chain.proofs.chain.trusted.Goals as goal
 

@@ -5,11 +5,12 @@ use Rattle.std.specs.List.{Contains}
 use Rattle.dnsv_canonical.specs.Rrsets.{ReceivedRrset}
 use Rattle.dnsv_names.specs.Name.{Labels, SameName}
 use Rattle.dnsv_verifier.specs.Table.{TableContents, table_answer}
-use Rattle.dnsv_chain.specs.ByOwner.{rrsets_at, values_at}
+use Rattle.dnsv_anchors.specs.ByOwner.{values_at}
+use Rattle.dnsv_chain.specs.ByOwner.{rrsets_at}
 use Rattle.dnsv_chain.specs.Chain.{AddsDelegation, AddsTrusted}
 use Rattle.dnsv_chain.specs.Order.{AreSteps, IsInChain, IsStepOf}
 use Rattle.dnsv_chain.specs.declared.order.Step.{Step}
-use Rattle.dnsv_chain.proofs.ByOwnerLemmas.{values_same}
+use Rattle.dnsv_anchors.proofs.ByOwnerLemmas.{values_same}
 use Rattle.dnsv_chain.proofs.WalkLemmas.{walked_delegation, walked_trusted, all_walked}
 use Rattle.dnsv_chain.proofs.chain.trusted_keys.Goals as goal
 use Rattle.dnsv_chain.proofs.chain.trusted_keys.Goals.{in-DS+in_ok-add_delegation-in-DS, in_default+in_ok-add_trusted-in_default}

@@ -1,6 +1,7 @@
 use Rattle.std.proofs.Common.{take}
 use Rattle.dnsv_verifier.specs.Table.{table_answer}
-use Rattle.dnsv_chain.specs.ByOwner.{rrsets_at, values_at}
+use Rattle.dnsv_anchors.specs.ByOwner.{values_at}
+use Rattle.dnsv_chain.specs.ByOwner.{rrsets_at}
 use Rattle.dnsv_chain.specs.Chain.{AreKnown, IsWalked}
 use Rattle.dnsv_chain.proofs.chain.trusted_keys.Given as goal
 

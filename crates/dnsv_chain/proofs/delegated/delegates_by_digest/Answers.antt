@@ -3,7 +3,7 @@ use Rattle.std.proofs.lemmas.Bool.{eqb-true, not-false}
 use Rattle.dnsv_canonical.specs.Rdata.{rdata_of_type}
 use Rattle.dnsv_names.specs.Name.{Labels, SameName}
 use Rattle.dnsv_records.specs.declared.ds.Ds.{Ds}
-use Rattle.dnsv_chain.specs.Ds.DsReading.{Leads}
+use Rattle.dnsv_anchors.specs.Ds.DsReading.{Leads}
 use Rattle.dnsv_chain.proofs.ChainLemmas.{same_ds}
 use Rattle.dnsv_chain.proofs.DelegatedLemmas.{digest_leads, ds_has_digest}
 use Rattle.dnsv_chain.proofs.delegated.delegates_by_digest.Goals as goal

@@ -1,7 +1,7 @@
 use Rattle.std.proofs.Common.{rules}
 use Rattle.std.specs.Prelude.{IsTrue}
 use Rattle.dnsv_records.specs.Algorithm.{is_supported}
-use Rattle.dnsv_chain.proofs.UsableLemmas.{none_matches, usable_matches}
+use Rattle.dnsv_chain.proofs.MatchingLemmas.{none_matches, usable_matches}
 use Rattle.dnsv_chain.proofs.matching.has_usable_match.Goals as goal
 
 pub returns-in-None : goal.returns-in-None

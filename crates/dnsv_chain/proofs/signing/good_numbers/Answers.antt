@@ -2,7 +2,7 @@ use Rattle.std.proofs.Common.{◌+◌, List, ℕ, sym, ap, ◌∙◌, subst}
 use Rattle.std.proofs.lemmas.Bool.{false≢true}
 use Rattle.dnsv_verifier.specs.Admissible.{DnskeyRecord}
 use Rattle.dnsv_verifier.specs.Table.{table_answer}
-use Rattle.dnsv_chain.specs.ByOwner.{values_at}
+use Rattle.dnsv_anchors.specs.ByOwner.{values_at}
 use Rattle.dnsv_chain.specs.Signing.{AreGoodNumbersTo, IsGoodUnderSome}
 use Rattle.dnsv_chain.proofs.SigningLemmas.{number_more, number_skip, all_numbers}
 use Rattle.dnsv_chain.proofs.SigningLemmas.NumberLemmas.{signature_here}

@@ -1,5 +1,5 @@
 use Rattle.dnsv_verifier.specs.Table.{table_answer}
-use Rattle.dnsv_chain.specs.ByOwner.{values_at}
+use Rattle.dnsv_anchors.specs.ByOwner.{values_at}
 use Rattle.dnsv_chain.specs.Signing.{AreGoodNumbersTo}
 use Rattle.dnsv_chain.proofs.signing.good_numbers.Given as goal
 

@@ -3,7 +3,7 @@ use Rattle.std.proofs.lemmas.List.{map-append}
 use Rattle.dnsv_canonical.specs.Rrsets.{IsNumbered, ReceivedRrset}
 use Rattle.dnsv_verifier.proofs.PlaceLemmas.{numbered_here}
 use Rattle.dnsv_verifier.specs.Table.{table_answer}
-use Rattle.dnsv_chain.specs.ByOwner.{values_at}
+use Rattle.dnsv_anchors.specs.ByOwner.{values_at}
 use Rattle.dnsv_chain.specs.Kept.{AreSigned}
 use Rattle.dnsv_chain.specs.Signing.{AreGoodNumbers}
 use Rattle.dnsv_chain.proofs.ZipLemmas.{zip_more}

@@ -1,6 +1,6 @@
 use Rattle.std.proofs.Common.{map, take}
 use Rattle.dnsv_verifier.specs.Table.{table_answer}
-use Rattle.dnsv_chain.specs.ByOwner.{values_at}
+use Rattle.dnsv_anchors.specs.ByOwner.{values_at}
 use Rattle.dnsv_chain.specs.Kept.{AreSigned}
 use Rattle.dnsv_chain.proofs.trust.good_numbers_of_each.Given as goal
 

@@ -18,7 +18,7 @@ use Rattle.dnsv_names.specs.Order.OrderLaws.{same_name_Decides}
 use Rattle.dnsv_records.specs.OctetLaws.{recursion-append}
 use Rattle.dnsv_canonical.specs.Rrsets.{ReceivedRrset}
 use Rattle.dnsv_canonical.proofs.OrderLemmas.{each_kept}
-use Rattle.dnsv_chain.specs.declared.by_owner.key.OwnerKey.{OwnerKey}
+use Rattle.dnsv_anchors.specs.declared.by_owner.key.OwnerKey.{OwnerKey}
 use Rattle.dnsv_denial.specs.gathering.ByZone.{AreDenialRecords, AreGatheredRecords, AreSecuredRecords, IsZoneAmong}
 use Rattle.dnsv_denial.specs.gathering.Evidence.{IsNsecAt, IsNsec3At, IsSecuredBy}
 use Rattle.dnsv_denial.specs.gathering.Gathered.{AreNsecsOf, AreNsec3sOf, IsDenialType}

@@ -15,8 +15,8 @@ use Rattle.dnsv_verifier.specs.Admissible.{DnskeyRecord}
 use Rattle.dnsv_chain.specs.Anchor.{IsAnchorMatch}
 use Rattle.dnsv_chain.specs.Trusted.{IsSecured, IsSignedUnder, IsTrusted, SignsItsSet}
 use Rattle.dnsv_chain.specs.Trusted.IsTrusted.{anchored, delegated}
-use Rattle.dnsv_chain.specs.declared.anchor.Anchor.{Anchor}
-use Rattle.dnsv_chain.specs.declared.anchor.Anchor.TheVariants as anchor
+use Rattle.dnsv_anchors.specs.declared.anchor.Anchor.{Anchor}
+use Rattle.dnsv_anchors.specs.declared.anchor.Anchor.TheVariants as anchor
 use Rattle.dnsv_records.specs.declared.number.DigestType.{DigestType}
 use Rattle.dnsv_canonical.specs.declared.number.RecordNumber.{RecordNumber}
 use Rattle.dnsv_derivations.specs.Explained.{Setting}

@@ -19,8 +19,8 @@ use Rattle.dnsv_verifier.proofs.EntryLemmas.{one_entry}
 use Rattle.dnsv_verifier.specs.Admissible.{DnskeyRecord, IsEntryOf}
 use Rattle.dnsv_verifier.specs.declared.entry.Entry.{Entry}
 use Rattle.dnsv_chain.specs.Trusted.{IsKeyOf}
-use Rattle.dnsv_chain.specs.declared.anchor.Anchor.{Anchor}
-use Rattle.dnsv_chain.specs.declared.anchor.Anchor.TheVariants as anchor
+use Rattle.dnsv_anchors.specs.declared.anchor.Anchor.{Anchor}
+use Rattle.dnsv_anchors.specs.declared.anchor.Anchor.TheVariants as anchor
 use Rattle.dnsv_denial.proofs.lemmas.gathering.EvidenceLemmas.{one_record as record_numbered}
 use Rattle.dnsv_denial.specs.gathering.Evidence.{IsRecordAt}
 use Rattle.dnsv_proof_forms.specs.records.Numbers.{number_cmp}

@@ -39,7 +39,7 @@ use Rattle.dnsv_records.specs.Algorithm.{is_supported}
 use Rattle.dnsv_records.specs.declared.ds.Ds.{Ds}
 use Rattle.dnsv_digest.specs.DigestAlgorithm.{IsStronger, digest_algorithm_of, strength_of}
 use Rattle.dnsv_digest.specs.declared.digest_algorithm.DigestAlgorithm.{DigestAlgorithm}
-use Rattle.dnsv_chain.specs.Ds.{GoesBefore, HasUsable, IsIgnored, IsSupported, IsUsable}
+use Rattle.dnsv_anchors.specs.Ds.{GoesBefore, HasUsable, IsIgnored, IsSupported, IsUsable}
 
 -- ---- whether a record is ignored is decided
 

@@ -40,7 +40,7 @@ fn is_anchor_match(anchor: &Anchor<'_>, key: &DigestedKey<'_>) -> bool
 {
     match anchor {
         Anchor::Ds { owner, ds } => is_ds_match(owner, ds, key),
-        Anchor::Key { .. } => anchor.is_match(key.key()),
+        Anchor::Key { .. } => dnsv_chain::is_anchor_match(anchor, key.key()),
     }
 }
 

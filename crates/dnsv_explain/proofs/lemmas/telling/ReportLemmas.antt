@@ -1,7 +1,7 @@
 -- What an explanation is of.
 use Rattle.std.proofs.Common.{ℕ, List, [], subst}
 use Rattle.dnsv_canonical.specs.Rrsets.{ReceivedRrset}
-use Rattle.dnsv_chain.specs.declared.anchor.Anchor.{Anchor}
+use Rattle.dnsv_anchors.specs.declared.anchor.Anchor.{Anchor}
 use Rattle.dnsv_chain.specs.Basis.{IsCaseOf, Basis, CaseContents}
 use Rattle.dnsv_verdict.specs.declared.report.Report.{Report}
 use Rattle.dnsv_holding.specs.Explained.{explained_by}

@@ -9,7 +9,7 @@ use Rattle.dnsv_verifier.specs.declared.answer.Answer.{Answer}
 use Rattle.dnsv_verifier.specs.declared.answer.Answer.TheVariants.{Valid, Invalid, Unknown}
 use Rattle.dnsv_verifier.specs.declared.entry.Entry.{Entry}
 use Rattle.dnsv_chain.specs.Trusted.{IsKeyOf, IsSecured}
-use Rattle.dnsv_chain.specs.declared.anchor.Anchor.{Anchor}
+use Rattle.dnsv_anchors.specs.declared.anchor.Anchor.{Anchor}
 use Rattle.dnsv_verdict.specs.Verdict.{AreUnknown}
 use Rattle.dnsv_chain.specs.Basis.{basis_of}
 use Rattle.dnsv_derivations.specs.Explained.{Explained, IsTodo, Setting, setting_in}

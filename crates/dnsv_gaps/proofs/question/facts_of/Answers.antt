@@ -1,5 +1,5 @@
 use Rattle.std.proofs.Common.{List, ◌↔◌, IsTrue, subst}
-use Rattle.dnsv_chain.specs.declared.anchor.Anchor.{Anchor}
+use Rattle.dnsv_anchors.specs.declared.anchor.Anchor.{Anchor}
 use Rattle.dnsv_chain.specs.Basis.{HasAnchor}
 use Rattle.dnsv_gaps.proofs.question.facts_of.Goals as goal
 

@@ -5,7 +5,7 @@ use Rattle.std.specs.Prelude.{[]}
 use Rattle.dnsv_canonical.specs.Rrsets.{ReceivedRrset}
 use Rattle.dnsv_verifier.specs.Table.{TableContents, table_answer}
 use Rattle.dnsv_chain.specs.Trust.{IsTrustOf, KeptTrust}
-use Rattle.dnsv_chain.specs.declared.anchor.Anchor.{Anchor}
+use Rattle.dnsv_anchors.specs.declared.anchor.Anchor.{Anchor}
 use Rattle.dnsv_derivations.specs.Explained.{Explained}
 use Rattle.dnsv_holding.proofs.at.evidence_of.Goals as goal
 

@@ -20,15 +20,15 @@ loop-place-preserved c =
     c.anchors-anchor-items.ensures c.loop-place-test.true c.anchor-item.is in
     none_next (IsMatchedByAnchor setting key) c.loop-place.place
     (anchor_never setting key c.loop-place.place c.anchor-item.result numbered
-    (λ matches. false≢true (sym c.if-is_match.false ∙ c.is_match.ensures.1 matches)))
+    (λ matches. false≢true (sym c.if-is_anchor_match.false ∙ c.is_anchor_match.ensures.1 matches)))
     c.loop-place.invariant
 
-pub returns-then-is_match : goal.returns-then-is_match
-returns-then-is_match c =
+pub returns-then-is_anchor_match : goal.returns-then-is_anchor_match
+returns-then-is_anchor_match c =
     let numbered = numbered_at c.args.evidence.now.anchors c.anchors-anchor-items.result.now c.loop-place.place c.anchor-item.result
     c.anchors-anchor-items.ensures c.loop-place-test.true c.anchor-item.is in
     found (IsMatchedByAnchor (setting_in c.args.evidence.now) c.args.key.now) c.loop-place.place
-    (c.anchor-item.result, numbered, c.is_match.ensures.0 c.if-is_match.true) c.loop-place.invariant
+    (c.anchor-item.result, numbered, c.is_anchor_match.ensures.0 c.if-is_anchor_match.true) c.loop-place.invariant
 
 pub returns : goal.returns
 returns c =

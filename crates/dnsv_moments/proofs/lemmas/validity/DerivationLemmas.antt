@@ -8,7 +8,7 @@ use Rattle.dnsv_verifier.specs.Admissible.{DnskeyRecord}
 use Rattle.dnsv_verifier.specs.declared.answer.Answer.{Answer}
 use Rattle.dnsv_verifier.specs.declared.entry.Entry.{Entry}
 use Rattle.dnsv_chain.specs.Trust.{KeptTrust}
-use Rattle.dnsv_chain.specs.declared.anchor.Anchor.{Anchor}
+use Rattle.dnsv_anchors.specs.declared.anchor.Anchor.{Anchor}
 use Rattle.dnsv_derivations.proofs.lemmas.denials.PartLemmas.{secured_too}
 use Rattle.dnsv_derivations.proofs.lemmas.derivations.DerivationLemmas.{matched_then}
 use Rattle.dnsv_derivations.specs.Explained.{Setting}

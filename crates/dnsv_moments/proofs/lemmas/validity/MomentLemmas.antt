@@ -9,7 +9,7 @@ use Rattle.dnsv_verifier.specs.Admissible.{DnskeyRecord, IsAdmissible, IsAsked, 
 use Rattle.dnsv_verifier.specs.declared.answer.Answer.{Answer}
 use Rattle.dnsv_verifier.specs.declared.entry.Entry.{Entry}
 use Rattle.dnsv_chain.specs.Trusted.{IsSecured, IsSignedUnder, IsTrusted, SignsItsSet, anchored, delegated}
-use Rattle.dnsv_chain.specs.declared.anchor.Anchor.{Anchor}
+use Rattle.dnsv_anchors.specs.declared.anchor.Anchor.{Anchor}
 use Rattle.dnsv_chain.specs.Basis.{Basis}
 use Rattle.dnsv_verdict.proofs.AlikeLemmas.{AreAlike, hoped}
 use Rattle.dnsv_timeline.specs.Timeline.{AreSameValid}

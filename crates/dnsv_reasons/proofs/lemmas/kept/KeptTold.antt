@@ -7,8 +7,8 @@ use Rattle.dnsv_names.specs.Name.{Labels, IsAtOrBelow, rightmost}
 use Rattle.dnsv_names.specs.Tree.{wildcard_of}
 use Rattle.dnsv_canonical.specs.declared.number.RecordNumber.{RecordNumber}
 use Rattle.dnsv_canonical.proofs.OrderLemmas.{zip_at}
-use Rattle.dnsv_chain.specs.Anchor.{anchor_owner}
-use Rattle.dnsv_chain.specs.declared.anchor.Anchor.{Anchor}
+use Rattle.dnsv_anchors.specs.Anchor.{anchor_owner}
+use Rattle.dnsv_anchors.specs.declared.anchor.Anchor.{Anchor}
 use Rattle.dnsv_zone_faults.specs.Zones.{AreZoneFacts, IsAnchored}
 use Rattle.dnsv_gaps.specs.Asking.{Asking}
 use Rattle.dnsv_gaps.specs.Cases.{AreRecordsAt, AreWildcardFacts, IsHeldAt, IsSourceCase, why_held}

@@ -11,8 +11,8 @@ use Rattle.dnsv_records.specs.Dnskey.KeyTag.{key_tag_of}
 use Rattle.dnsv_records.specs.Ds.{IsDs}
 use Rattle.dnsv_records.specs.declared.ds.Ds.{Ds}
 use Rattle.dnsv_canonical.specs.Rrsets.{ReceivedRrset}
-use Rattle.dnsv_chain.specs.Anchor.{anchor_owner}
-use Rattle.dnsv_chain.specs.declared.anchor.Anchor.{Anchor}
+use Rattle.dnsv_anchors.specs.Anchor.{anchor_owner}
+use Rattle.dnsv_anchors.specs.declared.anchor.Anchor.{Anchor}
 use Rattle.dnsv_zone_faults.specs.Groups.{AreAnchorFactsFrom, AreRecordFacts, anchor_wanted}
 use Rattle.dnsv_zone_keys.specs.Keys.{IsKeyPlaced}
 use Rattle.dnsv_zone_keys.specs.Vouchers.{AreVoucherFacts, HasNoKey, HasSuchKey, IsFirstOf, IsMatchOf, IsVoucherFault, IsWantedBy, HasTag, Wanted, voucher_faults, wanted_key}

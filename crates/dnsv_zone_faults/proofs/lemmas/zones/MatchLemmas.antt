@@ -13,10 +13,12 @@ use Rattle.dnsv_records.specs.declared.ds.Ds.{Ds}
 use Rattle.dnsv_records.proofs.OneRecord.{one_dnskey, one_ds}
 use Rattle.dnsv_canonical.specs.Rrsets.{ReceivedRrset}
 use Rattle.dnsv_canonical.proofs.OrderLemmas.{zip_from}
-use Rattle.dnsv_chain.specs.Anchor.{IsAnchorMatch, anchor_owner}
-use Rattle.dnsv_chain.specs.Ds.{HasDigestOf, IsIgnored, IsMatch, IsSupported, IsUsable}
-use Rattle.dnsv_chain.specs.declared.anchor.Anchor.{Anchor}
-use Rattle.dnsv_chain.specs.declared.anchor.Anchor.TheVariants as given
+use Rattle.dnsv_anchors.specs.Anchor.{anchor_owner}
+use Rattle.dnsv_chain.specs.Anchor.{IsAnchorMatch}
+use Rattle.dnsv_anchors.specs.Ds.{IsIgnored, IsSupported, IsUsable}
+use Rattle.dnsv_chain.specs.Ds.{HasDigestOf, IsMatch}
+use Rattle.dnsv_anchors.specs.declared.anchor.Anchor.{Anchor}
+use Rattle.dnsv_anchors.specs.declared.anchor.Anchor.TheVariants as given
 use Rattle.dnsv_digest.specs.DigestAlgorithm.{digest_algorithm_of}
 use Rattle.dnsv_digest.specs.declared.digest_algorithm.DigestAlgorithm.{DigestAlgorithm}
 use Rattle.dnsv_digest.specs.Digest.{ds_digest_of}

@@ -16,10 +16,12 @@ use Rattle.dnsv_records.proofs.OneRecord.{one_ds}
 use Rattle.dnsv_canonical.specs.Index.{numbers_at}
 use Rattle.dnsv_canonical.specs.Rrsets.{IsNumbered, ReceivedRrset}
 use Rattle.dnsv_canonical.proofs.OrderLemmas.{each_of, zip_at, zip_from}
-use Rattle.dnsv_chain.specs.Anchor.{HasAnchorMatch, anchor_owner}
-use Rattle.dnsv_chain.specs.Ds.{HasUsableMatch, IsUsable}
+use Rattle.dnsv_anchors.specs.Anchor.{anchor_owner}
+use Rattle.dnsv_chain.specs.Anchor.{HasAnchorMatch}
+use Rattle.dnsv_anchors.specs.Ds.{IsUsable}
+use Rattle.dnsv_chain.specs.Ds.{HasUsableMatch}
 use Rattle.dnsv_chain.specs.Trusted.{DelegatesTo, IsKeyOf, IsSecured, IsSignedUnder, IsTrusted}
-use Rattle.dnsv_chain.specs.declared.anchor.Anchor.{Anchor}
+use Rattle.dnsv_anchors.specs.declared.anchor.Anchor.{Anchor}
 use Rattle.dnsv_chain.proofs.ChainLemmas.{same_ds}
 use Rattle.dnsv_chain.specs.Basis.{Basis}
 use Rattle.dnsv_chain.proofs.NumberedLemmas.{numbers_are}

@@ -1,7 +1,7 @@
 //! What is so of the trust anchors of a zone.
 ghost use Rattle.std.specs.Prelude.{◌≡◌, ◌↔◌, IfOk, IsTrue, OnOk};
 ghost use Rattle.dnsv_names.specs.Name.{SameName};
-ghost use Rattle.dnsv_chain.specs.Anchor.{anchor_owner};
+ghost use Rattle.dnsv_anchors.specs.Anchor.{anchor_owner};
 ghost use Rattle.dnsv_chain.specs.Basis.{basis_by};
 ghost use Rattle.dnsv_zone_faults.specs.Groups.{AreAnchorFacts, anchor_wanted};
 ghost use Rattle.dnsv_zone_faults.specs.Groups.GroupSearch.{AddsAnchor};

@@ -1,6 +1,6 @@
 //! What is so of the DS RRsets of a zone.
 ghost use Rattle.std.specs.Prelude.{◌≡◌, ◌↔◌, IfOk, IsTrue, List, OnOk};
-ghost use Rattle.dnsv_chain.specs.Ds.{IsIgnored};
+ghost use Rattle.dnsv_anchors.specs.Ds.{IsIgnored};
 ghost use Rattle.dnsv_records.specs.declared.ds.Ds.{Ds};
 ghost use Rattle.dnsv_chain.specs.Basis.{basis_by};
 ghost use Rattle.dnsv_zone_faults.specs.Groups.{AreAllDsFacts};

@@ -5,7 +5,7 @@ use Rattle.std.proofs.lemmas.Option.{slice_get_past, slice_get_read}
 use Rattle.std.specs.Prelude.{Contains}
 use Rattle.dnsv_names.specs.Name.{same_name}
 use Rattle.dnsv_records.specs.declared.rrsig.Rrsig.{Rrsig}
-use Rattle.dnsv_chain.specs.ByOwner.{values_at}
+use Rattle.dnsv_anchors.specs.ByOwner.{values_at}
 use Rattle.dnsv_denial.proofs.lemmas.gathering.GatherLemmas.{no_zone_signature, unnumbered}
 use Rattle.dnsv_denial.proofs.lemmas.gathering.SignerLemmas.{added_for}
 use Rattle.dnsv_denial.proofs.gathering.signers.add_signer.Goals as goal

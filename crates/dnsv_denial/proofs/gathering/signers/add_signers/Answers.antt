@@ -1,5 +1,5 @@
 use Rattle.std.proofs.Common.{refl}
-use Rattle.dnsv_chain.specs.ByOwner.{values_at}
+use Rattle.dnsv_anchors.specs.ByOwner.{values_at}
 use Rattle.dnsv_denial.proofs.lemmas.gathering.SignerLemmas.{all_signers, no_signers, signer_more}
 use Rattle.dnsv_denial.proofs.gathering.signers.add_signers.Goals as goal
 

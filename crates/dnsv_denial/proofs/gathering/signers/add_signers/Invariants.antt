@@ -1,5 +1,5 @@
 -- those who made the signatures so far have the RRset's number
-use Rattle.dnsv_chain.specs.ByOwner.{values_at}
+use Rattle.dnsv_anchors.specs.ByOwner.{values_at}
 use Rattle.dnsv_denial.proofs.lemmas.gathering.SignerLemmas.{HasSignersTo}
 use Rattle.dnsv_denial.proofs.gathering.signers.add_signers.Given as goal
 

@@ -1,4 +1,4 @@
-use Rattle.dnsv_chain.specs.ByOwner.{values_at}
+use Rattle.dnsv_anchors.specs.ByOwner.{values_at}
 use Rattle.dnsv_chain.specs.Trust.{SecuredIn}
 use Rattle.dnsv_denial.proofs.lemmas.gathering.EvidenceLemmas.{numbered_here}
 use Rattle.dnsv_denial.proofs.lemmas.gathering.SignerLemmas.{listed_begin, listed_end, listed_more, listed_pass}

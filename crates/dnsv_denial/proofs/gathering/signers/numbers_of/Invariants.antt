@@ -1,6 +1,6 @@
 -- what is left has what is there for the zone
 use Rattle.std.proofs.Common.{◌≡◌}
-use Rattle.dnsv_chain.specs.ByOwner.{values_at}
+use Rattle.dnsv_anchors.specs.ByOwner.{values_at}
 use Rattle.dnsv_denial.proofs.lemmas.gathering.ByZoneLemmas.{numbers_in}
 use Rattle.dnsv_denial.proofs.gathering.signers.numbers_of.Given as goal
 

@@ -2,7 +2,7 @@ use Rattle.std.proofs.Common.{List, ℕ, subst, sym}
 use Rattle.dnsv_canonical.specs.Rrsets.{ReceivedRrset}
 use Rattle.dnsv_verifier.specs.Table.{TableContents, table_answer}
 use Rattle.dnsv_chain.specs.Trust.{AreSecured}
-use Rattle.dnsv_chain.specs.declared.anchor.Anchor.{Anchor}
+use Rattle.dnsv_anchors.specs.declared.anchor.Anchor.{Anchor}
 use Rattle.dnsv_derivations.specs.Explained.{Explained}
 use Rattle.dnsv_derivations.proofs.evidence.Evidence.secured.Goals as goal
 

@@ -16,7 +16,8 @@ use Rattle.dnsv_canonical.specs.Rrsets.{IsNumbered, ReceivedRrset}
 use Rattle.dnsv_verifier.specs.Admissible.{DnskeyRecord}
 use Rattle.dnsv_chain.proofs.ChainLemmas.{same_ds}
 use Rattle.dnsv_chain.proofs.ZipLemmas.{zip_at, zip_length}
-use Rattle.dnsv_chain.specs.Ds.{IsMatch, IsUsable}
+use Rattle.dnsv_anchors.specs.Ds.{IsUsable}
+use Rattle.dnsv_chain.specs.Ds.{IsMatch}
 use Rattle.dnsv_denial.specs.gathering.Evidence.{IsRecordAt}
 use Rattle.dnsv_canonical.specs.declared.number.RecordNumber.{RecordNumber}
 use Rattle.dnsv_derivations.specs.Explained.{Setting}

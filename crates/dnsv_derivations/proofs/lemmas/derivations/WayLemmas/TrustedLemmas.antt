@@ -13,8 +13,8 @@ use Rattle.dnsv_chain.proofs.ZipLemmas.{zip_at, zip_length}
 use Rattle.dnsv_chain.specs.Anchor.{IsAnchorMatch}
 use Rattle.dnsv_chain.specs.Trusted.{DelegatesTo, IsKeyOf, IsSecured, IsSignedUnder, IsTrusted, SignsItsSet}
 use Rattle.dnsv_chain.specs.Trusted.IsTrusted.{anchored, delegated}
-use Rattle.dnsv_chain.specs.declared.anchor.Anchor.{Anchor}
-use Rattle.dnsv_chain.specs.declared.anchor.Anchor.TheVariants as anchor
+use Rattle.dnsv_anchors.specs.declared.anchor.Anchor.{Anchor}
+use Rattle.dnsv_anchors.specs.declared.anchor.Anchor.TheVariants as anchor
 use Rattle.dnsv_derivations.specs.Explained.{Setting}
 use Rattle.dnsv_derivations.specs.Following.{IsGoodUnder, IsMatchedBy}
 use Rattle.std.specs.Prelude.{MatchOption, is_some}

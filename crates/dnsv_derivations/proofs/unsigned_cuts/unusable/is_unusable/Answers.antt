@@ -1,5 +1,5 @@
 use Rattle.std.proofs.lemmas.Bool.{false≢true}
-use Rattle.dnsv_chain.specs.Ds.{HasUsable}
+use Rattle.dnsv_anchors.specs.Ds.{HasUsable}
 use Rattle.dnsv_derivations.specs.Explained.{setting_in}
 use Rattle.dnsv_derivations.proofs.lemmas.AnswerLemmas.{not_so, so_not}
 use Rattle.dnsv_derivations.proofs.lemmas.unsigned_cuts.UnusableLemmas.{its_set, none_usable, set_delegates}

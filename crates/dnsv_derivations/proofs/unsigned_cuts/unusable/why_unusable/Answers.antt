@@ -1,7 +1,7 @@
 use Rattle.std.proofs.Common.{rules}
 use Rattle.std.specs.Prelude.{IsTrue}
 use Rattle.dnsv_records.specs.Algorithm.{is_supported}
-use Rattle.dnsv_chain.specs.Ds.{IsSupported}
+use Rattle.dnsv_anchors.specs.Ds.{IsSupported}
 use Rattle.dnsv_derivations.proofs.lemmas.unsigned_cuts.UnusableLemmas.{ignored}
 use Rattle.dnsv_derivations.proofs.unsigned_cuts.unusable.why_unusable.Goals as goal
 

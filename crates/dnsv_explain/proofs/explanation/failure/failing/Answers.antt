@@ -4,7 +4,7 @@ use Rattle.dnsv_canonical.specs.Rrsets.{ReceivedRrset}
 use Rattle.dnsv_verifier.specs.Table.{TableContents, table_answer}
 use Rattle.dnsv_chain.specs.Basis.{CaseContents}
 use Rattle.dnsv_chain.specs.Trust.{IsTrustOf, KeptTrust}
-use Rattle.dnsv_chain.specs.declared.anchor.Anchor.{Anchor}
+use Rattle.dnsv_anchors.specs.declared.anchor.Anchor.{Anchor}
 use Rattle.dnsv_explain.proofs.explanation.failure.failing.Goals as goal
 
 its : (case facts : CaseContents) (rrsets : List ReceivedRrset) (anchors : List Anchor) (table : TableContents) (trust : KeptTrust)

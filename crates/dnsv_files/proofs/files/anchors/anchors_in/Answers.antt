@@ -1,6 +1,6 @@
 use Rattle.std.proofs.Common.{◌∙◌, subst}
 use Rattle.std.specs.Prelude.{None}
-use Rattle.dnsv_chain.specs.AnchorFile.{BeginsWithAnchor, IsAnchorLine}
+use Rattle.dnsv_anchors.specs.AnchorFile.{BeginsWithAnchor, IsAnchorLine}
 use Rattle.dnsv_files.proofs.FileLemmas.Text.{no_line_of_nothing, none_told}
 use Rattle.dnsv_files.proofs.files.anchors.anchors_in.Goals as goal
 

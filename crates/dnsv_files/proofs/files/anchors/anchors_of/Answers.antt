@@ -1,5 +1,5 @@
-use Rattle.dnsv_chain.specs.AnchorFile.{BeginsWithAnchor, IsFaultOf}
-use Rattle.dnsv_chain.specs.declared.anchors.AnchorsError.TheVariants.{OutOfMemory}
+use Rattle.dnsv_anchors.specs.AnchorFile.{BeginsWithAnchor, IsFaultOf}
+use Rattle.dnsv_anchors.specs.declared.anchors.AnchorsError.TheVariants.{OutOfMemory}
 use Rattle.dnsv_files.specs.Files.Anchors.{TellsAnchorsError}
 use Rattle.dnsv_files.proofs.FileLemmas.Anchors.{every_anchors_fault, refused_text, wanted_for_anchors}
 use Rattle.dnsv_files.proofs.FileLemmas.Text.{never_told}

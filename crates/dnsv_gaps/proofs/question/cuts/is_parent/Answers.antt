@@ -1,7 +1,7 @@
 use Rattle.std.proofs.Common.{List, subst, sym, ◌∙◌}
 use Rattle.std.proofs.lemmas.Bool.{false≢true}
 use Rattle.dnsv_names.specs.Name.{Labels, rightmost}
-use Rattle.dnsv_chain.specs.declared.anchor.Anchor.{Anchor}
+use Rattle.dnsv_anchors.specs.declared.anchor.Anchor.{Anchor}
 use Rattle.dnsv_chain.specs.Basis.{HasAnchor}
 use Rattle.dnsv_gaps.proofs.question.cuts.is_parent.Goals as goal
 

@@ -1,5 +1,5 @@
 use Rattle.std.proofs.Common.{refl, ◌∙◌}
-use Rattle.dnsv_verifier.proofs.HexFieldLemmas.{parts_decoded}
+use Rattle.dnsv_anchors.proofs.HexFieldLemmas.{parts_decoded}
 use Rattle.dnsv_statements.proofs.packed_entry.PackedEntry.of_digits.Goals as goal
 
 pub returns : goal.returns

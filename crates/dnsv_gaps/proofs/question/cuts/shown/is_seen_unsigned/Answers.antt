@@ -1,7 +1,7 @@
 use Rattle.std.proofs.Common.{List, inl, inr, refl, subst, sym, ◌∙◌}
 use Rattle.std.proofs.lemmas.Bool.{false≢true}
 use Rattle.dnsv_names.specs.Name.{Labels, rightmost}
-use Rattle.dnsv_chain.specs.declared.anchor.Anchor.{Anchor}
+use Rattle.dnsv_anchors.specs.declared.anchor.Anchor.{Anchor}
 use Rattle.dnsv_faults.specs.KnownZones.{HasOwnAnchor}
 use Rattle.dnsv_gaps.specs.questions.Cuts.{HasDsFromAbove}
 use Rattle.dnsv_gaps.proofs.QuestionLemmas.CutLemmas.{opted_out_by_some, the_other, unsigned_by_some}

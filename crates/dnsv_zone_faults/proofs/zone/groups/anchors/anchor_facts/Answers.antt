@@ -1,5 +1,5 @@
 use Rattle.std.proofs.Common.{List, subst}
-use Rattle.dnsv_chain.specs.declared.anchor.Anchor.{Anchor}
+use Rattle.dnsv_anchors.specs.declared.anchor.Anchor.{Anchor}
 use Rattle.std.proofs.lemmas.List.{take_all}
 use Rattle.dnsv_zone_faults.specs.Groups.{AreAnchorFactsFrom}
 use Rattle.dnsv_zone_faults.proofs.lemmas.GroupLemmas.{anchor_next}

@@ -1,0 +1,4 @@
+pub mod AnchorLaws
+pub mod ByOwnerLemmas
+pub mod HexFieldLemmas
+pub mod UsableLemmas

@@ -1,7 +1,0 @@
-use Rattle.std.proofs.Common.{◌≡◌, ◌++◌, ◌∷◌, [], if◌then◌else◌, subst}
-use Rattle.dnsv_names.specs.Name.{Labels, same_name}
-use Rattle.dnsv_chain.specs.ByOwner.{values_at}
-use Rattle.dnsv_chain.proofs.by_owner.add.Goals as goal
-
-pub returns : goal.returns
-returns g c = rw (← c.of.ensures) c.add_at.ensures
