@@ -3,8 +3,8 @@ use Rattle.std.proofs.Common.{◌≡◌, ◌⊎◌, ◌∙◌, ℕ, Bool, true, 
 use Rattle.std.specs.Prelude.{Err, IfErr, IfOk, IsErrOf, IsTrue, Ok, Result, string_bytes}
 use Rattle.dnsv_answers.specs.declared.heading.Moments.TheVariants.{At}
 use Rattle.dnsv_names.specs.Name.{Labels}
-use Rattle.dnsv_canonical.specs.Question.{Asked}
-use Rattle.dnsv_canonical.specs.Rrsets.{IsQuestion, ReceivedRrset, forms_rrsets}
+use Rattle.dnsv_canonical.specs.Rrsets.{ReceivedRrset, forms_rrsets}
+use Rattle.dnsv_questions.specs.Question.{Asked, IsQuestion}
 use Rattle.dnsv_lines.specs.declared.line.Line.{Line}
 use Rattle.dnsv_verifier.specs.declared.answer.Answer.{Answer}
 use Rattle.dnsv_verifier.specs.declared.entry.Entry.{Entry}

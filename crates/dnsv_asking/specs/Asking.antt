@@ -3,10 +3,9 @@
 use Rattle.std.specs.Prelude.{◌≡◌, ◌⊎◌, ◌<◌, ◌≤◌, ℕ, Bool, List, [], ◌∷◌, Contains, Option, length, map, take}
 use Rattle.std.specs.List.{flat_map}
 use Rattle.dnsv_answers.specs.declared.heading.Moments.TheVariants.{At}
-use Rattle.dnsv_canonical.specs.Question.{Asked}
-use Rattle.dnsv_canonical.specs.Rrsets.{IsQuestion}
 use Rattle.dnsv_chain.specs.Basis.{Basis}
 use Rattle.dnsv_questions.specs.declared.format.Format.{Format}
+use Rattle.dnsv_questions.specs.Question.{Asked, IsQuestion}
 use Rattle.dnsv_files.specs.Files.{Files, IsGiven, octets_or_none}
 use Rattle.dnsv_files.specs.Files.Questions.{HasQuestions, IsFaultOfQuestions}
 use Rattle.dnsv_files.specs.Status.{status_code}

@@ -2,7 +2,6 @@
 -- the first fault.
 use Rattle.std.specs.Prelude.{◌≡◌, ◌⊎◌, ⊤, ℕ, Bool, true, false, List, Option, Some, None}
 use Rattle.dnsv_names.specs.Name.{Labels}
-use Rattle.dnsv_canonical.specs.Rrsets.{IsQuestion}
 use Rattle.dnsv_answers.specs.declared.heading.Moments.TheVariants.{At}
 use Rattle.dnsv_verdict.specs.Way.{IsRefusedFor, IsVerdictOf}
 use Rattle.dnsv_verdict.specs.declared.error.VerdictError.{VerdictError}
@@ -13,6 +12,7 @@ use Rattle.dnsv_lines.specs.declared.line.Line.{Line}
 use Rattle.dnsv_files.specs.Files.{Files}
 use Rattle.dnsv_files.specs.Status.{status_code}
 use Rattle.dnsv_questions.specs.declared.format.Format.{Format}
+use Rattle.dnsv_questions.specs.Question.{IsQuestion}
 use Rattle.dnsv_texts.specs.Checking.{check_text}
 use Rattle.dnsv_files.specs.declared.status.Fault.{Fault}
 use Rattle.dnsv_files.specs.declared.status.InputFile.{InputFile}

@@ -1,7 +1,7 @@
 //! The work of `check` and of `explain`: the question and the files are read, and then it is judged.
 ghost use Rattle.std.specs.Prelude.{◌≡◌, ◌⊎◌, IfErr, IfOk, string_bytes};
+ghost use Rattle.dnsv_questions.specs.Question.{IsQuestion};
 ghost use Rattle.dnsv_answers.specs.declared.heading.Moments.TheVariants.{At};
-ghost use Rattle.dnsv_canonical.specs.Rrsets.{IsQuestion};
 ghost use Rattle.dnsv_files.specs.Files.Faults.{OfFailedRead, TellsFaults};
 ghost use Rattle.dnsv_files.specs.Files.{AreTold, Files};
 ghost use Rattle.dnsv_asking.specs.Checking.{IsAnswered, IsCheck, IsFirstFaultOfCheck, IsFirstFaultOfName, IsJudged, IsReachedByCheck};

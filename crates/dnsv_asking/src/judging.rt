@@ -1,7 +1,8 @@
 //! How questions are judged, and what the program says of one.
 ghost use Rattle.std.specs.Prelude.{◌≡◌, ◌⊎◌, ℕ, IfErr, IfOk, List, string_bytes};
 ghost use Rattle.std.specs.Option.{option_map};
-ghost use Rattle.dnsv_canonical.specs.Rrsets.{IsQuestion, ReceivedRrset};
+ghost use Rattle.dnsv_canonical.specs.Rrsets.{ReceivedRrset};
+ghost use Rattle.dnsv_questions.specs.Question.{IsQuestion};
 ghost use Rattle.dnsv_verifier.specs.Table.{IsTableOf};
 ghost use Rattle.dnsv_verifier.specs.declared.answer.Answer.{Answer};
 ghost use Rattle.dnsv_verifier.specs.declared.entry.Entry.{Entry};

@@ -4,7 +4,6 @@ pub mod CaptureError
 pub mod Evidence
 pub mod Index
 pub mod Kept
-pub mod Question
 pub mod SignedData
 pub mod SignedRecords
 pub mod Rrsets

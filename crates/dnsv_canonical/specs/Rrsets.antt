@@ -1,5 +1,5 @@
 -- The RRsets of messages and their signatures (RFC 2181 5, RFC 4035 5.3.1).
-use Rattle.std.specs.Prelude.{◌≡◌, ◌≢◌, ◌≤◌, ◌-◌, ℕ, zero, suc, ◌==◌, nat_le, Bool, IsTrue, not, ◌&&◌, List, [], ◌∷◌, ◌++◌, map, filter, take, nat_eq, Option, None, Some, slice_get}
+use Rattle.std.specs.Prelude.{◌≡◌, ◌≤◌, ◌-◌, ℕ, zero, suc, ◌==◌, nat_le, Bool, not, ◌&&◌, List, [], ◌∷◌, ◌++◌, map, filter, take, nat_eq, Option, None, Some, slice_get}
 use Rattle.std.specs.Int.{w16, to_be_bytes}
 use Rattle.std.specs.List.{enumerate_from, list_any, starts_with}
 use Rattle.std.specs.Str.{bytes_eq}
@@ -37,13 +37,6 @@ ungrouped_types = 0 ∷ 3 ∷ 4 ∷ 7 ∷ 8 ∷ 9 ∷ 14 ∷ 17 ∷ 18 ∷ 21 �
 abbrev pub forms_rrsets : ℕ → Bool
 forms_rrsets rtype =
     not (list_any (λ other. other == rtype) ungrouped_types) && not (nat_le 128 rtype && nat_le rtype 255)
-
--- The type can be asked at the name: it forms RRsets, is neither NSEC nor NSEC3, and is not DS at the root.
-pub record IsQuestion (name : Labels) (rtype : ℕ) : Type 0 where
-  pub forms : IsTrue (forms_rrsets rtype)
-  pub not_nsec : rtype ≢ 47
-  pub not_nsec3 : rtype ≢ 50
-  pub below_root : rtype ≡ 43 → name ≢ []
 
 -- whether the record belongs to an RRset: it is of class IN, and of a type that forms them
 abbrev pub is_grouped : Record → Bool

@@ -11,7 +11,6 @@ pub use laws::{
     rrsets_are_well_formed, signed_data_begins_as_the_signature,
 };
 pub use number::{RecordNumber, SignatureNumber, numbered};
-pub use question::{Question, is_question};
 pub use rrset::{Rrset, canonical_rrset, make_signed_data, signed_data};
 pub use section::forms_rrsets;
 pub use signed::{SigningRoom, is_expanded, signed_label_count};
@@ -24,7 +23,6 @@ mod form;
 mod laws;
 mod number;
 mod placed_record;
-mod question;
 mod received;
 mod records;
 mod rrset;

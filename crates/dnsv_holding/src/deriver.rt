@@ -1,6 +1,6 @@
 //! What the derivations of all questions over one case share.
 ghost use Rattle.std.specs.Prelude.{◌≡◌, ◌⊎◌, [], IfErr, IfOk, IsErrOf};
-ghost use Rattle.dnsv_canonical.specs.Rrsets.{IsQuestion};
+ghost use Rattle.dnsv_questions.specs.Question.{IsQuestion};
 ghost use Rattle.dnsv_derivations.specs.Explained.{setting_in};
 ghost use Rattle.dnsv_holding.specs.Derived.{IsDerived};
 ghost use Rattle.dnsv_holding.specs.Explained.{explained_by};

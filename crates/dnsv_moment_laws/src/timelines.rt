@@ -2,13 +2,13 @@
 //!
 //! Each is a function that does nothing and ensures the law, which its caller learns.
 ghost use Rattle.std.specs.Prelude.{◌≡◌, ◌↔◌, ◌≤◌, List, ℕ};
-ghost use Rattle.dnsv_canonical.specs.Rrsets.{IsQuestion};
 ghost use Rattle.dnsv_moments.specs.Moments.{IsSaidBy, MomentsContents};
 ghost use Rattle.dnsv_moments.specs.Question.{IsRefusedFor, IsRefusedThroughout, IsTimelineFor, TellKind};
 ghost use Rattle.dnsv_names.specs.Name.{Labels};
 ghost use Rattle.dnsv_questions.specs.declared.format.Format.{Format};
 ghost use Rattle.dnsv_timeline.specs.Timeline.{IsTimelineBy};
 ghost use Rattle.dnsv_timeline.specs.declared.stretch.Stretch.{Stretch};
+ghost use Rattle.dnsv_questions.specs.Question.{IsQuestion};
 ghost use Rattle.dnsv_moments.specs.validity.Said.{IsSaidAt, Said};
 ghost use Rattle.dnsv_moments.specs.declared.validity.kind.Kind.TheVariants.{Refused};
 ghost use Rattle.dnsv_chain.specs.Basis.{Basis};

@@ -1,6 +1,6 @@
 //! The timeline of a question.
 ghost use Rattle.std.specs.Prelude.{◌≡◌, ◌⊎◌, IfErr, IfOk, IsErrOf};
-ghost use Rattle.dnsv_canonical.specs.Rrsets.{IsQuestion};
+ghost use Rattle.dnsv_questions.specs.Question.{IsQuestion};
 ghost use Rattle.dnsv_moments.specs.Moments.{IsSaidBy};
 ghost use Rattle.dnsv_moments.specs.Question.{IsRefusedFor, IsTimelineFor};
 ghost use Rattle.dnsv_verdict.specs.declared.error.VerdictError.{VerdictError};
@@ -12,9 +12,8 @@ use crate::moments::Moments;
 use crate::said::Said;
 use crate::sayer::Sayer;
 use crate::throughout::refused_throughout;
-use dnsv_canonical::is_question;
 use dnsv_names::{Name, RecordType};
-use dnsv_questions::Format;
+use dnsv_questions::{Format, is_question};
 use dnsv_timeline::{Stretch, timeline_of};
 use dnsv_verdict::{VerdictError, a_question_leads_one_way};
 use std::alloc::{AllocError, Global};

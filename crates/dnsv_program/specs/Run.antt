@@ -1,8 +1,8 @@
 -- What a request asks of its files, and what is their first fault.
 use Rattle.std.specs.Prelude.{◌≡◌, ◌⊎◌, ⊤, ℕ, Bool, List, string_bytes}
 use Rattle.dnsv_names.specs.Name.{Labels}
-use Rattle.dnsv_canonical.specs.Rrsets.{IsQuestion}
 use Rattle.dnsv_timeline.specs.Range.{IsRange}
+use Rattle.dnsv_questions.specs.Question.{IsQuestion}
 use Rattle.dnsv_answers.specs.declared.heading.Moments.TheVariants.{Between}
 use Rattle.dnsv_files.specs.declared.opening.Opening.TheVariants.{Plain}
 use Rattle.dnsv_commands.specs.declared.request.Asking.TheVariants as asking

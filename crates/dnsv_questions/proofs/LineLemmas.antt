@@ -5,8 +5,8 @@ use Rattle.dnsv_names.specs.Lines.LineLaws.{AreFields-only}
 use Rattle.dnsv_names.specs.Lines.{AreFields}
 use Rattle.dnsv_names.specs.Name.{Labels, IsName}
 use Rattle.dnsv_names.specs.Text.{IsTextOf}
-use Rattle.dnsv_canonical.specs.Question.{Asked}
 use Rattle.dnsv_questions.specs.QuestionFile.{IsAskedLine}
+use Rattle.dnsv_questions.specs.Question.{Asked}
 
 module _ (line text digits : List ℕ) (fields : AreFields line (text ∷ digits ∷ [])) where
   pub no_name : ((labels : Labels) → IsName labels → IsTextOf text labels → ⊥) → (asked : Asked) → IsAskedLine line asked → ⊥

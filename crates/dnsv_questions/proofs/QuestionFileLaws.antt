@@ -8,10 +8,10 @@ use Rattle.dnsv_names.specs.Lines.LineFileLaws.{HasFirstFault-only, IsLineFile, 
 use Rattle.dnsv_names.specs.Lines.LineLaws.{AreFields-only}
 use Rattle.dnsv_names.specs.Lines.{NumberedLine}
 use Rattle.dnsv_names.specs.Text.{IsTextOf}
-use Rattle.dnsv_canonical.specs.Question.{Asked}
 use Rattle.dnsv_questions.specs.QuestionFile.{AreFew, AreQuestionsOf, IsAskedLine, IsFaultOf, IsFaultOfLine}
 use Rattle.dnsv_questions.specs.declared.error.QuestionsError.{QuestionsError}
 use Rattle.dnsv_questions.specs.declared.error.QuestionsError.TheVariants.{OutOfMemory, Syntax, TooMany}
+use Rattle.dnsv_questions.specs.Question.{Asked}
 
 -- a line asks one thing
 pub one_asked : (line : List ℕ) (a b : Asked) → IsAskedLine line a → IsAskedLine line b → a ≡ b

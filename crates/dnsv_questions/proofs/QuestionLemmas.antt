@@ -5,9 +5,9 @@ use Rattle.dnsv_names.proofs.LineFileLemmas.{SayTogether, say_more}
 use Rattle.dnsv_names.specs.Lines.LineFile.{SayEach}
 use Rattle.dnsv_names.specs.Lines.LineFileLaws.{IsLineFile, SaysValues-no_fault, SaysValues-only}
 use Rattle.dnsv_names.specs.Lines.{HasLines, NumberedLine}
-use Rattle.dnsv_canonical.specs.Question.{Asked}
 use Rattle.dnsv_questions.specs.QuestionFile.{AreFew, AreQuestionsOf, IsAskedLine}
 use Rattle.dnsv_questions.proofs.QuestionFileLaws.{one_asked}
+use Rattle.dnsv_questions.specs.Question.{Asked}
 
 -- lines that were read are this many questions, and there is room for them
 pub record AreSoMany (lines : List NumberedLine) (count : ℕ) : Type 0 where

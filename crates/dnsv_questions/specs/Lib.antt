@@ -1,4 +1,5 @@
 pub mod Moment
+pub mod Question
 pub mod QuestionFile
 pub mod QuestionsError
 pub mod Subcommand

@@ -5,9 +5,9 @@ use Rattle.dnsv_names.specs.Lines.LineFile.{BeginsWithValue, HasFirstFault, Says
 use Rattle.dnsv_names.specs.Lines.{AreFields, NumberedLine}
 use Rattle.dnsv_names.specs.Name.{IsName}
 use Rattle.dnsv_names.specs.Text.{IsTextOf}
-use Rattle.dnsv_canonical.specs.Question.{Asked}
 use Rattle.dnsv_questions.specs.declared.error.QuestionsError.{QuestionsError}
 use Rattle.dnsv_questions.specs.declared.error.QuestionsError.TheVariants.{OutOfMemory, Syntax, TooMany}
+use Rattle.dnsv_questions.specs.Question.{Asked}
 
 -- A line has two fields, a name as text (RFC 1035 5.1), and the decimal digits of a type's number (RFC 1035 3.2.2). Any
 -- type does, also one that can't be asked at the name.

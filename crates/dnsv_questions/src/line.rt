@@ -1,8 +1,8 @@
 //! One line of a file of questions.
 ghost use Rattle.std.specs.Prelude.{ℕ, List, ◌∷◌, [], MatchOption};
 ghost use Rattle.dnsv_names.specs.Lines.{AreFields};
-ghost use Rattle.dnsv_canonical.specs.Question.{Asked};
 ghost use Rattle.dnsv_questions.specs.QuestionFile.{IsAskedLine};
+ghost use Rattle.dnsv_questions.specs.Question.{Asked};
 
 use dnsv_names::{Line, Name, RecordType, decimal_u16};
 

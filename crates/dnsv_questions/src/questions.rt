@@ -1,8 +1,8 @@
 //! Files of questions.
 ghost use Rattle.std.specs.Prelude.{◌≡◌, ◌<◌, ◌≤◌, ◌⊎◌, Err, List, ℕ, length, IfErr, IfOk, OnErr, OnOk};
-ghost use Rattle.dnsv_canonical.specs.Question.{Asked};
 ghost use Rattle.dnsv_questions.specs.QuestionFile.{AreQuestionsOf, BeginsWithQuestion, IsAskedLine, IsFaultOf, IsFaultOfLine};
 ghost use Rattle.dnsv_questions.specs.declared.error.QuestionsError.{QuestionsError};
+ghost use Rattle.dnsv_questions.specs.Question.{Asked};
 
 use crate::error::QuestionsError;
 use crate::line::asked_of;
@@ -22,7 +22,7 @@ pub struct Questions {
 
 impl Model for Questions {
     ghost use Rattle.std.specs.Prelude.{List};
-    ghost use Rattle.dnsv_canonical.specs.Question.{Asked};
+    ghost use Rattle.dnsv_questions.specs.Question.{Asked};
 
     ghost Value = { List Asked };
 

@@ -1,9 +1,9 @@
 //! Questions where many are kept.
 ghost use Rattle.std.specs.Prelude.{◌≡◌, IfOk};
 ghost use Rattle.std.specs.Option.{SomeIff};
-ghost use Rattle.dnsv_canonical.specs.Rrsets.{IsQuestion};
+ghost use Rattle.dnsv_questions.specs.Question.{IsQuestion};
 
-use dnsv_canonical::Question;
+use crate::question::Question;
 use dnsv_names::{Name, RecordType, StoredName};
 use std::alloc::{AllocError, Global};
 use std::marker::Model;
@@ -17,7 +17,7 @@ pub struct StoredQuestion {
 }
 
 impl Model for StoredQuestion {
-    ghost use Rattle.dnsv_canonical.specs.Question.{Asked};
+    ghost use Rattle.dnsv_questions.specs.Question.{Asked};
 
     ghost Value = { Asked };
 

@@ -1,7 +1,8 @@
 //! Calls of `dnsv_canonical`.
 
-use dnsv_canonical::{Question, forms_rrsets, is_question, signed_label_count};
+use dnsv_canonical::{forms_rrsets, signed_label_count};
 use dnsv_names::RecordType;
+use dnsv_questions::{Question, is_question};
 use dnsv_row_text::{Row, RowError, none_text, truth_text};
 
 pub mod again;

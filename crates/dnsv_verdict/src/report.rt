@@ -1,6 +1,6 @@
 //! The verdict on a question, and what it took.
 ghost use Rattle.std.specs.Prelude.{◌≡◌, ◌⊎◌, ◌<◌, IfErr, IfOk, IsErrOf, get_or, length};
-ghost use Rattle.dnsv_canonical.specs.Rrsets.{IsQuestion};
+ghost use Rattle.dnsv_questions.specs.Question.{IsQuestion};
 ghost use Rattle.dnsv_chain.specs.Trusted.{IsSecured};
 ghost use Rattle.dnsv_verdict.specs.Complete.{TellsWholeChains};
 ghost use Rattle.dnsv_verdict.specs.Report.Hashed.{IsFewHashedOn, IsNumberHashedOn};
@@ -17,10 +17,11 @@ use crate::error::VerdictError;
 use crate::link::Links;
 use crate::verdict::Verdict;
 use bumpalo::Bump;
-use dnsv_canonical::{Capture, is_question};
+use dnsv_canonical::Capture;
 use dnsv_chain::Anchors;
 use dnsv_names::{Name, RecordType};
 use dnsv_proof_forms::Hashes;
+use dnsv_questions::is_question;
 use dnsv_verifier::Verifier;
 use std::alloc::Global;
 use std::rc::Rc;

@@ -5,7 +5,7 @@ ghost use Rattle.dnsv_names.specs.Count.{counted};
 ghost use Rattle.dnsv_names.specs.Name.{IsName, Labels, SameName};
 ghost use Rattle.dnsv_records.specs.declared.nsec3.Nsec3Parameters.{Nsec3Parameters};
 ghost use Rattle.dnsv_canonical.specs.Evidence.{AreParameters, nsec3_rdata};
-ghost use Rattle.dnsv_canonical.specs.Rrsets.{IsQuestion};
+ghost use Rattle.dnsv_questions.specs.Question.{IsQuestion};
 ghost use Rattle.dnsv_verifier.specs.Table.{IsTableOf};
 ghost use Rattle.dnsv_verifier.specs.declared.answer.Answer.{Answer};
 ghost use Rattle.dnsv_verifier.specs.declared.entry.Entry.{Entry};
@@ -27,8 +27,8 @@ use crate::link::{LINK_LIMIT, Link, Links};
 use crate::target::target_of;
 use crate::trail::Trail;
 use crate::verdict::Verdict;
-use dnsv_canonical::is_question;
 use dnsv_names::{Count, Name, RecordType, counts_add_up};
+use dnsv_questions::is_question;
 use std::alloc::{AllocError, Global};
 
 /// A way as far as it was followed.

@@ -3,7 +3,7 @@ use Rattle.std.proofs.Common.{◌≡◌, ℕ, List, Result, Ok, Err, inl, inr, r
 use Rattle.dnsv_names.specs.Name.{IsName, Labels}
 use Rattle.dnsv_names.specs.Text.{FirstFault, IsTextOf}
 use Rattle.dnsv_names.specs.declared.error.NameError.{NameError}
-use Rattle.dnsv_canonical.specs.Rrsets.{IsQuestion}
+use Rattle.dnsv_questions.specs.Question.{IsQuestion}
 use Rattle.dnsv_verdict.specs.declared.error.VerdictError.TheVariants.{BadQuestion}
 use Rattle.dnsv_work.specs.Question.{IsQuestionRefused, Spells}
 use Rattle.dnsv_work.specs.Faults.{IsFaultOfQuestion}

@@ -9,7 +9,8 @@ use Rattle.dnsv_files.specs.declared.status.Fault.TheVariants as fault
 use Rattle.dnsv_files.specs.declared.status.Refusal.TheVariants as refusal
 use Rattle.dnsv_message.specs.Message.{Contents}
 use Rattle.dnsv_canonical.specs.Evidence.{evidence_of}
-use Rattle.dnsv_canonical.specs.Rrsets.{IsQuestion, ReceivedRrset}
+use Rattle.dnsv_canonical.specs.Rrsets.{ReceivedRrset}
+use Rattle.dnsv_questions.specs.Question.{IsQuestion}
 use Rattle.dnsv_answers.specs.declared.heading.Moments.{Moments}
 use Rattle.dnsv_anchors.specs.declared.anchor.Anchor.{Anchor}
 use Rattle.dnsv_files.specs.declared.opening.Opening.{Opening}

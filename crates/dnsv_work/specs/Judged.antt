@@ -13,7 +13,7 @@ use Rattle.dnsv_files.specs.declared.status.Fault.TheVariants as fault
 use Rattle.dnsv_files.specs.declared.status.Refusal.TheVariants as refusal
 use Rattle.dnsv_files.specs.declared.status.Status.{Status}
 use Rattle.dnsv_files.specs.declared.status.Status.TheVariants as status
-use Rattle.dnsv_canonical.specs.Question.{Asked}
+use Rattle.dnsv_questions.specs.Question.{Asked}
 use Rattle.dnsv_verdict.specs.VerdictError.{verdict_error_code}
 use Rattle.dnsv_verdict.specs.Way.{IsRefusal}
 use Rattle.dnsv_evidence_texts.specs.Refused.{refused_text}

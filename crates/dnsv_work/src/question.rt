@@ -1,13 +1,13 @@
 //! Questions on the command line.
 ghost use Rattle.std.specs.Prelude.{◌≡◌, IfErr, IfOk};
-ghost use Rattle.dnsv_canonical.specs.Rrsets.{IsQuestion};
 ghost use Rattle.dnsv_names.specs.Name.{Labels};
+ghost use Rattle.dnsv_questions.specs.Question.{IsQuestion};
 ghost use Rattle.dnsv_work.specs.Question.{Spells};
 ghost use Rattle.dnsv_work.specs.Faults.{IsFaultOfQuestion};
 
-use dnsv_canonical::is_question;
 use dnsv_files::{Fault, Place, Refusal};
 use dnsv_names::{Name, RecordType};
+use dnsv_questions::is_question;
 use dnsv_verdict::VerdictError;
 
 /// The name of a question, whose type can be asked for at it.

@@ -7,10 +7,10 @@ use Rattle.std.proofs.Math.Seq.{take-append-add}
 use Rattle.std.proofs.KnownBytes.{Appends-trans}
 use Rattle.std.specs.Io.KnownBytes.{Appends}
 use Rattle.std.specs.Prelude.{Contains}
-use Rattle.dnsv_canonical.specs.Question.{Asked}
 use Rattle.dnsv_message.specs.Streams.Counted.{AppendsBeginning}
 use Rattle.dnsv_chain.specs.Basis.{Basis}
 use Rattle.dnsv_questions.specs.declared.format.Format.{Format}
+use Rattle.dnsv_questions.specs.Question.{Asked}
 use Rattle.dnsv_files.specs.Status.{status_code}
 use Rattle.dnsv_asking.specs.Asking.{Answered, AreAnswers, EachAnswered, IsAnswer, IsGreatest}
 use Rattle.dnsv_files.specs.declared.status.Status.{Status}

@@ -1,9 +1,9 @@
 -- A text of questions is one list of them, or has one fault.
 use Rattle.std.proofs.Common.{◌≡◌, ℕ, List, Result, Err, inl, refl, subst}
-use Rattle.dnsv_canonical.specs.Question.{Asked}
 use Rattle.dnsv_questions.specs.QuestionFile.{BeginsWithQuestion, IsFaultOf}
 use Rattle.dnsv_questions.proofs.QuestionFileLaws.{AreQuestionsOf-no_fault, AreQuestionsOf-only, IsFaultOf-only}
 use Rattle.dnsv_questions.specs.declared.error.QuestionsError.{QuestionsError}
+use Rattle.dnsv_questions.specs.Question.{Asked}
 use Rattle.dnsv_questions.specs.declared.error.QuestionsError.TheVariants as questions
 use Rattle.dnsv_files.specs.declared.status.Fault.{Fault}
 use Rattle.dnsv_files.specs.declared.status.Fault.TheVariants as fault

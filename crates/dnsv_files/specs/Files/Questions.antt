@@ -1,9 +1,9 @@
 -- Files of questions: what they ask, and what they are refused for.
 use Rattle.std.specs.Prelude.{◌≡◌, ◌≤◌, ℕ, List, length}
 use Rattle.dnsv_message.specs.Streams.Frames.{file_limit}
-use Rattle.dnsv_canonical.specs.Question.{Asked}
 use Rattle.dnsv_questions.specs.QuestionFile.{AreQuestionsOf, IsFaultOf}
 use Rattle.dnsv_questions.specs.declared.error.QuestionsError.{QuestionsError}
+use Rattle.dnsv_questions.specs.Question.{Asked}
 use Rattle.dnsv_questions.specs.declared.error.QuestionsError.TheVariants as questions
 use Rattle.dnsv_files.specs.declared.status.Fault.{Fault}
 use Rattle.dnsv_files.specs.declared.status.InputFile.TheVariants.{Questions}

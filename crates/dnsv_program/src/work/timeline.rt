@@ -1,7 +1,7 @@
 //! The work of `timeline`: the question, the range and the files are read, and then the question is judged at each moment.
 ghost use Rattle.std.specs.Prelude.{◌≡◌, ◌⊎◌, Err, IfErr, IfOk, string_bytes};
+ghost use Rattle.dnsv_questions.specs.Question.{IsQuestion};
 ghost use Rattle.dnsv_answers.specs.declared.heading.Moments.TheVariants.{Between};
-ghost use Rattle.dnsv_canonical.specs.Rrsets.{IsQuestion};
 ghost use Rattle.dnsv_files.specs.Files.Faults.{OfFailedRead, TellsFaults};
 ghost use Rattle.dnsv_files.specs.Files.{AreTold, Files};
 ghost use Rattle.dnsv_files.specs.Told.{IsFaultOf};

@@ -4,14 +4,13 @@ use Rattle.std.specs.List.{flat_map}
 use Rattle.std.specs.Prelude.{Contains, Option, Some, slice_get, unwrap_or}
 use Rattle.dnsv_answers.specs.declared.heading.Moments.TheVariants.{At}
 use Rattle.dnsv_names.specs.Octets.{AreOctets}
-use Rattle.dnsv_canonical.specs.Question.{Asked}
-use Rattle.dnsv_canonical.specs.Rrsets.{IsQuestion}
 use Rattle.dnsv_chain.specs.Basis.{Basis}
 use Rattle.dnsv_verdict.specs.VerdictError.{verdict_error_code}
 use Rattle.dnsv_verdict.specs.Way.{IsRefusal}
 use Rattle.dnsv_verdict.specs.declared.error.VerdictError.{VerdictError}
 use Rattle.dnsv_evidence_texts.specs.Refused.{refused_text}
 use Rattle.dnsv_questions.specs.declared.format.Format.{Format}
+use Rattle.dnsv_questions.specs.Question.{Asked, IsQuestion}
 use Rattle.dnsv_files.specs.Files.{Files, octets_or_none}
 use Rattle.dnsv_program_laws.specs.Layers.{LayerLaws}
 use Rattle.dnsv_files.specs.Status.{status_code}

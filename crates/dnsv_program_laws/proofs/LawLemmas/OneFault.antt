@@ -8,8 +8,9 @@ use Rattle.dnsv_names.specs.Octets.{AreOctets}
 use Rattle.dnsv_names.specs.declared.error.NameError.{NameError}
 use Rattle.dnsv_message.specs.Message.{Contents}
 use Rattle.dnsv_canonical.specs.Evidence.{evidence_of}
-use Rattle.dnsv_canonical.specs.Rrsets.{IsQuestion, ReceivedRrset}
+use Rattle.dnsv_canonical.specs.Rrsets.{ReceivedRrset}
 use Rattle.dnsv_tsig.specs.Key.{SharedKey}
+use Rattle.dnsv_questions.specs.Question.{IsQuestion}
 use Rattle.dnsv_chain.specs.Basis.{Basis}
 use Rattle.dnsv_verdict.specs.Way.{IsRefusedFor, IsVerdictOf}
 use Rattle.dnsv_anchors.specs.declared.anchor.Anchor.{Anchor}

@@ -7,7 +7,8 @@ use Rattle.dnsv_zones.specs.zones.Lookup.Answer.{NoData, NoName}
 use Rattle.dnsv_zones.specs.zones.TypeNumbers.{rrsig, nsec}
 use Rattle.dnsv_zones.specs.zones.Zone.{Zone}
 use Rattle.dnsv_zones.proofs.lemmas.zones.LookupLemmas.{one_answer}
-use Rattle.dnsv_canonical.specs.Rrsets.{IsQuestion, forms_rrsets}
+use Rattle.dnsv_canonical.specs.Rrsets.{forms_rrsets}
+use Rattle.dnsv_questions.specs.Question.{IsQuestion}
 use Rattle.dnsv_denial.specs.proving.FirstProof.{CanProveNoData, CanProveNoName}
 use Rattle.dnsv_denial.specs.proving.WholeChain.{HasWholeChainWithoutOptOut, IsJustChainWithoutOptOut, IsJustNsec3Chain}
 use Rattle.dnsv_denial.specs.unsigned_cuts.Cuts.{HasUnsignedCut}

@@ -6,12 +6,13 @@ use Rattle.dnsv_names.specs.Count.{counted}
 use Rattle.dnsv_names.specs.Name.{IsName, Labels}
 use Rattle.dnsv_records.specs.declared.nsec3.Nsec3Parameters.{Nsec3Parameters}
 use Rattle.dnsv_canonical.specs.Evidence.{AreParameters, nsec3_rdata}
-use Rattle.dnsv_canonical.specs.Rrsets.{IsQuestion, ReceivedRrset}
+use Rattle.dnsv_canonical.specs.Rrsets.{ReceivedRrset}
 use Rattle.dnsv_verifier.specs.Table.{IsTableOf, TableContents}
 use Rattle.dnsv_verifier.specs.declared.answer.Answer.{Answer}
 use Rattle.dnsv_verifier.specs.declared.entry.Entry.{Entry}
 use Rattle.dnsv_anchors.specs.declared.anchor.Anchor.{Anchor}
 use Rattle.dnsv_zones.specs.chains.HashedNames.{hashes_for}
+use Rattle.dnsv_questions.specs.Question.{IsQuestion}
 use Rattle.dnsv_verdict.proofs.ReportLemmas.HashedLemmas.{hashes_more}
 use Rattle.dnsv_verdict.proofs.WayLemmas.{names_behind, way_more}
 use Rattle.dnsv_verdict.specs.Report.Hashed.{hashes_on}

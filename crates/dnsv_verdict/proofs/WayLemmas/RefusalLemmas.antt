@@ -1,7 +1,8 @@
 -- A question is refused for one reason, and never where it has a verdict; and it can't be that it has neither.
 use Rattle.std.proofs.Common.{◌≡◌, ◌⊎◌, ◌+◌, ℕ, zero, suc, List, [], ◌∷◌, ◌++◌, length, refl, sym, inl, inr, ⊎_elim, subst, arith, length-append}
 use Rattle.dnsv_names.specs.Name.{Labels}
-use Rattle.dnsv_canonical.specs.Rrsets.{IsQuestion, ReceivedRrset}
+use Rattle.dnsv_canonical.specs.Rrsets.{ReceivedRrset}
+use Rattle.dnsv_questions.specs.Question.{IsQuestion}
 use Rattle.dnsv_verdict.proofs.CaseLemmas.{one_verdict}
 use Rattle.dnsv_verdict.proofs.SureLemmas.SomeVerdict.{some_verdict}
 use Rattle.dnsv_verdict.proofs.SureLemmas.{Surely, surely, and_then, by_cases}

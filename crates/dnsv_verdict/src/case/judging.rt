@@ -1,6 +1,6 @@
 //! The verdict on a question of a case.
 ghost use Rattle.std.specs.Prelude.{◌≡◌, [], IfOk, IsErrOf, IsFalse, IsTrue, None};
-ghost use Rattle.dnsv_canonical.specs.Rrsets.{IsQuestion};
+ghost use Rattle.dnsv_questions.specs.Question.{IsQuestion};
 ghost use Rattle.dnsv_chain.specs.Basis.{IsCaseOf, basis_by, Basis};
 ghost use Rattle.dnsv_verdict.specs.Shared.{IsSharedOf};
 ghost use Rattle.dnsv_verdict.specs.Report.{IsKept, IsReport, Refuses, hashes_in};

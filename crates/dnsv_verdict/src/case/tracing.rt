@@ -5,7 +5,7 @@ ghost use Rattle.dnsv_names.specs.Count.{counted};
 ghost use Rattle.dnsv_names.specs.Name.{IsName};
 ghost use Rattle.dnsv_records.specs.declared.nsec3.Nsec3Parameters.{Nsec3Parameters};
 ghost use Rattle.dnsv_canonical.specs.Evidence.{AreParameters, nsec3_rdata};
-ghost use Rattle.dnsv_canonical.specs.Rrsets.{IsQuestion};
+ghost use Rattle.dnsv_questions.specs.Question.{IsQuestion};
 ghost use Rattle.dnsv_chain.specs.Basis.{IsCaseOf, basis_by, Basis};
 ghost use Rattle.dnsv_verdict.specs.Shared.{IsSharedOf};
 ghost use Rattle.dnsv_verdict.specs.Report.Hashed.{IsFewHashedOn, IsNumberHashedOn, hashes_on};
@@ -22,8 +22,8 @@ use crate::report::{Judged, Report};
 use crate::traced::{StoppedWay, Traced};
 use crate::trail::Trail;
 use crate::way::{End, Followed, Way, follow};
-use dnsv_canonical::is_question;
 use dnsv_names::{Count, Name, RecordType};
+use dnsv_questions::is_question;
 use dnsv_verifier::a_table_is_its_verifier;
 use std::alloc::Global;
 

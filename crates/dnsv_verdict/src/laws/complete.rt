@@ -1,7 +1,7 @@
 //! A law of verdicts where the evidence has the whole chain of a zone.
 ghost use Rattle.std.specs.Prelude.{ℕ};
 ghost use Rattle.dnsv_names.specs.Name.{Labels};
-ghost use Rattle.dnsv_canonical.specs.Rrsets.{IsQuestion};
+ghost use Rattle.dnsv_questions.specs.Question.{IsQuestion};
 ghost use Rattle.dnsv_verdict.specs.Complete.{TellsWholeChains};
 ghost use Rattle.dnsv_chain.specs.Basis.{Basis};
 ghost use Rattle.dnsv_verdict.specs.Verdict.{IsVerdictAt};

@@ -2,7 +2,7 @@
 use Rattle.std.proofs.Common.{◌≡◌, ℕ, List, Option, inl, inr, refl, subst, sym}
 use Rattle.std.specs.Prelude.{Err, Result}
 use Rattle.dnsv_names.specs.Name.{Labels}
-use Rattle.dnsv_canonical.specs.Rrsets.{IsQuestion}
+use Rattle.dnsv_questions.specs.Question.{IsQuestion}
 use Rattle.dnsv_files.specs.declared.inputs.Inputs.{Inputs}
 use Rattle.dnsv_files.specs.declared.status.Fault.{Fault}
 use Rattle.dnsv_files.specs.declared.status.Fault.TheVariants as fault

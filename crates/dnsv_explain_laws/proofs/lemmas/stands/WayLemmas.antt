@@ -3,7 +3,8 @@ use Rattle.std.proofs.Common.{◌≡◌, ◌⊎◌, ◌≤◌, ◌<◌, ◌++◌
 use Rattle.std.specs.List.{Contains}
 use Rattle.std.proofs.lemmas.List.Elements.{Contains-append_right}
 use Rattle.dnsv_names.specs.Name.{Labels}
-use Rattle.dnsv_canonical.specs.Rrsets.{IsQuestion, ReceivedRrset}
+use Rattle.dnsv_canonical.specs.Rrsets.{ReceivedRrset}
+use Rattle.dnsv_questions.specs.Question.{IsQuestion}
 use Rattle.dnsv_chain.specs.Basis.{Basis, basis_of}
 use Rattle.dnsv_anchors.specs.declared.anchor.Anchor.{Anchor}
 use Rattle.dnsv_verifier.specs.declared.answer.Answer.{Answer}

@@ -2,9 +2,9 @@ use Rattle.std.proofs.Common.{◌++◌, ◌∷◌, [], List, sym, subst}
 use Rattle.std.proofs.lemmas.Result.{err_from_is_err_and}
 use Rattle.dnsv_names.proofs.LineFileLemmas.{begins, each_more, has_all, has_more, has_next}
 use Rattle.dnsv_names.specs.Lines.LineFile.{SayEach}
-use Rattle.dnsv_canonical.specs.Question.{Asked}
 use Rattle.dnsv_questions.specs.QuestionFile.{IsAskedLine}
 use Rattle.dnsv_questions.proofs.QuestionLemmas.{all_asked, asks_something}
+use Rattle.dnsv_questions.specs.Question.{Asked}
 use Rattle.dnsv_questions.proofs.questions.questions_of.Goals as goal
 
 pub loop-line-preserved-in_ok-push : goal.loop-line-preserved-in_ok-push

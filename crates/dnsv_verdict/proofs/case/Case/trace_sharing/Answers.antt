@@ -1,6 +1,6 @@
 -- what the way comes to
 use Rattle.std.proofs.Common.{subst}
-use Rattle.dnsv_canonical.specs.Rrsets.{IsQuestion}
+use Rattle.dnsv_questions.specs.Question.{IsQuestion}
 use Rattle.dnsv_verdict.proofs.MeaningLemmas.{aliases_mean, verdict_means}
 use Rattle.dnsv_verdict.proofs.OfCase.{of_case, table_by}
 use Rattle.dnsv_verdict.proofs.ReportLemmas.{number_asked}

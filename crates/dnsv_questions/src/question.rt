@@ -1,9 +1,9 @@
 //! Questions: a name, and a type that can be asked at it.
 ghost use Rattle.std.specs.Prelude.{◌≡◌, ◌↔◌, IsTrue};
 ghost use Rattle.std.specs.Option.{SomeIff};
-ghost use Rattle.dnsv_canonical.specs.Rrsets.{IsQuestion};
+ghost use Rattle.dnsv_questions.specs.Question.{IsQuestion};
 
-use crate::section::forms_rrsets;
+use dnsv_canonical::forms_rrsets;
 use dnsv_names::{Name, RecordType};
 use std::marker::Model;
 
@@ -15,8 +15,7 @@ pub struct Question {
 }
 
 impl Model for Question {
-    ghost use Rattle.dnsv_canonical.specs.Question.{Asked};
-    ghost use Rattle.dnsv_canonical.specs.Rrsets.{IsQuestion};
+    ghost use Rattle.dnsv_questions.specs.Question.{Asked, IsQuestion};
 
     ghost Value = { Asked };
 
