@@ -1,24 +1,23 @@
 -- What a message adds to the evidence.
-use Rattle.std.proofs.Common.{◌≡◌, ◌⊎◌, inl, inr, ⊎_elim, ℕ, zero, suc, ◌+◌, ◌-◌, ◌<◌, ◌≤◌, Bool, true, false, cond, List, [], ◌∷◌, ◌++◌, length, get_or, map, refl, sym, ap, ◌∙◌, subst, arith, append_assoc, ◌↔◌, IsTrue}
+use Rattle.std.proofs.Common.{◌≡◌, ◌⊎◌, inl, inr, ⊎_elim, ℕ, zero, suc, ◌+◌, ◌-◌, ◌<◌, ◌≤◌, Bool, true, false, cond, List, [], ◌∷◌, ◌++◌, length, get_or, map, refl, sym, ap, ◌∙◌, subst, arith, ◌↔◌, IsTrue}
 use Rattle.std.proofs.lemmas.List.{append-nil}
 use Rattle.std.proofs.lemmas.Bool.{eqb-true, false≢true}
 use Rattle.std.proofs.lemmas.Cmp.{nat_eq_equiv}
 use Rattle.std.specs.Prelude.{filter, flat_map, ◌==◌}
-use Rattle.std.specs.List.{AllByRecursion, AllZip, enumerate_from, fold}
+use Rattle.std.specs.List.{AllByRecursion, AllZip, enumerate_from}
 use Rattle.dnsv_message.specs.declared.record.Record.{Record}
-use Rattle.dnsv_message.specs.declared.record.Section.{Section}
 use Rattle.dnsv_message.specs.declared.record.Section.TheVariants.{Answer, Authority, Additional}
 use Rattle.dnsv_message.specs.Message.{Contents, records_of}
 use Rattle.dnsv_names.specs.PartLaws.{recursion-append}
 use Rattle.dnsv_records.specs.declared.nsec3.Nsec3Parameters.{Nsec3Parameters}
 use Rattle.dnsv_records.specs.declared.rrsig.Rrsig.{Rrsig}
 use Rattle.dnsv_records.specs.Rrsig.{IsRrsig}
-use Rattle.dnsv_canonical.specs.Evidence.{AreParameters, Evidence, AtMost, IsWithinLimits, IsSmall, AreParametersAmong, nsec3_rdata, with_message, evidence_of, signatures_at}
+use Rattle.dnsv_canonical.specs.Evidence.{AreParameters, Evidence, AtMost, IsWithinLimits, IsSmall, AreParametersAmong, nsec3_rdata, with_message, signatures_at}
 use Rattle.dnsv_canonical.specs.Index.Grouping.{IsIndexOf}
 use Rattle.dnsv_canonical.specs.Kept.{IsHeld}
 use Rattle.dnsv_canonical.specs.Rdata.{IsWellFormed}
-use Rattle.dnsv_canonical.specs.Rrsets.{ReceivedRrset, appears_first, first_appearances, rrset_of, rrsets_in, message_rrsets, rrsets_from, rrsets_of}
-use Rattle.dnsv_canonical.proofs.ListLemmas.{each_front, each_behind}
+use Rattle.dnsv_canonical.specs.Rrsets.{ReceivedRrset, appears_first, first_appearances, rrsets_in, message_rrsets}
+use Rattle.dnsv_canonical.proofs.ListLemmas.{each_behind}
 use Rattle.dnsv_canonical.proofs.ParameterLemmas.{nsec3_rdata-append, few_pairs}
 
 -- the RRsets of a message's sections are its RRsets
@@ -28,22 +27,6 @@ drafts_are number message answer authority additional drafts first second third 
     are ∙ (λ i. rrsets_in number Answer (first i) ++ rrsets_in number Authority (second i) ++ rrsets_in number Additional (third i))
 
 -- ---- each RRset
-
--- what holds of each RRset of a section whose records are of a kind holds of each RRset of a message of such records
-module _ (IsKind : Record → Type 0) (P : ReceivedRrset → Type 0)
-    (one : (number : ℕ) (section : Section) (records : List Record) (first : Record) → AllByRecursion IsKind records → P (rrset_of number section records first)) where
-  each_in_section : (number : ℕ) (section : Section) (records firsts : List Record) → AllByRecursion IsKind records → AllByRecursion P (map (rrset_of number section records) firsts)
-  each_in_section number section records [] each = tt
-  each_in_section number section records (first ∷ firsts) each = (one number section records first each, each_in_section number section records firsts each)
-
-  pub each_rrset : (number : ℕ) (message : Contents) → AllByRecursion IsKind (records_of message) → AllByRecursion P (message_rrsets number message)
-  each_rrset number message each =
-      let front = each_front IsKind (message.answer ++ message.authority) message.additional each in
-      recursion-append P (rrsets_in number Answer message.answer ++ rrsets_in number Authority message.authority) (rrsets_in number Additional message.additional)
-      (recursion-append P (rrsets_in number Answer message.answer) (rrsets_in number Authority message.authority)
-      (each_in_section number Answer message.answer _ (each_front IsKind message.answer message.authority front))
-      (each_in_section number Authority message.authority _ (each_behind IsKind message.answer message.authority front)))
-      (each_in_section number Additional message.additional _ (each_behind IsKind (message.answer ++ message.authority) message.additional each))
 
 -- what holds of each element holds of each that appears first
 pub first_appearances_kept : {X : Type 0} (same : X → X → Bool) (P : X → Type 0) (xs : List X) → AllByRecursion P xs → AllByRecursion P (first_appearances same xs)
@@ -110,17 +93,6 @@ grown_is messages records total old message drafts counted is =
     let next : messages + 1 ≡ suc messages = omega arith in
     let more : drafts ≡ message_rrsets (suc messages) message = is ∙ ap (λ n. message_rrsets n message) next in
     λ i. record { messages = next i; records = counted i; rrsets = old ++ more i }
-
--- ---- messages one by one
-
-held_rrsets : (held : Evidence) (messages : List Contents) → (fold with_message held messages).rrsets ≡ held.rrsets ++ rrsets_from (suc held.messages) messages
-held_rrsets held [] = sym (append-nil held.rrsets)
-held_rrsets held (message ∷ messages) =
-    held_rrsets (with_message held message) messages
-    ∙ append_assoc held.rrsets (message_rrsets (suc held.messages) message) (rrsets_from (suc (suc held.messages)) messages)
-
-pub evidence_rrsets : (messages : List Contents) → (evidence_of messages).rrsets ≡ rrsets_of messages
-evidence_rrsets messages = held_rrsets _ messages
 
 -- ---- the signatures of the RRset with a number
 

@@ -1,6 +1,5 @@
 pub mod CanonicalLemmas
 pub mod EvidenceLemmas
-pub mod FormLemmas
 pub mod GroupLemmas
 pub mod ByRrsetLemmas
 pub mod IndexLemmas
@@ -10,6 +9,4 @@ pub mod NumberLemmas
 pub mod ParameterLemmas
 pub mod ReadableLemmas
 pub mod SignedLemmas
-pub mod LawLemmas
-pub mod OneReason
 pub mod OrderLemmas

@@ -1,5 +1,5 @@
 -- Records one after another in the signed data.
-use Rattle.std.proofs.Common.{◌≡◌, ℕ, ◌+◌, ◌-◌, ◌<◌, ◌≤◌, List, [], ◌∷◌, ◌++◌, length, get_or, take, drop, map, Option, Some, None, false, refl, sym, ap, ◌∙◌, append_assoc, arith, length-append}
+use Rattle.std.proofs.Common.{◌≡◌, ℕ, ◌+◌, ◌-◌, ◌<◌, ◌≤◌, List, [], ◌∷◌, ◌++◌, length, get_or, take, drop, map, Option, Some, None, false, refl, sym, ap, ◌∙◌, append_assoc, arith, length-append, ◌↔◌}
 use Rattle.std.proofs.lemmas.List.{append-nil, flat_map_more, length-map, map_more, take-append-drop}
 use Rattle.std.specs.Borrow.{Bor}
 use Rattle.std.specs.Char.{to_ascii_lowercase}
@@ -11,9 +11,9 @@ use Rattle.dnsv_names.specs.Name.{Labels}
 use Rattle.dnsv_records.specs.declared.rrsig.Rrsig.{Rrsig}
 use Rattle.dnsv_canonical.specs.Canonical.{IsCanonical}
 use Rattle.dnsv_canonical.specs.CanonicalRdata.{octets_around_names, names_lowered, canonical_form}
-use Rattle.dnsv_canonical.specs.SignedData.{signed_front, signed_owner, signed_record, IsSignedData}
+use Rattle.dnsv_canonical.specs.SignedData.{signed_front, signed_label_count, signed_owner, signed_record, IsSignedData}
 use Rattle.dnsv_canonical.specs.SignedRecords.{AddsSigned}
-use Rattle.dnsv_canonical.proofs.CanonicalLemmas.{IsMember-from_contains, canonical_unique, member_passes}
+use Rattle.dnsv_canonical.proofs.CanonicalLemmas.{IsMember-from_contains, canonical_some, canonical_unique, member_passes}
 
 -- one more record at the end, written in three parts
 pub records_more : {X : Type 0} (f : X → List ℕ) (record_of : List ℕ → List ℕ) (start before after front size : List ℕ) (xs : List X) (i : ℕ) (d : X) → i < length xs → record_of (f (get_or xs i d)) ≡ front ++ size ++ f (get_or xs i d) → before ≡ start ++ flat_map record_of (map f (take i xs)) → after ≡ before ++ front ++ size ++ f (get_or xs i d) → after ≡ start ++ flat_map record_of (map f (take (i + 1) xs))
@@ -59,6 +59,14 @@ signed_data_unique owner rtype received rrsig (Some a) (Some b) signed other =
     let octets_of : List (List ℕ) → List ℕ = λ canonical. signed_front rrsig ++ flat_map (signed_record (signed_owner owner rrsig.labels) rtype rrsig.original_ttl.0) canonical in
     let lists : signed.1 ≡ other.1 = canonical_unique (map (canonical_form rtype) received) signed.1 other.1 signed.2 other.2 in
     ap Some (signed.3 ∙ ap octets_of lists ∙ sym other.3)
+
+-- ---- where there is signed data
+
+pub signed_somehow : (owner : Labels) (rtype : ℕ) (received : List (List ℕ)) (rrsig : Rrsig) → ((octets : List ℕ) × IsSignedData owner rtype received rrsig (Some octets)) ↔ (rrsig.labels ≤ signed_label_count owner)
+signed_somehow owner rtype received rrsig = (
+  λ signed. signed.1.0,
+  λ within. let canonical = canonical_some (map (canonical_form rtype) received) in (_, (within, canonical.0, canonical.1, refl)),
+)
 
 -- ---- lengths
 

@@ -22,9 +22,3 @@ pub fn canonical_rdata<'a>(
     sorted.dedup();
     Ok(sorted)
 }
-
-/// A law of canonical order: whatever RDATA is received, one list of it is canonical.
-pub fn one_canonical_list()
-    ensures some { (received : List (List ℕ)) → (canonical : List (List ℕ)) × IsCanonical received canonical }
-    ensures one { (received a b : List (List ℕ)) → IsCanonical received a → IsCanonical received b → a ≡ b }
-{}

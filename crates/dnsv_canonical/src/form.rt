@@ -1,14 +1,7 @@
 //! RDATA in canonical form: the names in it are in lower case.
-ghost use Rattle.std.specs.Prelude.{◌≡◌, ◌++◌, ℕ, List, Contains, IfOk, take, drop, map, filter};
-ghost use Rattle.std.specs.List.{AllByRecursion};
-ghost use Rattle.dnsv_names.specs.Name.{Labels, lower_case};
-ghost use Rattle.dnsv_message.specs.Grammar.{IsMessage};
-ghost use Rattle.dnsv_message.specs.Message.{Contents};
-ghost use Rattle.dnsv_message.specs.Parts.{AreParts, HasParts, rdata_of};
-ghost use Rattle.dnsv_canonical.specs.CanonicalRdata.{octets_around_names, listed_types, lowered_types, lowered_but_last, canonical_form};
-ghost use Rattle.dnsv_canonical.specs.Rrsets.{forms_rrsets, rrsets_of};
+ghost use Rattle.std.specs.Prelude.{◌≡◌, ◌++◌, IfOk, take, drop, map};
+ghost use Rattle.dnsv_canonical.specs.CanonicalRdata.{octets_around_names, lowered_but_last, canonical_form};
 
-use dnsv_message::messages_fit;
 use dnsv_names::RecordType;
 use std::alloc::{AllocError, Global};
 
@@ -26,26 +19,6 @@ pub fn canonical_forms(
         forms.push(canonical_form(alloc, rtype, rdata)?)?;
     }
     Ok(forms)
-}
-
-/// A law of canonical form: the names in the RDATA of NS, CNAME, SOA, PTR, MX, SRV and DNAME are in lower case, and
-/// everything else is as received.
-pub fn canonical_form_lowers_the_names()
-    ensures lowered { (rtype : ℕ) → Contains lowered_types rtype
-        → (before : List ℕ) (names : List Labels) (behind : List ℕ)
-        → AreParts rtype 1 before names behind
-        → canonical_form rtype (rdata_of before names behind) ≡ rdata_of before (map lower_case names) behind }
-    ensures kept { (rtype : ℕ) → ¬ Contains lowered_types rtype
-        → (rdata : List ℕ) → canonical_form rtype rdata ≡ rdata }
-    // No other type that the standard lists forms an RRset.
-    ensures listed { filter forms_rrsets listed_types ≡ lowered_types }
-    // The next name of NSEC keeps its spelling.
-    ensures nsec { (rdata : List ℕ) → canonical_form 47 rdata ≡ rdata }
-    // All RDATA of the RRsets of messages has the parts that its type asks for.
-    ensures parts { (messages : List Contents) → AllByRecursion IsMessage messages
-        → AllByRecursion (λ rrset. AllByRecursion (HasParts rrset.rtype 1) rrset.rdata) (rrsets_of messages) }
-{
-    messages_fit();
 }
 
 /// The vectors' octets.

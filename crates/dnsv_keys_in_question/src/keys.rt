@@ -13,12 +13,13 @@ ghost use Rattle.dnsv_derivations.specs.Listing.{AddsThose, AreOfNumbered};
 ghost use Rattle.dnsv_derivations.specs.derivations.Ways.{record_at};
 
 use crate::zones::is_in_question;
-use dnsv_canonical::{RecordNumber, Rrset, in_canonical_order};
+use dnsv_canonical::{RecordNumber, Rrset};
 use dnsv_chain::{is_anchor_match, is_usable};
 use dnsv_derivations::{DigestedKey, Evidence, is_ds_match, key_name, keys_in_order, lowest_good};
 use dnsv_lines::{Line, ShownKey};
 use dnsv_names::{Name, RecordType};
 use dnsv_records::Ds;
+use dnsv_rrsets::in_canonical_order;
 use dnsv_verifier::KeyRecord;
 use std::alloc::{AllocError, Global};
 

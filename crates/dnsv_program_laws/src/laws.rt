@@ -8,7 +8,7 @@ ghost use Rattle.dnsv_files.specs.declared.status.Status.{Status};
 ghost use Rattle.dnsv_files.specs.declared.status.Fault.{Fault};
 ghost use Rattle.dnsv_commands.specs.declared.request.Request.{Request};
 
-use dnsv_canonical::{evidence_or_one_refusal, one_signed_data};
+use dnsv_canonical::one_signed_data;
 use dnsv_chain::a_text_is_one_list_of_anchors;
 use dnsv_explain_laws::a_report_has_one_explanation;
 use dnsv_message::{no_fault_of_a_message, one_answer, one_fault, one_message};
@@ -17,6 +17,7 @@ use dnsv_moment_laws::{
 };
 use dnsv_names::a_text_has_one_reading;
 use dnsv_records::record_laws;
+use dnsv_rrsets::evidence_or_one_refusal;
 use dnsv_tsig::{one_answer as one_opened, one_ring_or_fault};
 use dnsv_verdict::a_question_leads_one_way;
 use dnsv_verifier::a_table_is_its_verifier;

@@ -5,10 +5,10 @@ use Rattle.dnsv_records.specs.Rrsig.{IsRrsig}
 use Rattle.dnsv_records.specs.declared.rrsig.Rrsig.{Rrsig}
 use Rattle.dnsv_canonical.specs.Canonical.{IsCanonical}
 use Rattle.dnsv_canonical.specs.Rrsets.{IsNumbered, ReceivedRrset}
-use Rattle.dnsv_canonical.specs.declared.canonical_order.ReadRecord.{ReadRecord}
 use Rattle.dnsv_canonical.specs.declared.number.SignatureNumber.{SignatureNumber}
 use Rattle.dnsv_canonical.proofs.CanonicalLemmas.{canonical_unique}
 use Rattle.dnsv_canonical.proofs.NumberLemmas.{one_numbered}
+use Rattle.dnsv_rrsets.specs.declared.canonical_order.ReadRecord.{ReadRecord}
 use Rattle.dnsv_proof_forms.proofs.lemmas.PlaceLemmas.{mapped_at}
 use Rattle.dnsv_denial.proofs.lemmas.proving.ZoneChainLemmas.{unmapped_at}
 use Rattle.dnsv_chain.proofs.NumberedLemmas.{rdata_at, rrsig_at}

@@ -3,12 +3,13 @@ ghost use Rattle.std.specs.Prelude.{◌≡◌, IfOk, MatchOption};
 ghost use Rattle.dnsv_lines.specs.declared.line.fault.zone.Entry.{Entry};
 ghost use Rattle.dnsv_trust_reasons.specs.Places.{IsAnchorEntry, IsDsEntry, IsEntry, anchor_digest, anchor_entry, ds_entry};
 
-use dnsv_canonical::{Capture, RecordNumber, Rrset, in_canonical_order, numbered};
+use dnsv_canonical::{Capture, RecordNumber, Rrset, numbered};
 use dnsv_chain::Anchor;
 use dnsv_faults::CaseFacts;
 use dnsv_lines::{Entry, EntryNumber, KeyName};
 use dnsv_names::RecordType;
 use dnsv_records::{DigestType, Ds};
+use dnsv_rrsets::in_canonical_order;
 use dnsv_zone_faults::anchor_key_name;
 use std::alloc::{AllocError, Global};
 

@@ -3,10 +3,11 @@ ghost use Rattle.std.specs.Prelude.{IfOk, MatchOption};
 ghost use Rattle.dnsv_lines.specs.declared.line.derivation.KeyName.{KeyName};
 ghost use Rattle.dnsv_trust_reasons.specs.Places.{IsKeyAt};
 
-use dnsv_canonical::{Rrset, in_canonical_order, numbered};
+use dnsv_canonical::{Rrset, numbered};
 use dnsv_lines::KeyName;
 use dnsv_names::RecordType;
 use dnsv_records::{KeyTag, key_tag};
+use dnsv_rrsets::in_canonical_order;
 use std::alloc::{AllocError, Global};
 
 /// The tag and the algorithm of the key at the place of the RRset, if it has one.

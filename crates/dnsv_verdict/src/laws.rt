@@ -17,8 +17,8 @@ ghost use Rattle.dnsv_chain.specs.Basis.{Basis, HasAnchor, with_meaning};
 ghost use Rattle.dnsv_verdict.specs.Verdict.{IsSettledVerdict, IsVerdictAt, IsSettledBy};
 
 use crate::verdict::Verdict;
-use dnsv_canonical::earlier_rrsets_keep_their_numbers;
 use dnsv_chain::{more_evidence_takes_no_trust_away, trust_depends_on_what_is_asked};
+use dnsv_rrsets::earlier_rrsets_keep_their_numbers;
 
 /// A question has at most one verdict, so none can be given in place of another.
 pub fn a_question_has_one_verdict()

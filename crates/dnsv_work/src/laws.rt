@@ -10,8 +10,9 @@ ghost use Rattle.dnsv_work.specs.Showing.{IsShowing};
 ghost use Rattle.dnsv_files.specs.declared.status.Place.{Place};
 ghost use Rattle.dnsv_files.specs.declared.status.Refusal.{Refusal};
 
-use dnsv_canonical::{evidence_or_one_refusal, one_signed_data, rrsets_are_well_formed};
+use dnsv_canonical::one_signed_data;
 use dnsv_message::{message_or_fault, no_fault_of_memory, one_answer};
+use dnsv_rrsets::{evidence_or_one_refusal, rrsets_are_well_formed};
 
 /// A file of octets is shown, or refused, or has an octet too many.
 pub fn every_file_is_shown_or_refused()

@@ -14,9 +14,10 @@ ghost use Rattle.dnsv_zone_keys.specs.Keys.ZoneSearch.{AreKeysOf, IsOf};
 
 use crate::keys::placed::PlacedKey;
 use crate::keys::standing::standing_keys;
-use dnsv_canonical::{Capture, ReadRecord};
+use dnsv_canonical::Capture;
 use dnsv_names::Name;
 use dnsv_records::{Dnskey, Rrsig};
+use dnsv_rrsets::ReadRecord;
 use dnsv_verifier::KeyRecord;
 use std::alloc::{AllocError, Global};
 use std::collections::BTreeSet;

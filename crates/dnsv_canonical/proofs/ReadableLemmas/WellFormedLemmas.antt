@@ -12,6 +12,7 @@ use Rattle.dnsv_names.specs.Name.{Labels}
 use Rattle.dnsv_names.specs.Octets.{number_at}
 use Rattle.dnsv_message.specs.Fits.{FitsMessage, FitsRecord}
 use Rattle.dnsv_message.specs.Message.{Contents, records_of}
+use Rattle.dnsv_message.specs.Parts.{HasParts}
 use Rattle.dnsv_message.specs.declared.record.Record.{Record}
 use Rattle.dnsv_message.specs.declared.record.Section.{Section}
 use Rattle.dnsv_message.specs.declared.record.Section.TheVariants.{Answer, Authority, Additional}
@@ -25,7 +26,6 @@ use Rattle.dnsv_canonical.proofs.CanonicalLemmas.{IsMember, each_map}
 use Rattle.dnsv_canonical.proofs.ListLemmas.{each_behind, each_chosen, each_front}
 use Rattle.dnsv_canonical.proofs.GroupLemmas.{same_rrset_itself}
 use Rattle.dnsv_canonical.proofs.EvidenceLemmas.{first_appearances_kept}
-use Rattle.dnsv_canonical.proofs.FormLemmas.{own_parts}
 
 -- ---- a record that can be read
 
@@ -39,6 +39,12 @@ each_good [] fits can = tt
 each_good (r ∷ rs) fits can = (record { fits = fits.0; can = can.0 }, each_good rs fits.1 can.1)
 
 -- ---- what an RRset's records hold
+
+pub own_parts : (first r : Record) → FitsRecord r → is_grouped r ≡ true → same_rrset first r ≡ true → HasParts first.rtype.0 1 r.rdata
+own_parts first r fits grouped same =
+    let class : r.class.0 ≡ 1 = eqb-true _ _ (and_parts _ _ grouped).0 in
+    let rtype : r.rtype.0 ≡ first.rtype.0 = sym (eqb-true _ _ (and_parts (first.rtype.0 == r.rtype.0) _ same).0) in
+    subst (λ n. HasParts n 1 r.rdata) rtype (subst (λ n. HasParts r.rtype.0 n r.rdata) class fits.parts)
 
 own_rdata : (first r : Record) → IsGood r → is_grouped r ≡ true → same_rrset first r ≡ true → IsRdata first.rtype.0 r.rdata
 own_rdata first r good grouped same =

@@ -5,9 +5,10 @@ ghost use Rattle.std.specs.Ordering.{nat_cmp};
 ghost use Rattle.dnsv_canonical.specs.Rrsets.{IsNumbered, ReceivedRrset};
 ghost use Rattle.dnsv_denial.specs.gathering.Gathered.{AreNsecs};
 
-use dnsv_canonical::{Capture, RecordNumber, Rrset, in_canonical_order};
+use dnsv_canonical::{Capture, RecordNumber, Rrset};
 use dnsv_names::RecordType;
 use dnsv_proof_forms::NsecEntry;
+use dnsv_rrsets::in_canonical_order;
 use std::alloc::{AllocError, Global};
 
 /// The NSEC records of the RRsets with these rising numbers, in the order of their numbers.

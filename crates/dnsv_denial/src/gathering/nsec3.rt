@@ -7,10 +7,11 @@ ghost use Rattle.dnsv_canonical.specs.Rrsets.{IsNumbered, ReceivedRrset};
 ghost use Rattle.dnsv_denial.specs.gathering.Evidence.{IsHashedOwner};
 ghost use Rattle.dnsv_denial.specs.gathering.Gathered.{AreNsec3s, IsEntryOf};
 
-use dnsv_canonical::{Capture, RecordNumber, Rrset, in_canonical_order};
+use dnsv_canonical::{Capture, RecordNumber, Rrset};
 use dnsv_names::{Hash20, Name, RecordType};
 use dnsv_proof_forms::Nsec3Entry;
 use dnsv_records::{Nsec3, base32hex_read};
+use dnsv_rrsets::in_canonical_order;
 use std::alloc::{AllocError, Global};
 
 /// The usable NSEC3 records of the RRsets with these rising numbers, one label in front of the zone, in the order of their

@@ -13,12 +13,13 @@ use crate::derivations::lowest_secured;
 use crate::derivations::own::add_derivation;
 use crate::derivations::ways::by_ds::may_delegate;
 use crate::evidence::Evidence;
-use dnsv_canonical::{RecordNumber, Rrset, in_canonical_order, numbered};
+use dnsv_canonical::{RecordNumber, Rrset, numbered};
 use dnsv_chain::has_usable;
 use dnsv_digest::DigestAlgorithm;
 use dnsv_lines::{InsecureCase, KeyName, Line, UnusableDs, WhyUnusable};
 use dnsv_names::Name;
 use dnsv_records::Ds;
+use dnsv_rrsets::in_canonical_order;
 use std::alloc::{AllocError, Global};
 
 /// Adds the lines of the name's first DS RRset that has a good signature and no record that can be used: the derivation

@@ -10,12 +10,13 @@ ghost use Rattle.dnsv_lines.specs.declared.line.fault.denial.WhyNsec3.{WhyNsec3}
 ghost use Rattle.dnsv_remedies.specs.declared.facts.name.UnusableFacts.{UnusableFacts};
 
 use crate::denials::has_signer;
-use dnsv_canonical::{Capture, RecordNumber, Rrset, in_canonical_order};
+use dnsv_canonical::{Capture, RecordNumber, Rrset};
 use dnsv_denial::owner_hash;
 use dnsv_lines::WhyNsec3;
 use dnsv_names::{Name, RecordType};
 use dnsv_records::{HashAlgorithm, Iterations, Nsec3, base32hex_read};
 use dnsv_remedies::UnusableFacts;
+use dnsv_rrsets::in_canonical_order;
 use std::alloc::{AllocError, Global};
 
 /// The NSEC3 records of the RRsets with these rising numbers that are of no source of the zone and can't be used, by their

@@ -13,8 +13,8 @@ use Rattle.dnsv_canonical.specs.Rrsets.{ReceivedRrset, first_appearances}
 use Rattle.dnsv_canonical.proofs.CanonicalLemmas.{canonical_unique}
 use Rattle.dnsv_canonical.proofs.OrderLemmas.{each_kept, each_of}
 use Rattle.dnsv_canonical.proofs.NumberLemmas.{each_number, IsOneAt, one_numbered}
-use Rattle.dnsv_canonical.specs.declared.canonical_order.ReadRecord.{ReadRecord}
 use Rattle.dnsv_records.specs.declared.dnskey.Dnskey.{Dnskey}
+use Rattle.dnsv_rrsets.specs.declared.canonical_order.ReadRecord.{ReadRecord}
 use Rattle.dnsv_verifier.specs.Admissible.{DnskeyRecord}
 use Rattle.dnsv_zone_keys.specs.Keys.Index.{HasPlaced, HaveAllOf, IsPlaced, Placed}
 use Rattle.dnsv_zone_keys.specs.Keys.{AreRecordsOf, AreStanding, AreZoneKeys, IsKeyPlaced}

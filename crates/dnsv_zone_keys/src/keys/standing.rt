@@ -7,9 +7,10 @@ ghost use Rattle.dnsv_records.specs.Dnskey.{IsDnskey};
 ghost use Rattle.dnsv_zone_keys.specs.Keys.{AreStanding};
 ghost use Rattle.dnsv_zone_keys.specs.Keys.ZoneSearch.{AddsRecords, IsDnskeyNumber};
 
-use dnsv_canonical::{Capture, ReadRecord, in_canonical_order};
+use dnsv_canonical::Capture;
 use dnsv_names::{Name, RecordType};
 use dnsv_records::Dnskey;
+use dnsv_rrsets::{ReadRecord, in_canonical_order};
 use std::alloc::{AllocError, Global};
 
 /// The records of the zone's DNSKEY RRsets, those of each in canonical order.

@@ -1,5 +1,4 @@
-use Rattle.dnsv_canonical.proofs.LawLemmas.{signed_somehow}
-use Rattle.dnsv_canonical.proofs.SignedLemmas.{signed_data_unique}
+use Rattle.dnsv_canonical.proofs.SignedLemmas.{signed_data_unique, signed_somehow}
 use Rattle.dnsv_canonical.proofs.laws.one_signed_data.Goals as goal
 
 pub returns-clause-one : goal.returns-clause-one

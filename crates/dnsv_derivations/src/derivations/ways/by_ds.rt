@@ -9,10 +9,11 @@ use crate::derivations::ways::FoundWay;
 use crate::derivations::ways::keys::KeySet;
 use crate::derivations::ways::matcher::{Matcher, way_with};
 use crate::evidence::Evidence;
-use dnsv_canonical::{RecordNumber, Rrset, in_canonical_order, numbered};
+use dnsv_canonical::{RecordNumber, Rrset, numbered};
 use dnsv_chain::is_usable;
 use dnsv_lines::Voucher;
 use dnsv_names::{Name, RecordType};
+use dnsv_rrsets::in_canonical_order;
 use std::alloc::{AllocError, Global};
 
 /// The first way into the DNSKEY RRset by a DS record: by the DS RRset of lowest number that has a signature which is

@@ -7,9 +7,10 @@ ghost use Rattle.dnsv_derivations.specs.derivations.WaySearch.{AreKeysInOrder, A
 
 use crate::digested::DigestedKey;
 use crate::evidence::Evidence;
-use dnsv_canonical::{ReadRecord, Rrset, in_canonical_order};
+use dnsv_canonical::Rrset;
 use dnsv_lines::{KeyName, Todo};
 use dnsv_records::Dnskey;
+use dnsv_rrsets::{ReadRecord, in_canonical_order};
 use dnsv_verifier::KeyRecord;
 use std::alloc::{AllocError, Global};
 

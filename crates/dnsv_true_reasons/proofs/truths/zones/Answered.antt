@@ -15,7 +15,6 @@ use Rattle.dnsv_canonical.specs.Index.{numbers_at}
 use Rattle.dnsv_canonical.specs.Rdata.{IsSignatureOver, IsWellFormed}
 use Rattle.dnsv_canonical.specs.Rrsets.{ReceivedRrset}
 use Rattle.dnsv_canonical.specs.SignedData.{signed_label_count}
-use Rattle.dnsv_canonical.proofs.LawLemmas.{first_appearances_members, signed_somehow}
 use Rattle.dnsv_canonical.proofs.OrderLemmas.{each_of}
 use Rattle.dnsv_zone_keys.specs.Answers.{IsAnswered, IsKeyAnswer}
 use Rattle.dnsv_zone_keys.specs.Keys.{IsKeyPlaced}
@@ -24,6 +23,8 @@ use Rattle.dnsv_zone_faults.proofs.lemmas.zones.PlaceLemmas.{contains_at}
 use Rattle.dnsv_zone_faults.proofs.lemmas.zones.TrustLemmas.{numbered_among, true_by}
 use Rattle.dnsv_zone_faults.proofs.lemmas.zones.InPlaceLemmas.{stands_in}
 use Rattle.dnsv_canonical.proofs.NumberLemmas.{each_number, IsOneAt, one_numbered}
+use Rattle.dnsv_rrsets.proofs.LawLemmas.{first_appearances_members}
+use Rattle.dnsv_canonical.proofs.SignedLemmas.{signed_somehow}
 use Rattle.dnsv_mending.specs.declared.facts.signature.KeyAnswer.TheVariants as said
 use Rattle.dnsv_mending.specs.declared.facts.signature.SignatureFaults.{SignatureFaults}
 use Rattle.dnsv_lines.specs.declared.line.fault.signature.SignatureTimes.{SignatureTimes}

@@ -5,8 +5,8 @@ use Rattle.dnsv_records.specs.Ds.{IsDs}
 use Rattle.dnsv_records.specs.declared.ds.Ds.{Ds}
 use Rattle.dnsv_canonical.specs.Canonical.{IsCanonical}
 use Rattle.dnsv_canonical.specs.Rrsets.{ReceivedRrset}
-use Rattle.dnsv_canonical.specs.declared.canonical_order.ReadRecord.{ReadRecord}
 use Rattle.dnsv_canonical.proofs.NumberLemmas.{one_numbered}
+use Rattle.dnsv_rrsets.specs.declared.canonical_order.ReadRecord.{ReadRecord}
 use Rattle.dnsv_proof_forms.proofs.lemmas.PlaceLemmas.{each_at}
 use Rattle.dnsv_lines.specs.declared.line.fault.zone.Entry.{Entry}
 use Rattle.dnsv_trust_reasons.specs.Places.{IsDsEntry, IsPlaced}

@@ -4,7 +4,7 @@ use Rattle.std.specs.List.{AllByRecursion}
 use Rattle.dnsv_records.specs.Dnskey.{IsDnskey}
 use Rattle.dnsv_records.specs.declared.dnskey.Dnskey.{Dnskey}
 use Rattle.dnsv_canonical.specs.Canonical.{IsCanonical}
-use Rattle.dnsv_canonical.specs.declared.canonical_order.ReadRecord.{ReadRecord}
+use Rattle.dnsv_rrsets.specs.declared.canonical_order.ReadRecord.{ReadRecord}
 use Rattle.dnsv_proof_forms.proofs.lemmas.PlaceLemmas.{each_at}
 use Rattle.dnsv_trust_reasons.proofs.PlaceLemmas.{none_placed, some_placed}
 use Rattle.dnsv_trust_reasons.proofs.key.key_at.Goals as goal

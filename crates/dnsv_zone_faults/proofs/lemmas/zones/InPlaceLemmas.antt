@@ -12,11 +12,11 @@ use Rattle.dnsv_records.specs.declared.rrsig.Rrsig.{Rrsig}
 use Rattle.dnsv_canonical.specs.Index.{numbers_at}
 use Rattle.dnsv_canonical.specs.Rdata.{IsWellFormed}
 use Rattle.dnsv_canonical.specs.Rrsets.{IsNumbered, ReceivedRrset}
-use Rattle.dnsv_canonical.proofs.LawLemmas.{first_appearances_members}
 use Rattle.dnsv_canonical.proofs.OrderLemmas.{each_of, zip_at, zip_from, zip_length}
 use Rattle.dnsv_verifier.specs.Admissible.{MaySign}
 use Rattle.dnsv_chain.specs.Basis.{Basis}
 use Rattle.dnsv_canonical.proofs.NumberLemmas.{each_number, IsOneAt, one_numbered}
+use Rattle.dnsv_rrsets.proofs.LawLemmas.{first_appearances_members}
 use Rattle.dnsv_mending.specs.InPlace.{IsHeld, IsInPlace, IsRrsetInPlace, IsSignerInPlace}
 use Rattle.dnsv_mending.specs.Mend.{is_none}
 use Rattle.dnsv_mending.specs.Ways.{IsAmong}

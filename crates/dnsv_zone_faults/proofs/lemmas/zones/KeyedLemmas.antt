@@ -8,8 +8,8 @@ use Rattle.dnsv_canonical.specs.Canonical.{rdata_cmp}
 use Rattle.dnsv_names.specs.Name.{Labels, SameName}
 use Rattle.dnsv_records.specs.Dnskey.{IsDnskey}
 use Rattle.dnsv_canonical.specs.Rrsets.{ReceivedRrset}
-use Rattle.dnsv_canonical.specs.declared.canonical_order.ReadRecord.{ReadRecord}
 use Rattle.dnsv_records.specs.declared.dnskey.Dnskey.{Dnskey}
+use Rattle.dnsv_rrsets.specs.declared.canonical_order.ReadRecord.{ReadRecord}
 use Rattle.dnsv_verifier.specs.Admissible.{DnskeyRecord}
 use Rattle.dnsv_zone_faults.specs.Dnskeys.DnskeySearch.{AreKeyed, AreVouched, IsKeyIn, IsSetOf, basis_in, rdata_of}
 use Rattle.dnsv_zone_keys.specs.Keys.{AreZoneKeys, IsKeyPlaced}

@@ -11,7 +11,6 @@ use Rattle.dnsv_records.proofs.OneRecord.{one_dnskey}
 use Rattle.dnsv_canonical.specs.Evidence.{IsDistinct}
 use Rattle.dnsv_canonical.specs.Index.{numbers_at}
 use Rattle.dnsv_canonical.specs.Rrsets.{IsNumbered, ReceivedRrset}
-use Rattle.dnsv_canonical.proofs.LawLemmas.{first_appearances_members, first_appearances_once}
 use Rattle.dnsv_canonical.proofs.OrderLemmas.{each_of}
 use Rattle.dnsv_chain.specs.Trusted.{IsKeyOf}
 use Rattle.dnsv_chain.proofs.NumberedLemmas.{numbers_are}
@@ -22,6 +21,7 @@ use Rattle.dnsv_zone_faults.specs.Dnskeys.DnskeySearch.{AreKeyRecords, AreKeysIn
 use Rattle.dnsv_zone_faults.specs.Dnskeys.PlaceSearch.{HasOther}
 use Rattle.dnsv_zone_keys.proofs.lemmas.ZoneKeyLemmas.{one_zone_keys}
 use Rattle.dnsv_canonical.proofs.NumberLemmas.{one_numbered}
+use Rattle.dnsv_rrsets.proofs.LawLemmas.{first_appearances_members, first_appearances_once}
 
 -- what stands at a place is one of the list
 pub contains_at : {X : Type 0} (xs : List X) (i : ℕ) (x : X) → slice_get xs i ≡ Some x → Contains xs x

@@ -6,8 +6,9 @@ ghost use Rattle.dnsv_zone_faults.specs.Dnskeys.DnskeySearch.{AreKeyed, AreKeysI
 use crate::zone::dnskeys::own::own_signatures;
 use crate::zone::dnskeys::tagged::OwnSignatures;
 use crate::zone::keyed::{KeyedZone, find};
-use dnsv_canonical::{Rrset, in_canonical_order};
+use dnsv_canonical::Rrset;
 use dnsv_records::Dnskey;
+use dnsv_rrsets::in_canonical_order;
 use dnsv_verifier::KeyRecord;
 use dnsv_zone_keys::PlacedKey;
 use std::alloc::{AllocError, Global};

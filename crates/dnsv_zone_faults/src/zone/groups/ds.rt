@@ -7,7 +7,7 @@ ghost use Rattle.dnsv_zone_faults.specs.Groups.{AreAllDsFacts};
 ghost use Rattle.dnsv_zone_faults.specs.Groups.GroupSearch.{AddsDs, AreIgnoredTypes, AreRecordsKnown, HasStronger, IsDsNumber};
 ghost use Rattle.dnsv_zone_keys.specs.Vouchers.VoucherSearch.{AreKeysOfZone};
 
-use dnsv_canonical::{RecordNumber, Rrset, in_canonical_order};
+use dnsv_canonical::{RecordNumber, Rrset};
 use dnsv_chain::goes_before;
 use dnsv_digest::DigestAlgorithm;
 use dnsv_faults::{CaseFacts, facts_of};
@@ -15,6 +15,7 @@ use dnsv_lines::EntryNumber;
 use dnsv_mending::{DsFacts, VoucherFacts};
 use dnsv_names::{Name, RecordType};
 use dnsv_records::{DigestType, Ds};
+use dnsv_rrsets::in_canonical_order;
 use dnsv_zone_keys::{Asked, ZoneKeys, voucher_facts};
 use std::alloc::{AllocError, Global};
 

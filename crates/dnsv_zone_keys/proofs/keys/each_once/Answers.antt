@@ -1,8 +1,8 @@
 use Rattle.std.proofs.Common.{List, ℕ, ap, sym, subst, ◌∙◌, arith, map}
 use Rattle.std.specs.List.{AllByRecursion}
 use Rattle.dnsv_canonical.proofs.ListLemmas.{each_at}
-use Rattle.dnsv_canonical.specs.declared.canonical_order.ReadRecord.{ReadRecord}
 use Rattle.dnsv_records.specs.declared.dnskey.Dnskey.{Dnskey}
+use Rattle.dnsv_rrsets.specs.declared.canonical_order.ReadRecord.{ReadRecord}
 use Rattle.dnsv_verifier.specs.Admissible.{DnskeyRecord}
 use Rattle.dnsv_zone_keys.specs.Keys.Index.{Placed}
 use Rattle.dnsv_zone_keys.specs.Keys.ZoneSearch.{IsOf, IsRead}

@@ -4,8 +4,8 @@ use Rattle.std.proofs.lemmas.List.Elements.{Contains-get_or}
 use Rattle.std.specs.List.{AllByRecursion}
 use Rattle.std.specs.Prelude.{Contains}
 use Rattle.dnsv_canonical.specs.Canonical.{IsCanonical}
-use Rattle.dnsv_canonical.specs.declared.canonical_order.ReadRecord.{ReadRecord}
 use Rattle.dnsv_records.specs.declared.dnskey.Dnskey.{Dnskey}
+use Rattle.dnsv_rrsets.specs.declared.canonical_order.ReadRecord.{ReadRecord}
 use Rattle.dnsv_verifier.proofs.NumberLemmas.{contains_map}
 use Rattle.dnsv_zone_faults.specs.Dnskeys.DnskeySearch.{IsKeyIn, rdata_of}
 use Rattle.dnsv_zone_keys.specs.Keys.Index.{Placed}

@@ -1,10 +1,10 @@
 use Rattle.std.proofs.Common.{◌+◌, List, map, subst, sym, take, ◌∙◌}
 use Rattle.std.proofs.lemmas.List.{take_all}
 use Rattle.std.specs.List.{AllByRecursion}
-use Rattle.dnsv_canonical.specs.declared.canonical_order.ReadRecord.{ReadRecord}
 use Rattle.dnsv_mending.specs.declared.facts.keys.VoucherFacts.{VoucherFacts}
 use Rattle.dnsv_records.specs.Ds.{IsDs}
 use Rattle.dnsv_records.specs.declared.ds.Ds.{Ds}
+use Rattle.dnsv_rrsets.specs.declared.canonical_order.ReadRecord.{ReadRecord}
 use Rattle.dnsv_zone_faults.specs.Groups.{AreRecordFacts}
 use Rattle.dnsv_zone_faults.proofs.lemmas.GroupLemmas.{ds_read, octets, record_next}
 use Rattle.dnsv_zone_faults.proofs.zone.groups.ds.record_facts.Goals as goal

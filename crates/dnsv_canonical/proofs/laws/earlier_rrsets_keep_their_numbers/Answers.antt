@@ -1,5 +1,0 @@
-use Rattle.dnsv_canonical.proofs.LawLemmas.{rrsets_of-append}
-use Rattle.dnsv_canonical.proofs.laws.earlier_rrsets_keep_their_numbers.Goals as goal
-
-pub returns : goal.returns
-returns c = rrsets_of-append

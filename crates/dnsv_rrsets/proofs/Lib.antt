@@ -1,0 +1,5 @@
+pub mod AppearanceLemmas
+pub mod FormLemmas
+pub mod LawLemmas
+pub mod OneReason
+pub mod OrderLemmas
