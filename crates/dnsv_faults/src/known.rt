@@ -4,7 +4,7 @@ pub mod speakers;
 
 ghost use Rattle.std.specs.Prelude.{◌≡◌, ◌↔◌, ◌<◌, ◌≤◌, IfOk, IsTrue, length};
 ghost use Rattle.dnsv_names.specs.Name.{rightmost};
-ghost use Rattle.dnsv_chain.specs.Basis.{basis_by};
+ghost use Rattle.dnsv_chain.specs.Basis.{HasAnchor, basis_by};
 ghost use Rattle.dnsv_faults.specs.KnownZones.KnownSearch.{AreSpoken};
 ghost use Rattle.dnsv_faults.specs.KnownZones.{AreKnownZones, HasOwnAnchor, HasRrset, IsKnownZone};
 
@@ -73,8 +73,18 @@ fn is_proper(name: &Name, rtype: RecordType, labels: usize) -> bool
     labels < name.labels()
 }
 
+/// Whether a trust anchor is at or above the zone.
+pub fn has_anchor(facts: &CaseFacts<'_>, zone: &Name) -> bool
+    ensures { IsTrue result ↔ HasAnchor facts.now.anchors zone.now }
+{
+    facts
+        .anchors()
+        .iter()
+        .any(|anchor| zone.is_at_or_below(anchor.owner()))
+}
+
 /// Whether a trust anchor is just at the zone.
-fn has_own_anchor(facts: &CaseFacts<'_>, zone: &Name) -> bool
+pub fn has_own_anchor(facts: &CaseFacts<'_>, zone: &Name) -> bool
     ensures { IsTrue result ↔ HasOwnAnchor facts.now.anchors zone.now }
 {
     facts

@@ -6,7 +6,8 @@
 #![tactic(auto)]
 
 pub use case_facts::CaseFacts;
-pub use known::speakers::{is_above, is_from_above};
+pub use known::speakers::{is_above, is_from_above, is_goal};
+pub use known::{has_anchor, has_own_anchor, has_rrset};
 pub use rrset::facts_of;
 pub use signature::words::signature_faults;
 

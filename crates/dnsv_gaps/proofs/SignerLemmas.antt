@@ -1,5 +1,6 @@
 -- The signers of RRsets that may deny.
-use Rattle.std.proofs.Common.{◌↔◌, ◌⊎◌, ℕ, Bool, List, IsTrue, refl, sym}
+use Rattle.std.proofs.Common.{◌↔◌, ◌⊎◌, ℕ, Bool, false, List, IsTrue, refl, sym}
+use Rattle.std.proofs.lemmas.Bool.{false≢true}
 use Rattle.std.specs.List.{AllZip}
 use Rattle.dnsv_names.specs.Name.{Labels, IsAtOrBelow}
 use Rattle.dnsv_names.specs.Tree.TreeLaws.{at_or_below_respects, below_respects}
@@ -8,12 +9,12 @@ use Rattle.dnsv_records.specs.declared.rrsig.Rrsig.{Rrsig}
 use Rattle.dnsv_canonical.specs.Rrsets.{ReceivedRrset}
 use Rattle.dnsv_faults.proofs.lemmas.KnownLemmas.{read_in, read_of}
 use Rattle.dnsv_faults.specs.KnownZones.{IsFromAbove}
-use Rattle.dnsv_gaps.specs.DenialSearch.{HasOneAbove, HasOneBy, HasOneSpeaking, HasSpeaker}
+use Rattle.dnsv_gaps.specs.DenialSearch.{HasOneBy, HasSignerAbove, HasSpeaker}
 use Rattle.dnsv_gaps.specs.Denials.{HasSigner, IsStray}
 
 module _ (rrset : ReceivedRrset) (rrsigs : List Rrsig) (each : AllZip IsRrsig rrset.signatures rrsigs) where
   pub one_speaking : (name : Labels) (t : ℕ) (from_above : Bool) → (IsTrue from_above ↔ IsFromAbove t rrset)
-      → HasOneSpeaking rrsigs name from_above ↔ HasSpeaker name t rrset
+      → HasSignerAbove rrsigs name from_above ↔ HasSpeaker name t rrset
   one_speaking name t from_above test = (
     λ one. (
       one.rrsig.signer,
@@ -44,8 +45,8 @@ module _ (rrset : ReceivedRrset) (rrsigs : List Rrsig) (each : AllZip IsRrsig rr
   )
 
   -- none at or above the owner
-  pub none_above : ¬ HasOneAbove rrsigs rrset.owner → IsStray rrset
-  none_above never rrsig its above = never (record { rrsig = rrsig; among = read_in rrset rrsigs each rrsig its; above = above })
+  pub none_above : ¬ HasSignerAbove rrsigs rrset.owner false → IsStray rrset
+  none_above never rrsig its above = never (record { rrsig = rrsig; among = read_in rrset rrsigs each rrsig its; above = record { at = above; properly = λ yes. absurd (false≢true yes) } })
 
-  pub not_stray : HasOneAbove rrsigs rrset.owner → ¬ IsStray rrset
-  not_stray one stray = stray one.rrsig (read_of rrset rrsigs each one.rrsig one.among) one.above
+  pub not_stray : HasSignerAbove rrsigs rrset.owner false → ¬ IsStray rrset
+  not_stray one stray = stray one.rrsig (read_of rrset rrsigs each one.rrsig one.among) one.above.at

@@ -1,6 +1,6 @@
 -- How denials are looked for. No public clause cites this module.
 use Rattle.std.specs.Prelude.{◌≡◌, ◌⊎◌, ◌≤◌, ◌<◌, ℕ, Bool, IsTrue, List, Contains, length}
-use Rattle.dnsv_names.specs.Name.{Labels, SameName, IsAtOrBelow, rightmost}
+use Rattle.dnsv_names.specs.Name.{Labels, SameName, rightmost}
 use Rattle.dnsv_names.specs.Order.{IsBelow}
 use Rattle.dnsv_records.specs.declared.rrsig.Rrsig.{Rrsig}
 use Rattle.dnsv_canonical.specs.Rrsets.{ReceivedRrset}
@@ -16,19 +16,13 @@ IsDenialType rtype = (rtype ≡ 47) ⊎ (rtype ≡ 50)
 abbrev pub HasSpeaker : Labels → ℕ → ReceivedRrset → Type 0
 HasSpeaker name t rrset = (zone : Labels) × IsSpeakerOf name t rrset zone
 
--- the signer of one of the signatures may speak of the name
-pub record HasOneSpeaking (rrsigs : List Rrsig) (name : Labels) (from_above : Bool) : Type 0 where
+-- the signer of one of the signatures is at or above the name, above it where it has to be
+pub record HasSignerAbove (rrsigs : List Rrsig) (name : Labels) (from_above : Bool) : Type 0 where
   pub rrsig : Rrsig
   pub among : Contains rrsigs rrsig
   pub above : IsAbove name from_above rrsig.signer
 
--- it is at or above the name
-pub record HasOneAbove (rrsigs : List Rrsig) (name : Labels) : Type 0 where
-  pub rrsig : Rrsig
-  pub among : Contains rrsigs rrsig
-  pub above : IsAtOrBelow name rrsig.signer
-
--- it is the zone
+-- the signer of one of them is the zone
 pub record HasOneBy (rrsigs : List Rrsig) (zone : Labels) : Type 0 where
   pub rrsig : Rrsig
   pub among : Contains rrsigs rrsig

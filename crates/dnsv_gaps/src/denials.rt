@@ -13,7 +13,7 @@ ghost use Rattle.dnsv_gaps.specs.DenialSearch.{HasKnownBetween, IsDenialType, Is
 ghost use Rattle.dnsv_gaps.specs.Denials.{IsDenial, IsDenialNumber, IsDenialOf, IsStrayOf};
 
 use crate::asked::AskedQuestion;
-pub use crate::denials::signers::has_signer;
+pub use crate::denials::signers::{has_signer, has_signer_above};
 use crate::denials::signers::{has_speaker, is_stray};
 use dnsv_canonical::Rrset;
 use dnsv_faults::is_above;

@@ -7,7 +7,6 @@
 pub use asked::AskedQuestion;
 pub use question::question_facts;
 pub use sources::{HeldSource, ZoneDenials, sources_of, zone_denials};
-pub use speakers::speaker_facts;
 
 mod asked;
 mod denials;

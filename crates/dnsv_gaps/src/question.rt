@@ -13,14 +13,13 @@ ghost use Rattle.dnsv_gaps.specs.questions.CloserSearch.{IsViewOf};
 ghost use Rattle.dnsv_gaps.specs.questions.Questions.{AreQuestionFacts};
 
 use crate::asked::AskedQuestion;
-use crate::question::cuts::{has_anchor, parents};
+use crate::question::cuts::parents;
 use crate::question::dnames::dnames;
 use crate::question::goals::goals;
 use crate::speakers::speaker_facts;
 use dnsv_canonical::Capture;
-use dnsv_chain::Anchor;
 use dnsv_denial::{DenialRecords, View};
-use dnsv_faults::CaseFacts;
+use dnsv_faults::{CaseFacts, has_anchor};
 use dnsv_names::{Name, RecordType};
 use dnsv_proof_forms::Hashes;
 use dnsv_remedies::QuestionFacts;
@@ -52,27 +51,25 @@ pub fn question_facts<'s, 'a>(
         hashes,
     };
     let view = View::through(alloc, capture, facts.trust(), denials, hashes)?;
-    Ok(facts_of(alloc, &question, &view, facts.anchors())?)
+    Ok(facts_of(alloc, &question, &view)?)
 }
 
-/// What is so of the question. The view is of its name, and the anchors are those of the case.
+/// What is so of the question. The view is of its name.
 fn facts_of(
     alloc: Global,
     question: &AskedQuestion<'_, '_>,
     view: &View<'_, '_>,
-    anchors: &[Anchor<'_>],
 ) -> Result<QuestionFacts, AllocError>
     requires asked { IsAsked question.now }
     requires view { IsViewOf question.now view.now }
-    requires anchors { anchors.now ≡ question.now.facts.now.anchors }
     ensures { IfOk result (AreQuestionFacts (asking question.now)) }
 {
     let labels = question.name.labels();
-    let is_anchored = has_anchor(anchors, question.name);
+    let is_anchored = has_anchor(question.facts, question.name);
     let goals = goals(alloc, question, view)?;
     let dnames = dnames(alloc, question)?;
     let speakers = speaker_facts(alloc, question)?;
-    let parents = parents(alloc, question, anchors)?;
+    let parents = parents(alloc, question)?;
     Ok(QuestionFacts {
         labels,
         is_anchored,

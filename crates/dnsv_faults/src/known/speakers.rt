@@ -51,8 +51,8 @@ fn may_speak(rrset: &Rrset<'_>, name: &Name, rtype: RecordType) -> bool
         || rrset.rtype() == RecordType::NSEC3
 }
 
-/// Whether it may answer: it has the name, and the type or CNAME.
-fn is_goal(rrset: &Rrset<'_>, name: &Name, rtype: RecordType) -> bool
+/// Whether the RRset may answer: it has the name, and the type or CNAME.
+pub fn is_goal(rrset: &Rrset<'_>, name: &Name, rtype: RecordType) -> bool
     ensures { IsTrue result ↔ IsGoal name.now rtype.0 rrset.now }
 {
     (rrset.rtype() == rtype || rrset.rtype() == RecordType::CNAME) && *rrset.owner() == *name

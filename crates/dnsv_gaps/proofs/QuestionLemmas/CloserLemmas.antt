@@ -20,9 +20,7 @@ use Rattle.dnsv_canonical.specs.Rrsets.{IsNumbered, ReceivedRrset}
 use Rattle.dnsv_canonical.specs.SignedData.{IsExpanded, signed_label_count}
 use Rattle.dnsv_canonical.specs.declared.number.RecordNumber.{RecordNumber}
 use Rattle.dnsv_canonical.proofs.OrderLemmas.{zip_at}
-use Rattle.dnsv_chain.proofs.ZipLemmas.{zip_at as pairs_at, zip_length}
-use Rattle.dnsv_records.proofs.OneRecord.{one_rrsig}
-use Rattle.dnsv_verifier.specs.Admissible.{IsSignatureOf}
+use Rattle.dnsv_chain.proofs.ZipLemmas.{zip_length}
 use Rattle.dnsv_chain.specs.Trust.{KeptTrust, SecuredIn}
 use Rattle.dnsv_chain.specs.Trusted.{IsSecured}
 use Rattle.dnsv_denial.proofs.lemmas.proving.NumberLemmas.{number_cmp_total, number_eq, number_eq_equiv, number_eq_ties, same_number}
@@ -59,18 +57,6 @@ in_range rrset signatures number rrsig read its =
     let from = its.numbered.0 in
     let within = slice_get_within rrset.signatures (number - 1) its.rdata its.numbered.1 in
     (from, omega (arith, size, from, within))
-
--- what is read of the signatures of an RRset
-module _ (rrset : ReceivedRrset) (rrsigs : List Rrsig) (each : AllZip IsRrsig rrset.signatures rrsigs) where
-  pub signature_among : (rrsig : Rrsig) → IsSignatureOf rrset rrsig → Contains rrsigs rrsig
-  signature_among rrsig its =
-      let size = zip_length IsRrsig rrset.signatures rrsigs each in
-      let k : ℕ = its.1.0 in
-      let within : k < length rrset.signatures = its.1.1 in
-      let there : IsRrsig its.0 (get_or rrsigs k rrsig) =
-      subst (λ (rdata : List ℕ). IsRrsig rdata (get_or rrsigs k rrsig)) its.1.2
-      (pairs_at IsRrsig rrset.signatures rrsigs k its.0 rrsig each within) in
-      (k, omega (arith, size, within), sym (one_rrsig its.0 rrsig (get_or rrsigs k rrsig) its.2 there))
 
 counted_by : (b : Bool) (n : ℕ) → (if b then n - 1 else n) ≤ n
 counted_by true n = omega arith

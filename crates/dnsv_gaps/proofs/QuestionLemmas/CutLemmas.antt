@@ -15,19 +15,19 @@ use Rattle.dnsv_proof_forms.specs.declared.words.asked.AskedTypes.TheVariants as
 use Rattle.dnsv_proof_forms.specs.declared.words.asked.AskedWord.TheVariants as word
 use Rattle.dnsv_zones.specs.zones.Types.{IsDelegation, IsUnsignedDelegation}
 use Rattle.dnsv_faults.specs.KnownZones.{HasRrset, IsKnownZone}
-use Rattle.dnsv_faults.proofs.lemmas.KnownLemmas.{read_of}
+use Rattle.dnsv_faults.proofs.lemmas.KnownLemmas.{read_in, read_of}
 use Rattle.dnsv_remedies.specs.declared.facts.cut.CutCase.{CutCase}
 use Rattle.dnsv_remedies.specs.declared.facts.cut.CutFacts.{CutFacts}
 use Rattle.dnsv_remedies.specs.declared.facts.cut.ParentFacts.{ParentFacts}
 use Rattle.dnsv_gaps.specs.Asking.{Asking, asking}
+use Rattle.dnsv_gaps.specs.DenialSearch.{HasSignerAbove}
 use Rattle.dnsv_gaps.specs.SourceSearch.{AreHeldSources, chain_of, held_chain, zone_in}
 use Rattle.dnsv_gaps.specs.Sources.{source_said}
 use Rattle.dnsv_gaps.specs.questions.Cuts.{AreCutFacts, AreParentFacts, AreParents, IsNext, IsNextZone, IsOptedOutBySome, IsParent, IsSeen, IsShown, IsTypedBySome, HasGoal, HasOptOut, IsCutCase, IsDsFromAbove, IsSeenHere, IsSeenUnsigned, IsThere, lowest_cut}
-use Rattle.dnsv_gaps.specs.questions.CutSearch.{HasOneFromAbove, IsCaseOfCut, IsFirstSeen, IsSaidByOne}
+use Rattle.dnsv_gaps.specs.questions.CutSearch.{IsCaseOfCut, IsFirstSeen, IsSaidByOne}
 use Rattle.dnsv_gaps.specs.declared.asked.AskedQuestion.{AskedQuestion}
 use Rattle.dnsv_gaps.specs.declared.sources.HeldSource.{HeldSource}
 use Rattle.dnsv_gaps.specs.declared.sources.ZoneSource.{ZoneSource}
-use Rattle.dnsv_gaps.proofs.QuestionLemmas.CloserLemmas.{signature_among}
 use Rattle.dnsv_gaps.proofs.QuestionLemmas.DnameLemmas.{range_more}
 use Rattle.dnsv_gaps.proofs.QuestionLemmas.ListingLemmas.{AreTo, all_there, none_yet}
 use Rattle.dnsv_gaps.proofs.QuestionLemmas.SayingLemmas.{held_there, opted_out_there, typed_there}
@@ -220,10 +220,10 @@ one_goal a goal not = ⊎_elim
 
 -- a signature by one above, among those that are read
 pub one_from_above : (rrset : ReceivedRrset) (rrsigs : List Rrsig) → AllZip IsRrsig rrset.signatures rrsigs → (zone : Labels)
-    → SameName rrset.owner zone → rrset.rtype ≡ 43 → HasOneFromAbove rrsigs zone ↔ IsDsFromAbove zone rrset
+    → SameName rrset.owner zone → rrset.rtype ≡ 43 → HasSignerAbove rrsigs zone true ↔ IsDsFromAbove zone rrset
 one_from_above rrset rrsigs read zone owner rtype = (
-  λ has. record { owner = owner; its_type = rtype; rrsig = has.rrsig; its = read_of rrset rrsigs read has.rrsig has.among; above = has.above },
-  λ is. record { rrsig = is.rrsig; among = signature_among rrset rrsigs read is.rrsig is.its; above = is.above },
+  λ has. record { owner = owner; its_type = rtype; rrsig = has.rrsig; its = read_of rrset rrsigs read has.rrsig has.among; above = has.above.properly refl },
+  λ is. record { rrsig = is.rrsig; among = read_in rrset rrsigs read is.rrsig is.its; above = record { at = is.above.0; properly = λ always. is.above } },
 )
 
 -- ---- what some source says

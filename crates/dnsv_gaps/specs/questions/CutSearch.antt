@@ -1,8 +1,6 @@
 -- How names that may be unsigned delegations are looked for. No public clause cites this module.
 use Rattle.std.specs.Prelude.{◌≡◌, ◌-◌, ◌≤◌, ◌<◌, ℕ, Bool, if◌then◌else◌, List, Contains, Option, Some, None, length}
-use Rattle.dnsv_names.specs.Name.{Labels, rightmost}
-use Rattle.dnsv_names.specs.Order.{IsBelow}
-use Rattle.dnsv_records.specs.declared.rrsig.Rrsig.{Rrsig}
+use Rattle.dnsv_names.specs.Name.{rightmost}
 use Rattle.dnsv_zones.specs.forms.Parts.{IsFirstToSay}
 use Rattle.dnsv_zones.specs.zones.TypeNumbers.{ds, soa}
 use Rattle.dnsv_canonical.specs.declared.number.RecordNumber.{RecordNumber}
@@ -28,7 +26,6 @@ use Rattle.dnsv_gaps.specs.declared.sources.ZoneSource.{ZoneSource}
 -- what is kept of a zone is its own
 pub record IsParentZone (parent : ParentZone) : Type 0 where
   pub asked : IsAsked parent.question.now
-  pub anchors : parent.anchors.now ≡ parent.question.now.facts.now.anchors
   pub within : parent.labels ≤ length parent.question.now.name.now
   pub next : IsNext (asking parent.question.now) parent.labels parent.next
   pub sources : AreHeldSources parent.question.now parent.labels parent.sources.now
@@ -61,9 +58,3 @@ pub record IsLowestPlace (question : AskedQuestion) (source : ZoneSource) (c pla
 -- DS, where it is there; else SOA
 abbrev pub held_instead : (ℕ → Bool) → ℕ
 held_instead has = if has ds then ds else soa
-
--- the signer of one of the signatures is above the zone
-pub record HasOneFromAbove (rrsigs : List Rrsig) (zone : Labels) : Type 0 where
-  pub rrsig : Rrsig
-  pub among : Contains rrsigs rrsig
-  pub above : IsBelow zone rrsig.signer

@@ -1,7 +1,7 @@
 //! The signers of an RRset that may deny.
 ghost use Rattle.std.specs.Prelude.{◌↔◌, IsTrue};
 ghost use Rattle.dnsv_names.specs.Name.{SameName};
-ghost use Rattle.dnsv_gaps.specs.DenialSearch.{HasOneAbove, HasOneBy, HasOneSpeaking, HasSpeaker};
+ghost use Rattle.dnsv_gaps.specs.DenialSearch.{HasOneBy, HasSignerAbove, HasSpeaker};
 ghost use Rattle.dnsv_gaps.specs.Denials.{HasSigner, IsStray};
 
 use dnsv_canonical::Rrset;
@@ -13,30 +13,21 @@ use dnsv_records::Rrsig;
 pub fn has_speaker(name: &Name, rtype: RecordType, rrset: &Rrset<'_>) -> bool
     ensures { IsTrue result ↔ HasSpeaker name.now rtype.0 rrset.now }
 {
-    is_one_speaking(rrset.signatures(), name, is_from_above(rrset, rtype))
-}
-
-/// Whether the signer of one of the signatures is at or above the name, or above it.
-fn is_one_speaking(rrsigs: &[Rrsig<'_>], name: &Name, from_above: bool) -> bool
-    ensures { IsTrue result ↔ HasOneSpeaking rrsigs.now name.now from_above }
-{
-    rrsigs.iter().any(|rrsig| is_above(name, &rrsig.signer.to_name(), from_above))
+    has_signer_above(rrset.signatures(), name, is_from_above(rrset, rtype))
 }
 
 /// Whether no signer of the RRset is at or above the owner.
 pub fn is_stray(rrset: &Rrset<'_>) -> bool
     ensures { IsTrue result ↔ IsStray rrset.now }
 {
-    !is_one_above(rrset.signatures(), rrset.owner())
+    !has_signer_above(rrset.signatures(), rrset.owner(), false)
 }
 
-/// Whether the signer of one of the signatures is at or above the name.
-fn is_one_above(rrsigs: &[Rrsig<'_>], name: &Name) -> bool
-    ensures { IsTrue result ↔ HasOneAbove rrsigs.now name.now }
+/// Whether the signer of one of the signatures is at or above the name; above it, where it has to be.
+pub fn has_signer_above(rrsigs: &[Rrsig<'_>], name: &Name, from_above: bool) -> bool
+    ensures { IsTrue result ↔ HasSignerAbove rrsigs.now name.now from_above }
 {
-    rrsigs
-        .iter()
-        .any(|rrsig| name.is_at_or_below(&rrsig.signer.to_name()))
+    rrsigs.iter().any(|rrsig| is_above(name, &rrsig.signer.to_name(), from_above))
 }
 
 /// Whether the zone is a signer of the RRset.

@@ -5,9 +5,6 @@ mod shown;
 
 ghost use Rattle.std.specs.Prelude.{◌≡◌, ◌↔◌, ◌≤◌, ◌<◌, ◌+◌, ◌-◌, IfOk, IsTrue, OnOk, Some, length, map};
 ghost use Rattle.std.specs.List.{AllZip, enumerate_from, range_with_len};
-ghost use Rattle.dnsv_faults.specs.KnownZones.{IsKnownZone};
-ghost use Rattle.dnsv_names.specs.Name.{rightmost};
-ghost use Rattle.dnsv_chain.specs.Basis.{basis_by, HasAnchor};
 ghost use Rattle.dnsv_gaps.specs.Asking.{IsAsked, asking};
 ghost use Rattle.dnsv_gaps.specs.SourceSearch.{AreZoneDenials, held_chain, zone_in};
 ghost use Rattle.dnsv_gaps.specs.questions.Cuts.{AreCutFacts, AreCutsBelow, AreParentFacts, AreParents, IsCutSource, IsNext, IsParent, lowest_cut};
@@ -15,11 +12,12 @@ ghost use Rattle.dnsv_gaps.specs.questions.CutSearch.{IsParentZone};
 ghost use Rattle.dnsv_gaps.specs.questions.Listing.{AddsWhere};
 
 use crate::asked::AskedQuestion;
+use crate::denials::is_known;
 use crate::question::cuts::case::cut_case;
 use crate::question::cuts::shown::first_seen;
 use crate::sources::{HeldSource, ZoneDenials, sources_of, zone_denials};
-use dnsv_chain::Anchor;
-use dnsv_names::{Name, RecordType};
+use dnsv_faults::has_anchor;
+use dnsv_names::RecordType;
 use dnsv_remedies::{CutFacts, CutSource, ParentFacts};
 use std::alloc::{AllocError, Global};
 
@@ -27,7 +25,6 @@ use std::alloc::{AllocError, Global};
 #[derive(Clone, Copy)]
 pub struct ParentZone<'s, 'r, 'a> {
     pub question: &'r AskedQuestion<'r, 'a>,
-    pub anchors: &'r [Anchor<'r>],
     /// How many labels the zone has.
     pub labels: usize,
     /// How many the known zone has that is next below it, toward the name, if there is one.
@@ -40,15 +37,13 @@ pub struct ParentZone<'s, 'r, 'a> {
 pub fn parents(
     alloc: Global,
     question: &AskedQuestion<'_, '_>,
-    anchors: &[Anchor<'_>],
 ) -> Result<Vec<ParentFacts>, AllocError>
     requires asked { IsAsked question.now }
-    requires anchors { anchors.now ≡ question.now.facts.now.anchors }
     ensures { IfOk result (λ parents. AreParents (asking question.now) parents.items) }
 {
     let mut parents = Vec::new(alloc);
     for labels in 0..question.name.labels() + 1 {
-        add_parent(alloc, question, anchors, labels, &mut parents)?;
+        add_parent(alloc, question, labels, &mut parents)?;
     }
     Ok(parents)
 }
@@ -57,70 +52,46 @@ pub fn parents(
 fn add_parent(
     alloc: Global,
     question: &AskedQuestion<'_, '_>,
-    anchors: &[Anchor<'_>],
     labels: usize,
     parents: &mut Vec<ParentFacts>,
 ) -> Result<(), AllocError>
     requires asked { IsAsked question.now }
-    requires anchors { anchors.now ≡ question.now.facts.now.anchors }
     requires within { labels ≤ length question.now.name.now }
     ensures { OnOk result (AddsWhere (IsParent (asking question.now) labels)
         (λ parent. AreParentFacts (asking question.now) parent × (parent.labels ≡ labels)) parents.old.items parents.new.items) }
 {
-    if !is_parent(question, anchors, labels) {
+    if !is_parent(question, labels) {
         return Ok(());
     }
-    let parent = parent_facts(alloc, question, anchors, labels)?;
+    let parent = parent_facts(alloc, question, labels)?;
     parents.push(parent)?;
     Ok(())
 }
 
 /// Whether the zone with so many labels is known, and has an anchor at or above it.
-fn is_parent(question: &AskedQuestion<'_, '_>, anchors: &[Anchor<'_>], labels: usize) -> bool
+fn is_parent(question: &AskedQuestion<'_, '_>, labels: usize) -> bool
     requires asked { IsAsked question.now }
-    requires anchors { anchors.now ≡ question.now.facts.now.anchors }
     requires within { labels ≤ length question.now.name.now }
     ensures { IsTrue result ↔ IsParent (asking question.now) labels }
 {
     if !is_known(question, labels) {
         return false;
     }
-    has_anchor(anchors, &question.name.suffix(labels))
-}
-
-/// Whether so many of the name's labels are those of a known zone.
-fn is_known(question: &AskedQuestion<'_, '_>, labels: usize) -> bool
-    requires asked { IsAsked question.now }
-    requires within { labels ≤ length question.now.name.now }
-    ensures { IsTrue result ↔ IsKnownZone (basis_by question.now.facts.now) question.now.name.now question.now.rtype.0
-        (rightmost question.now.name.now labels) }
-{
-    question.known[labels]
-}
-
-/// Whether one of the anchors is at or above the name.
-pub fn has_anchor(anchors: &[Anchor<'_>], name: &Name) -> bool
-    ensures { IsTrue result ↔ HasAnchor anchors.now name.now }
-{
-    anchors
-        .iter()
-        .any(|anchor| name.is_at_or_below(anchor.owner()))
+    has_anchor(question.facts, &question.name.suffix(labels))
 }
 
 /// What is so of the names below the zone with so many labels.
 fn parent_facts(
     alloc: Global,
     question: &AskedQuestion<'_, '_>,
-    anchors: &[Anchor<'_>],
     labels: usize,
 ) -> Result<ParentFacts, AllocError>
     requires asked { IsAsked question.now }
-    requires anchors { anchors.now ≡ question.now.facts.now.anchors }
     requires within { labels ≤ length question.now.name.now }
     ensures { IfOk result (λ parent. AreParentFacts (asking question.now) parent × (parent.labels ≡ labels)) }
 {
     let zone = zone_denials(alloc, question, labels)?;
-    let cuts = cuts_below(alloc, question, anchors, &zone)?;
+    let cuts = cuts_below(alloc, question, &zone)?;
     Ok(ParentFacts {
         labels,
         cuts,
@@ -132,18 +103,15 @@ fn parent_facts(
 fn cuts_below<'r>(
     alloc: Global,
     question: &'r AskedQuestion<'r, '_>,
-    anchors: &'r [Anchor<'r>],
     zone: &'r ZoneDenials<'r>,
 ) -> Result<Vec<CutFacts>, AllocError>
     requires asked { IsAsked question.now }
-    requires anchors { anchors.now ≡ question.now.facts.now.anchors }
     requires zone { AreZoneDenials question.now zone.now }
     ensures { IfOk result (λ cuts. AreCutsBelow (asking question.now) zone.now.labels cuts.items) }
 {
     let sources = sources_of(alloc, question, zone)?;
     let parent = ParentZone {
         question,
-        anchors,
         labels: zone.labels,
         next: next_zone(question, zone.labels),
         sources: &sources,

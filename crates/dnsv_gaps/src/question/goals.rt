@@ -12,6 +12,7 @@ use crate::asked::AskedQuestion;
 use crate::question::closers::closer_of;
 use dnsv_canonical::Rrset;
 use dnsv_denial::View;
+use dnsv_faults::is_goal;
 use dnsv_mending::SignatureFacts;
 use dnsv_names::RecordType;
 use dnsv_remedies::{AnswerSignature, GoalFacts};
@@ -49,7 +50,7 @@ fn add_goal(
     ensures { OnOk result (AddsWhere (IsGoalNumber (asking question.now) number)
         (λ goal. AreGoalFacts (asking question.now) goal × (goal.number ≡ number)) goals.old.items goals.new.items) }
 {
-    if !is_goal(question, rrset) {
+    if !is_goal(rrset, question.name, question.rtype) {
         return Ok(());
     }
     let Some(known) = question.facts.rrset_facts(alloc, number)? else {
@@ -63,14 +64,6 @@ fn add_goal(
         signatures,
     })?;
     Ok(())
-}
-
-/// Whether the RRset may answer: it has the name, and the type or CNAME.
-fn is_goal(question: &AskedQuestion<'_, '_>, rrset: &Rrset<'_>) -> bool
-    ensures { IsTrue result ↔ IsGoal question.now.name.now question.now.rtype.0 rrset.now }
-{
-    (rrset.rtype() == question.rtype || rrset.rtype() == RecordType::CNAME)
-        && *rrset.owner() == *question.name
 }
 
 /// The signatures of the RRset, each with what it asks for beside it.

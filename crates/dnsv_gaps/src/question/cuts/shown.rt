@@ -1,24 +1,22 @@
 //! The first name below a zone that something in the evidence shows to be an unsigned delegation.
 ghost use Rattle.std.specs.Prelude.{◌≡◌, ◌⊎◌, ◌↔◌, ◌≤◌, ◌<◌, IfOk, IsTrue, length};
 ghost use Rattle.dnsv_canonical.specs.declared.number.RecordNumber.{RecordNumber};
-ghost use Rattle.dnsv_faults.specs.KnownZones.{HasOwnAnchor, HasRrset};
 ghost use Rattle.dnsv_names.specs.Name.{SameName, rightmost};
 ghost use Rattle.dnsv_zones.specs.zones.TypeNumbers.{ds};
-ghost use Rattle.dnsv_names.specs.Order.{IsBelow};
 ghost use Rattle.dnsv_gaps.specs.Asking.{asking};
 ghost use Rattle.dnsv_gaps.specs.SourceSearch.{zone_in};
 ghost use Rattle.dnsv_proof_forms.specs.words.Asked.{IsWithin};
 ghost use Rattle.dnsv_gaps.specs.questions.Cuts.{HasDsFromAbove, HasGoal, IsDsFromAbove, IsSeen, IsSeenHere, IsSeenUnsigned, IsThere, lowest_cut};
-ghost use Rattle.dnsv_gaps.specs.questions.CutSearch.{HasOneFromAbove, IsFirstSeen, IsParentZone, IsSaidByOne};
+ghost use Rattle.dnsv_gaps.specs.questions.CutSearch.{IsFirstSeen, IsParentZone, IsSaidByOne};
 
 use crate::asked::AskedQuestion;
+use crate::denials::has_signer_above;
 use crate::question::cuts::ParentZone;
 use crate::sources::saying::has_saying;
 use dnsv_canonical::Rrset;
-use dnsv_chain::Anchor;
+use dnsv_faults::{has_own_anchor, has_rrset};
 use dnsv_names::{Name, RecordType};
 use dnsv_proof_forms::{AskedName, AskedTypes, AskedWord};
-use dnsv_records::Rrsig;
 use std::alloc::{AllocError, Global};
 
 /// How many labels the first name below the zone has that is seen so, if one is. None has more labels than `lowest`.
@@ -73,10 +71,10 @@ fn is_seen_here(
         parent.now.next (rightmost parent.now.question.now.name.now name)) }
 {
     let cut = parent.question.name.suffix(name);
-    if has_rrset(parent.question, &cut, RecordType::NS) {
+    if has_rrset(parent.question.facts, &cut, RecordType::NS) {
         return Ok(true);
     }
-    if has_rrset(parent.question, &cut, RecordType::SOA) {
+    if has_rrset(parent.question.facts, &cut, RecordType::SOA) {
         return Ok(true);
     }
     let delegation = AskedWord::Types(AskedTypes::Delegation);
@@ -103,17 +101,10 @@ fn may_be_left_out(parent: &ParentZone<'_, '_, '_>) -> bool
 fn has_goal(question: &AskedQuestion<'_, '_>) -> bool
     ensures { IsTrue result ↔ HasGoal (asking question.now) }
 {
-    if has_rrset(question, question.name, question.rtype) {
+    if has_rrset(question.facts, question.name, question.rtype) {
         return true;
     }
-    has_rrset(question, question.name, RecordType::CNAME)
-}
-
-/// Whether an RRset of the type is at the name.
-fn has_rrset(question: &AskedQuestion<'_, '_>, name: &Name, rtype: RecordType) -> bool
-    ensures { IsTrue result ↔ HasRrset question.now.facts.now.rrsets name.now rtype.0 }
-{
-    !question.facts.capture().at(name, rtype).is_empty()
+    has_rrset(question.facts, question.name, RecordType::CNAME)
 }
 
 /// Whether the known zone next below, which has so many labels, is.
@@ -128,10 +119,10 @@ fn is_seen_unsigned(
         (zone_in parent.now.question.now parent.now.labels) (rightmost parent.now.question.now.name.now name)) }
 {
     let cut = parent.question.name.suffix(name);
-    if has_own_anchor(parent.anchors, &cut) {
+    if has_own_anchor(parent.question.facts, &cut) {
         return Ok(false);
     }
-    if has_ds_from_above(parent.question, &cut) {
+    if has_ds_from_above(parent.question.facts.capture().rrsets(), &cut) {
         return Ok(false);
     }
     let unsigned = AskedWord::Types(AskedTypes::UnsignedDelegation);
@@ -141,22 +132,8 @@ fn is_seen_unsigned(
     Ok(is_said(alloc, parent, AskedName::Above(name), AskedWord::OptedOut)?)
 }
 
-/// Whether a trust anchor is just at the name.
-fn has_own_anchor(anchors: &[Anchor<'_>], name: &Name) -> bool
-    ensures { IsTrue result ↔ HasOwnAnchor anchors.now name.now }
-{
-    anchors.iter().any(|anchor| *anchor.owner() == *name)
-}
-
-/// Whether a DS RRset of the zone has a signature by one above it.
-fn has_ds_from_above(question: &AskedQuestion<'_, '_>, zone: &Name) -> bool
-    ensures { IsTrue result ↔ HasDsFromAbove question.now.facts.now.rrsets zone.now }
-{
-    has_one_from_above(question.facts.capture().rrsets(), zone)
-}
-
-/// Whether one of the RRsets is such a one.
-fn has_one_from_above(rrsets: &[Rrset<'_>], zone: &Name) -> bool
+/// Whether one of the RRsets is of DS records of the zone, with a signature by one above it.
+fn has_ds_from_above(rrsets: &[Rrset<'_>], zone: &Name) -> bool
     ensures { IsTrue result ↔ HasDsFromAbove rrsets.now zone.now }
 {
     rrsets.iter().any(|rrset| is_ds_from_above(rrset, zone))
@@ -169,7 +146,7 @@ fn is_ds_from_above(rrset: &Rrset<'_>, zone: &Name) -> bool
     if !is_ds_of(rrset, zone) {
         return false;
     }
-    has_signer_above(rrset.signatures(), zone)
+    has_signer_above(rrset.signatures(), zone, true)
 }
 
 /// Whether the RRset is one of DS records of the zone.
@@ -177,22 +154,6 @@ fn is_ds_of(rrset: &Rrset<'_>, zone: &Name) -> bool
     ensures { IsTrue result ↔ ((rrset.now.rtype ≡ ds) × SameName rrset.now.owner zone.now) }
 {
     rrset.rtype() == RecordType::DS && *rrset.owner() == *zone
-}
-
-/// Whether the signer of one of the signatures is above the zone.
-fn has_signer_above(rrsigs: &[Rrsig<'_>], zone: &Name) -> bool
-    ensures { IsTrue result ↔ HasOneFromAbove rrsigs.now zone.now }
-{
-    rrsigs
-        .iter()
-        .any(|rrsig| is_below(zone, &rrsig.signer.to_name()))
-}
-
-/// Whether the name is below the zone, and not just it.
-fn is_below(name: &Name, zone: &Name) -> bool
-    ensures { IsTrue result ↔ IsBelow name.now zone.now }
-{
-    name.is_at_or_below(zone) && zone.labels() < name.labels()
 }
 
 /// Whether a record of one of the sources says so of the name.

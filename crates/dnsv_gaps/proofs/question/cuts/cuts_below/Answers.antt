@@ -6,7 +6,6 @@ use Rattle.dnsv_gaps.proofs.question.cuts.cuts_below.Goals as goal
 pub cuts-requires : goal.cuts-requires
 cuts-requires c = record {
   asked = c.requires.asked;
-  anchors = c.requires.anchors;
   within = c.requires.zone.within;
   next = c.next_zone.ensures;
   sources = subst (AreHeldSources c.args.question.now c.args.zone.now.labels) (sym c.deref.ensures.value) c.in_ok-sources.ensures;

@@ -1,7 +1,6 @@
-use Rattle.std.proofs.Common.{List, subst, sym, ◌∙◌}
+use Rattle.std.proofs.Common.{subst, sym, ◌∙◌}
 use Rattle.std.proofs.lemmas.Bool.{false≢true}
-use Rattle.dnsv_names.specs.Name.{Labels, rightmost}
-use Rattle.dnsv_anchors.specs.declared.anchor.Anchor.{Anchor}
+use Rattle.dnsv_names.specs.Name.{Labels}
 use Rattle.dnsv_chain.specs.Basis.{HasAnchor}
 use Rattle.dnsv_gaps.proofs.question.cuts.is_parent.Goals as goal
 
@@ -13,13 +12,11 @@ returns-then-not-is_known c = (
 
 pub returns : goal.returns
 returns c =
-    let zone = rightmost c.args.question.now.name.now c.args.labels in
-    let At : Labels → Type 0 = λ name. HasAnchor c.args.anchors.now name in
-    let Of : List Anchor → Type 0 = λ anchors. HasAnchor anchors zone in (
+    let At : Labels → Type 0 = λ name. HasAnchor c.args.question.now.facts.now.anchors name in (
       λ yes. record {
         within = c.requires.within;
         known = c.is_known.ensures.0 c.if-not-is_known.false;
-        anchored = subst Of c.requires.anchors (subst At c.suffix.ensures.labels (c.has_anchor.ensures.0 yes));
+        anchored = subst At c.suffix.ensures.labels (c.has_anchor.ensures.0 yes);
       },
-      λ is. c.has_anchor.ensures.1 (subst At (sym c.suffix.ensures.labels) (subst Of (sym c.requires.anchors) is.anchored)),
+      λ is. c.has_anchor.ensures.1 (subst At (sym c.suffix.ensures.labels) is.anchored),
     )
