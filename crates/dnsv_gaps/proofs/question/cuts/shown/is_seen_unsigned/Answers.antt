@@ -13,7 +13,7 @@ returns-then-branch c =
     let question = parent.question.now in
     let Own : Labels → Type 0 = λ name. HasOwnAnchor question.facts.now.anchors name in
     let Of : Labels → Type 0 = λ name. HasDsFromAbove question.facts.now.rrsets name in
-    let Among : List ReceivedRrset → Type 0 = λ rrsets. HasDsFromAbove rrsets c.suffix-cut.result.now in
+    let Among : List ReceivedRrset → Type 0 = λ rrsets. HasDsFromAbove rrsets c.suffix-cut.result in
     let its = c.rrsets.ensures.value ∙ c.capture.ensures in (
       λ yes. record {
         no_anchor = λ has. false≢true (sym c.if-has_own_anchor.false ∙ c.has_own_anchor.ensures.1
@@ -32,7 +32,7 @@ returns c =
     let question = parent.question.now in
     let Own : Labels → Type 0 = λ name. HasOwnAnchor question.facts.now.anchors name in
     let Of : Labels → Type 0 = λ name. HasDsFromAbove question.facts.now.rrsets name in
-    let Among : List ReceivedRrset → Type 0 = λ rrsets. HasDsFromAbove rrsets c.suffix-cut.result.now in
+    let Among : List ReceivedRrset → Type 0 = λ rrsets. HasDsFromAbove rrsets c.suffix-cut.result in
     let its = c.rrsets.ensures.value ∙ c.capture.ensures in
     let by_some = opted_out_by_some question parent.labels parent.sources.now c.requires.parent.sources c.args.name in (
       λ yes. record {
