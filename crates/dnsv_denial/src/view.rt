@@ -1,5 +1,5 @@
 //! What the evidence says of one question: that there is no such name or type, or that it is unsigned.
-ghost use Rattle.std.specs.Prelude.{◌≡◌, ◌≢◌, ◌⊎◌, ◌↔◌, ◌+◌, ℕ, IfOk, IfSome, IsSome, List, MatchOption};
+ghost use Rattle.std.specs.Prelude.{◌≡◌, ◌≢◌, ◌≤◌, ◌⊎◌, ◌↔◌, ◌+◌, ℕ, IfOk, IfSome, IsSome, List, MatchOption};
 ghost use Rattle.dnsv_names.specs.Count.{counted};
 ghost use Rattle.dnsv_names.specs.Name.{Labels, IsAtOrBelow, rightmost};
 ghost use Rattle.dnsv_names.specs.Tree.{wildcard_of};
@@ -91,6 +91,8 @@ impl<'c, 't> View<'c, 't> {
         ensures count { IfOk result (λ view. (all : List Nsec3Parameters)
             → AreParameters (nsec3_rdata capture.now.rrsets) all
             → count.new ≡ counted count.old (hashes_for name.now all)) }
+        // Where memory is refused, too.
+        ensures grown { count.old ≤ count.new }
     {
         let hashes = Hashes::new(alloc, capture, name, count)?;
         View::with(alloc, capture, trust, &hashes)
