@@ -1,5 +1,5 @@
 -- Entries by numbers: they rise as their numbers do, and have the members that their numbers stand for.
-use Rattle.std.proofs.Common.{◌≡◌, ◌↔◌, ◌⊎◌, ℕ, ◌+◌, ◌<◌, take, ⊎_elim, inl, inr, List, [], ◌∷◌, ◌++◌, ◌&&◌, length, get_or, zero, suc, cond, map, refl, sym, ap, ◌∙◌, subst, arith, true, false, nat_eq}
+use Rattle.std.proofs.Common.{◌≡◌, ◌↔◌, ◌⊎◌, ℕ, ◌+◌, ◌<◌, take, ⊎_elim, inl, inr, List, [], ◌∷◌, ◌++◌, ◌&&◌, length, get_or, cond, map, refl, sym, ap, ◌∙◌, subst, arith, true, false, nat_eq}
 use Rattle.std.proofs.lemmas.Bool.{cases_order}
 use Rattle.std.proofs.lemmas.Bool.Decides.{nat_tests}
 use Rattle.std.proofs.lemmas.Cmp.{eq_by_cmp_equiv, nat_cmp_total, nat_list_cmp_total, on_total, then_total, tied_itself}

@@ -7,8 +7,8 @@ use Rattle.std.proofs.lemmas.List.Sorted.{Contains-permutation, IsPermutation-sy
 use Rattle.std.specs.List.{Contains}
 use Rattle.std.specs.List.Sorted.{IsPermutation}
 use Rattle.std.specs.declared.cmp.Ordering.TheVariants.{Equal}
-use Rattle.dnsv_verifier.specs.Admissible.{DnskeyRecord, MayHaveMade}
-use Rattle.dnsv_verifier.specs.Asking.{AddsJust, CanSign, ComesOfSome, GivesEach, GivesMore, IsAny, IsEntryBy, IsEntryOfMade, MadeSignature, NumberedName, entry_with, key_name_cmp, name_of_key, named_by}
+use Rattle.dnsv_verifier.specs.Admissible.{DnskeyRecord}
+use Rattle.dnsv_verifier.specs.Asking.{AddsJust, CanSign, ComesOfSome, GivesEach, GivesMore, IsAny, IsEntryOfMade, MadeSignature, NumberedName, entry_with, key_name_cmp, name_of_key, named_by}
 use Rattle.dnsv_verifier.specs.Numbers.{AllOfParts, AreOfParts, IsNumberedKey, IsNumberedSignature, IsPairBy, IsPairIn, IsPairOf, PartLists, entry_of, part_of_key}
 use Rattle.dnsv_verifier.specs.declared.entry.Entry.{Entry}
 use Rattle.dnsv_verifier.specs.declared.entry.parts.EntryNumbers.{EntryNumbers}

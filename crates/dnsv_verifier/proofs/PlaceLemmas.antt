@@ -1,20 +1,25 @@
 -- Signatures by their numbers in the evidence, and where their parts stand.
-use Rattle.std.proofs.Common.{◌≡◌, ℕ, ◌+◌, ◌-◌, ◌<◌, ◌≤◌, ⊎_elim, List, [], ◌∷◌, ◌++◌, Some, length, get_or, take, sym, ap, ◌∙◌, subst, arith}
+use Rattle.std.proofs.Common.{◌≡◌, ℕ, ◌+◌, ◌-◌, ◌<◌, ◌≤◌, ⊎_elim, List, [], ◌∷◌, ◌++◌, Some, length, get_or, take, refl, sym, ap, ◌∙◌, subst, arith}
 use Rattle.std.proofs.lemmas.List.{take_all, take_more}
 use Rattle.std.proofs.lemmas.List.Elements.{Contains-push_cases}
-use Rattle.std.proofs.lemmas.Option.{slice_get-get_or}
+use Rattle.std.proofs.lemmas.Option.{get_or_from_slice_get, slice_get-get_or, slice_get_within}
 use Rattle.std.specs.List.{AllZip, slice_get}
 use Rattle.std.specs.Ordering.{nat_cmp}
 use Rattle.std.specs.declared.cmp.Ordering.TheVariants.{Equal}
+use Rattle.dnsv_records.proofs.OneRecord.{one_rrsig}
 use Rattle.dnsv_records.specs.Rrsig.{IsRrsig}
 use Rattle.dnsv_records.specs.declared.rrsig.Rrsig.{Rrsig}
 use Rattle.dnsv_canonical.specs.Rrsets.{IsNumbered, ReceivedRrset}
+use Rattle.dnsv_canonical.specs.SignedData.{IsSignedData, signed_label_count}
 use Rattle.dnsv_canonical.specs.declared.number.SignatureNumber.{SignatureNumber}
+use Rattle.dnsv_canonical.proofs.NumberLemmas.{one_numbered}
 use Rattle.dnsv_canonical.proofs.OrderLemmas.{zip_length}
+use Rattle.dnsv_verifier.specs.Admissible.{DnskeyRecord, entry_over}
 use Rattle.dnsv_verifier.specs.Asking.{AreMadeAt, IsMadeAt, IsPartOf, MadeSignature}
 use Rattle.dnsv_verifier.specs.EntryLaws.{octet_Equal, then_Equal}
 use Rattle.dnsv_verifier.specs.Numbers.{ArePlaces, IsPartNumber, IsPlaceOf, PartLists, signature_number_cmp}
-use Rattle.dnsv_verifier.specs.Table.{HasNumber}
+use Rattle.dnsv_verifier.specs.Table.{HasNumber, IsAnswerAt, SignsNothing, TableContents, table_answer}
+use Rattle.dnsv_verifier.specs.declared.answer.Answer.{Answer}
 use Rattle.dnsv_verifier.specs.declared.entry.parts.SignaturePart.{SignaturePart}
 use Rattle.dnsv_verifier.specs.declared.table.place.SignaturePlace.{SignaturePlace}
 use Rattle.dnsv_verifier.proofs.AskLemmas.{zip_at}
@@ -47,6 +52,70 @@ has_number_here rrsets number rrset signatures i rrsig are within at numbered =
       signature = (omega arith, ap (λ (j : ℕ). slice_get rrset.signatures j) place ∙ there);
       is = subst (λ (r : Rrsig). IsRrsig rdata r) (sym at) (zip_at IsRrsig rrset.signatures signatures i [] rrsig are inside);
     }
+
+-- ---- what is asked of numbers
+
+-- no RRset has its number
+pub unnumbered_rrset : (rrsets : List ReceivedRrset) (number : SignatureNumber)
+    → ((each : ReceivedRrset) → IsNumbered rrsets number.rrset each → ⊥) → SignsNothing rrsets number
+unnumbered_rrset rrsets number none = λ rrset rrsig has. absurd (none rrset has.numbered)
+
+module _ (rrsets : List ReceivedRrset) (number : SignatureNumber) (rrset : ReceivedRrset) (rrsigs : List Rrsig)
+    (numbered : IsNumbered rrsets number.rrset rrset) (each : AllZip IsRrsig rrset.signatures rrsigs) where
+  abbrev place : ℕ
+  place = number.signature - 1
+
+  -- the RRset with the number is this one
+  own_rdata : (other : ReceivedRrset) (rrsig : Rrsig) (has : HasNumber rrsets number other rrsig) → IsNumbered rrset.signatures number.signature has.rdata
+  own_rdata other rrsig has =
+      subst (λ (r : ReceivedRrset). IsNumbered r.signatures number.signature has.rdata)
+      (one_numbered rrsets number.rrset other rrset has.numbered numbered) has.signature
+
+  -- none of its signatures has the number
+  pub unnumbered_signature : ((r : Rrsig) → IsNumbered rrsigs number.signature r → ⊥) → SignsNothing rrsets number
+  unnumbered_signature none = λ other rrsig has.
+      let its = own_rdata other rrsig has in
+      let within = slice_get_within rrset.signatures place has.rdata its.1 in
+      let sizes = zip_length IsRrsig rrset.signatures rrsigs each in
+      absurd (none (get_or rrsigs place rrsig) (its.0, slice_get-get_or rrsigs place rrsig (omega (arith, within, sizes))))
+
+  -- one has it
+  pub signature_numbered : (rrsig : Rrsig) → IsNumbered rrsigs number.signature rrsig → HasNumber rrsets number rrset rrsig
+  signature_numbered rrsig at =
+      let within = slice_get_within rrsigs place rrsig at.1 in
+      let sizes = zip_length IsRrsig rrset.signatures rrsigs each in
+      let inside : place < length rrset.signatures = omega (arith, within, sizes) in
+      record {
+        numbered = numbered;
+        rdata = get_or rrset.signatures place [];
+        signature = (at.0, slice_get-get_or rrset.signatures place [] inside);
+        is = subst (λ (r : Rrsig). IsRrsig (get_or rrset.signatures place []) r) (get_or_from_slice_get rrsigs place rrsig rrsig at.1)
+            (zip_at IsRrsig rrset.signatures rrsigs place [] rrsig each inside);
+      }
+
+  -- it signs nothing
+  pub unsigned : (rrsig : Rrsig) → IsNumbered rrsigs number.signature rrsig → signed_label_count rrset.owner < rrsig.labels
+      → SignsNothing rrsets number
+  unsigned rrsig at more = λ other its has.
+      let here = signature_numbered rrsig at in
+      let same : rrset ≡ other = one_numbered rrsets number.rrset rrset other numbered has.numbered in
+      let rdata : has.rdata ≡ here.rdata = one_numbered rrset.signatures number.signature has.rdata here.rdata (own_rdata other its has) here.signature in
+      let read : rrsig ≡ its = one_rrsig here.rdata rrsig its here.is (subst (λ (octets : List ℕ). IsRrsig octets its) rdata has.is) in
+      subst (λ (r : ReceivedRrset). signed_label_count r.owner < its.labels) same (subst (λ (s : Rrsig). signed_label_count rrset.owner < s.labels) read more)
+
+-- what is said of the signature's entry
+pub says_over : (contents : TableContents) (number : SignatureNumber) (rrset : ReceivedRrset) (rrsig : Rrsig) (key : DnskeyRecord)
+    (octets : List ℕ) (answer : Answer) → HasNumber contents.rrsets number rrset rrsig
+    → IsSignedData rrset.owner rrset.rtype rrset.rdata rrsig (Some octets)
+    → answer ≡ table_answer contents (entry_over rrsig octets key) → IsAnswerAt contents number key answer
+says_over contents number rrset rrsig key octets answer has signed says = record {
+  rrset = rrset;
+  rrsig = rrsig;
+  has_number = has;
+  entry = entry_over rrsig octets key;
+  asked = record { algorithm = refl; key_field = refl; signed_data = signed; signature = refl };
+  says = says;
+}
 
 -- ---- two lists, one more in each
 

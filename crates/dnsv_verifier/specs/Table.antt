@@ -1,5 +1,5 @@
 -- The table of what a verifier says of the evidence: each entry that is asked, with the answer.
-use Rattle.std.specs.Prelude.{◌≡◌, ◌↔◌, ℕ, Bool, true, false, List, Contains, filter, map, unwrap_or}
+use Rattle.std.specs.Prelude.{◌≡◌, ◌↔◌, ◌<◌, ℕ, Bool, true, false, List, Contains, filter, map, unwrap_or}
 use Rattle.std.specs.List.{zip}
 use Rattle.std.specs.List.Sorted.{IsStrictlySortedBy}
 use Rattle.std.specs.Map.{lookup}
@@ -7,6 +7,7 @@ use Rattle.std.specs.Ordering.{is_eq}
 use Rattle.dnsv_records.specs.Rrsig.{IsRrsig}
 use Rattle.dnsv_records.specs.declared.rrsig.Rrsig.{Rrsig}
 use Rattle.dnsv_canonical.specs.Rrsets.{IsNumbered, ReceivedRrset}
+use Rattle.dnsv_canonical.specs.SignedData.{signed_label_count}
 use Rattle.dnsv_canonical.specs.declared.number.SignatureNumber.{SignatureNumber}
 use Rattle.dnsv_verifier.specs.Admissible.{DnskeyRecord, IsAsked, IsEntryOf}
 use Rattle.dnsv_verifier.specs.Entry.{entry_cmp}
@@ -73,6 +74,13 @@ pub record HasNumber (rrsets : List ReceivedRrset) (number : SignatureNumber) (r
   pub rdata : List ℕ
   pub signature : IsNumbered rrset.signatures number.signature rdata
   pub is : IsRrsig rdata rrsig
+
+-- A verifier is asked nothing of these numbers: no signature has them, or its Labels is above the count of its owner's
+-- labels (RFC 4035 5.3.2).
+abbrev pub SignsNothing : List ReceivedRrset → SignatureNumber → Type 0
+SignsNothing rrsets number =
+    (rrset : ReceivedRrset) (rrsig : Rrsig) → HasNumber rrsets number rrset rrsig
+    → signed_label_count rrset.owner < rrsig.labels
 
 -- The answer is the one to what a verifier is asked of the signature with these numbers, of the evidence of the contents,
 -- under the key.

@@ -3,26 +3,26 @@
 pub mod place;
 mod timely;
 
-ghost use Rattle.std.specs.Prelude.{◌≡◌, ◌↔◌, ◌≤◌, ℕ, List, [], IfOk, IfSome, IsTrue, filter, length, map};
+ghost use Rattle.std.specs.Prelude.{◌≡◌, ◌↔◌, ◌≤◌, ℕ, List, [], IfOk, IfSome, IsTrue, MatchOption, filter, length, map};
 ghost use Rattle.std.specs.List.{zip};
 ghost use Rattle.std.specs.List.Sorted.{IsStrictlySortedBy};
 ghost use Rattle.dnsv_verifier.specs.Entry.{entry_cmp};
 ghost use Rattle.dnsv_verifier.specs.Numbers.{ArePlaces, AreRising, answers_of, listed_answer, numbers_cmp};
 ghost use Rattle.dnsv_canonical.specs.Rrsets.{ReceivedRrset};
-ghost use Rattle.dnsv_verifier.specs.Table.{IsAnswerAt, IsTableOf, hoped_answer, hopeful, is_unknown, unknown_entries, with_answers};
+ghost use Rattle.dnsv_verifier.specs.Table.{IsAnswerAt, IsTableOf, SignsNothing, hoped_answer, hopeful, is_unknown, unknown_entries, with_answers};
 ghost use Rattle.dnsv_verifier.specs.Within.{IsTableAt, IsTableWithin};
 ghost use Rattle.dnsv_verifier.specs.declared.answer.Answer.{Answer};
 ghost use Rattle.dnsv_verifier.specs.declared.entry.Entry.{Entry};
 
 use crate::answer::Answer;
 use crate::entries::Entries;
-use crate::entry::Entry;
 use crate::entry::parts::{EntryNumbers, Parts};
+use crate::entry::{Entry, entry_over};
 use crate::key::KeyRecord;
 use crate::table::place::{SignaturePlace, place_of};
 use crate::table::timely::{Timely, timely_entries};
 use crate::verifier::Verifier;
-use dnsv_canonical::{Capture, SignatureNumber};
+use dnsv_canonical::{Capture, SignatureNumber, numbered, signed_data};
 use std::alloc::{AllocError, Global};
 use std::marker::Model;
 use std::rc::Rc;
@@ -134,10 +134,38 @@ impl<'b> Table<'b> {
         true
     }
 
-    /// What the table says of the signature with these numbers, of its evidence, under the key. No signed data is made for
-    /// it, and no octets of signatures are compared. `None` of a signature that isn't kept by its numbers: one that is of no
-    /// entry, as where none of the keys of the evidence may have made it, has none.
-    pub fn answer_at(&self, number: SignatureNumber, key: &KeyRecord<'_>) -> Option<Answer>
+    /// What the table says of the signature with these numbers, of its evidence, under the key: its answer to what a verifier
+    /// is asked of the two. `None` where it is asked nothing: no signature has the numbers, or its Labels is above the count of
+    /// its owner's labels (RFC 4035 5.3.2). Signed data is made only of a signature that has no entry in the table, as where
+    /// none of the keys of the evidence may have made it.
+    pub fn answer_at(
+        &self,
+        alloc: Global,
+        number: SignatureNumber,
+        key: &KeyRecord<'_>,
+    ) -> Result<Option<Answer>, AllocError>
+        ensures { IfOk result (λ found. MatchOption found (SignsNothing self.now.rrsets number)
+            (IsAnswerAt self.now number key.now)) }
+    {
+        if let Some(answer) = self.known_at(number, key) {
+            return Ok(Some(answer));
+        }
+        let Some(rrset) = numbered(self.capture.rrsets(), number.rrset) else {
+            return Ok(None);
+        };
+        let Some(rrsig) = numbered(rrset.signatures(), number.signature) else {
+            return Ok(None);
+        };
+        let Some(octets) = signed_data(alloc, rrset, rrsig)? else {
+            return Ok(None);
+        };
+        let answer = self.answer(&entry_over(rrsig, octets.as_slice(), key));
+        Ok(Some(answer))
+    }
+
+    /// The same without signed data, and without comparing octets of signatures. `None` of a signature that isn't kept by its
+    /// numbers.
+    fn known_at(&self, number: SignatureNumber, key: &KeyRecord<'_>) -> Option<Answer>
         ensures { IfSome result (IsAnswerAt self.now number key.now) }
     {
         let Some(place) = place_of(self.places, number) else {

@@ -1,7 +1,7 @@
-use Rattle.std.proofs.Common.{rules, ◌≡◌, ◌++◌, ◌≤◌, ◌<◌, List, length, refl, sym, ap, ◌∙◌, subst, arith}
-use Rattle.std.specs.Ordering.{ordering_then, ordering_reverse}
+use Rattle.std.proofs.Common.{rules, ◌≡◌, ◌++◌, sym, ap, ◌∙◌}
+use Rattle.std.specs.Ordering.{ordering_then}
 use Rattle.dnsv_names.specs.Octets.{octets_cmp}
-use Rattle.dnsv_verifier.proofs.SignedDataLemmas.{parted, shorter, turned}
+use Rattle.dnsv_verifier.proofs.SignedDataLemmas.{parted, shorter}
 use Rattle.dnsv_verifier.proofs.signed_data.against.Goals as goal
 
 pub returns-then-octets-front : goal.returns-then-octets-front

@@ -1,4 +1,4 @@
-use Rattle.std.proofs.Common.{List, [], sym, subst, take}
+use Rattle.std.proofs.Common.{List, [], sym, subst}
 use Rattle.dnsv_verifier.specs.Asking.{CanSign, GivesEach, NumberedName}
 use Rattle.dnsv_verifier.specs.Numbers.{IsNumberedKey}
 use Rattle.dnsv_verifier.proofs.NumberedLemmas.{each_all, each_more, each_moved, each_none}

@@ -1,5 +1,5 @@
 use Rattle.std.proofs.Common.{List, sym, ◌∙◌, subst}
-use Rattle.dnsv_verifier.specs.Asking.{AddsJust, ComesOfSome}
+use Rattle.dnsv_verifier.specs.Asking.{AddsJust}
 use Rattle.dnsv_verifier.specs.Numbers.{IsPairOf}
 use Rattle.dnsv_verifier.specs.declared.entry.parts.EntryNumbers.{EntryNumbers}
 use Rattle.dnsv_verifier.proofs.AskLemmas.{adds_one, some_none, some_more, some_all}

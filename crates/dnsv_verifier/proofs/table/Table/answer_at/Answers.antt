@@ -1,55 +1,49 @@
-use Rattle.std.proofs.Common.{◌≡◌, ℕ, List, sym, ap, ◌∙◌, subst}
-use Rattle.std.specs.List.{Contains, zip}
-use Rattle.dnsv_records.specs.declared.dnskey.Dnskey.{Dnskey}
-use Rattle.dnsv_canonical.specs.declared.number.SignatureNumber.{SignatureNumber}
-use Rattle.dnsv_verifier.specs.Numbers.{IsPlaceOf, answers_of, key_of, listed_answer}
-use Rattle.dnsv_verifier.specs.Table.{IsAnswerAt, TableContents}
-use Rattle.dnsv_verifier.specs.declared.answer.Answer.{Answer}
-use Rattle.dnsv_verifier.specs.declared.answer.Answer.TheVariants.{Unknown}
-use Rattle.dnsv_verifier.specs.declared.entry.parts.EntryNumbers.{EntryNumbers}
-use Rattle.dnsv_verifier.proofs.ListedLemmas.{says_at, says_none}
+use Rattle.std.proofs.Common.{◌≡◌, ℕ, List, Some, None, sym, ap, ◌∙◌, subst}
+use Rattle.std.specs.Option.{option_map}
+use Rattle.dnsv_canonical.specs.Rrsets.{IsNumbered, ReceivedRrset}
+use Rattle.dnsv_canonical.specs.SignedData.{IsSignedData}
+use Rattle.dnsv_verifier.specs.Table.{SignsNothing, TableContents, table_answer}
+use Rattle.dnsv_verifier.proofs.PlaceLemmas.{says_over, signature_numbered, unnumbered_rrset, unnumbered_signature, unsigned}
 use Rattle.dnsv_verifier.proofs.table.Table.answer_at.Goals as goal
 
-pub returns-in_default-find_key : goal.returns-in_default-find_key
-returns-in_default-find_key c =
-    let inside = c.self.inside in
-    let place = c.in-Some.place in
-    let key = c.args.key.now in
-    let is : IsPlaceOf inside.capture.now.rrsets inside.parts place = c.self.invariant.2 place c.in-Some.ensures.0 in
-    let field : c.as_slice-field.result.now ≡ key.dnskey.key = c.as_slice-field.ensures ∙ ap (λ (dnskey : Dnskey). dnskey.key) c.dnskey.ensures in
-    let missing : Contains inside.parts.keys (record { algorithm = place.algorithm; key = key.dnskey.key }) → ⊥ = λ has.
-    c.in_default-find_key.ensures (subst (λ (octets : List ℕ). Contains inside.parts.keys (record { algorithm = place.algorithm; key = octets })) (sym field) has) in
-    subst (λ (table : TableContents). IsAnswerAt table c.args.number key Unknown) c.self.view_is
-    (subst (λ (number : SignatureNumber). IsAnswerAt (record {
-      moment = inside.moment;
-      rrsets = inside.capture.now.rrsets;
-      answers = answers_of inside.parts (zip inside.numbers.value.items inside.answers.items);
-    }) number key Unknown) c.in-Some.ensures.1
-    (says_none inside.moment inside.capture.now.rrsets inside.parts inside.numbers.value.items inside.answers.items c.self.invariant.1 c.self.invariant.0 place is key missing))
+pub returns-in_default-numbered : goal.returns-in_default-numbered
+returns-in_default-numbered c =
+    let same : c.rrsets.result.now ≡ c.args.self.now.rrsets = c.rrsets.ensures.value ∙ ap (λ (t : TableContents). t.rrsets) c.self.view_is in
+    subst (λ (rrsets : List ReceivedRrset). SignsNothing rrsets c.args.number) same
+    (unnumbered_rrset c.rrsets.result.now c.args.number c.in_default-numbered.ensures)
+
+pub returns-in_default-numbered-2 : goal.returns-in_default-numbered-2
+returns-in_default-numbered-2 c =
+    let same : c.rrsets.result.now ≡ c.args.self.now.rrsets = c.rrsets.ensures.value ∙ ap (λ (t : TableContents). t.rrsets) c.self.view_is in
+    subst (λ (rrsets : List ReceivedRrset). SignsNothing rrsets c.args.number) same
+    (unnumbered_signature c.rrsets.result.now c.args.number c.in-Some-numbered.rrset.now c.signatures.result.now c.in-Some-numbered.ensures
+    c.signatures.ensures c.in_default-numbered-2.ensures)
+
+pub returns-in_default-2 : goal.returns-in_default-2
+returns-in_default-2 c =
+    let same : c.rrsets.result.now ≡ c.args.self.now.rrsets = c.rrsets.ensures.value ∙ ap (λ (t : TableContents). t.rrsets) c.self.view_is in
+    let rrset = c.in-Some-numbered.rrset.now in
+    let rrsig = c.in-Some-numbered-2.rrsig.now in
+    let nothing : IsSignedData rrset.owner rrset.rtype rrset.rdata rrsig None =
+    subst (λ found. IsSignedData rrset.owner rrset.rtype rrset.rdata rrsig (option_map (λ octets. octets.items) found)) c.in_default-2.is
+    c.in_ok-octets.ensures in
+    subst (λ (rrsets : List ReceivedRrset). SignsNothing rrsets c.args.number) same
+    (unsigned c.rrsets.result.now c.args.number rrset c.signatures.result.now c.in-Some-numbered.ensures c.signatures.ensures rrsig
+    c.in-Some-numbered-2.ensures nothing)
 
 pub returns : goal.returns
 returns c =
-    let inside = c.self.inside in
-    let place = c.in-Some.place in
-    let key = c.args.key.now in
-    let number = c.in-Some-find_key.key_number in
-    let wanted : EntryNumbers = record { key = number; signature = place.part } in
-    let is : IsPlaceOf inside.capture.now.rrsets inside.parts place = c.self.invariant.2 place c.in-Some.ensures.0 in
-    let field : c.as_slice-field.result.now ≡ key.dnskey.key = c.as_slice-field.ensures ∙ ap (λ (dnskey : Dnskey). dnskey.key) c.dnskey.ensures in
-    let its : key_of inside.parts number ≡ record { algorithm = place.algorithm; key = key.dnskey.key } =
-    c.in-Some-find_key.ensures.1 ∙ (λ i. record { algorithm = place.algorithm; key = field i }) in
-    let numbers : c.deref-2.result.now ≡ inside.numbers.value.items = c.deref-2.ensures.value ∙ ap (λ v. v.items) c.deref.ensures in
-    let said : c.listed.result ≡ listed_answer (zip inside.numbers.value.items inside.answers.items) wanted =
-    c.listed.ensures ∙ (λ i. listed_answer (zip (numbers i) (c.deref-3.ensures.value i)) wanted) in
-    subst (λ (table : TableContents). IsAnswerAt table c.args.number key c.listed.result) c.self.view_is
-    (subst (λ (number : SignatureNumber). IsAnswerAt (record {
-      moment = inside.moment;
-      rrsets = inside.capture.now.rrsets;
-      answers = answers_of inside.parts (zip inside.numbers.value.items inside.answers.items);
-    }) number key c.listed.result) c.in-Some.ensures.1
-    (subst (λ (answer : Answer). IsAnswerAt (record {
-      moment = inside.moment;
-      rrsets = inside.capture.now.rrsets;
-      answers = answers_of inside.parts (zip inside.numbers.value.items inside.answers.items);
-    }) place.number key answer) (sym said)
-    (says_at inside.moment inside.capture.now.rrsets inside.parts inside.numbers.value.items inside.answers.items c.self.invariant.1 c.self.invariant.0 place is key number c.in-Some-find_key.ensures.0 its)))
+    let table = c.args.self.now in
+    let rrset = c.in-Some-numbered.rrset.now in
+    let rrsig = c.in-Some-numbered-2.rrsig.now in
+    let same : c.rrsets.result.now ≡ table.rrsets = c.rrsets.ensures.value ∙ ap (λ (t : TableContents). t.rrsets) c.self.view_is in
+    let numbered : IsNumbered table.rrsets c.args.number.rrset rrset =
+    subst (λ (rrsets : List ReceivedRrset). IsNumbered rrsets c.args.number.rrset rrset) same c.in-Some-numbered.ensures in
+    let signed : IsSignedData rrset.owner rrset.rtype rrset.rdata rrsig (Some c.in-Some-2.octets.items) =
+    subst (λ found. IsSignedData rrset.owner rrset.rtype rrset.rdata rrsig (option_map (λ octets. octets.items) found)) c.in-Some-2.is
+    c.in_ok-octets.ensures in
+    let octets : IsSignedData rrset.owner rrset.rtype rrset.rdata rrsig (Some c.as_slice.result.now) =
+    subst (λ (o : List ℕ). IsSignedData rrset.owner rrset.rtype rrset.rdata rrsig (Some o)) (sym c.as_slice.ensures.value) signed in
+    says_over table c.args.number rrset rrsig c.args.key.now c.as_slice.result.now c.answer-answer.result
+    (signature_numbered table.rrsets c.args.number rrset c.signatures.result.now numbered c.signatures.ensures rrsig c.in-Some-numbered-2.ensures)
+    octets (c.answer-answer.ensures ∙ ap (λ entry. table_answer table entry) c.entry_over.ensures)

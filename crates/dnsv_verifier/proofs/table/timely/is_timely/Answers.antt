@@ -1,5 +1,4 @@
-use Rattle.std.proofs.Common.{◌≡◌, ℕ, List, ap, ◌∙◌, arith}
-use Rattle.dnsv_names.specs.Octets.{number_at}
+use Rattle.std.proofs.Common.{◌∙◌, arith}
 use Rattle.dnsv_verifier.proofs.SignedDataLemmas.{long_too, number_too, short_too}
 use Rattle.dnsv_verifier.proofs.TimelyLemmas.{short_fails, tested}
 use Rattle.dnsv_verifier.proofs.table.timely.is_timely.Goals as goal
