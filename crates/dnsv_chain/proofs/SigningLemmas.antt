@@ -1,7 +1,7 @@
 -- Signatures under some keys, and their numbers.
 pub mod GoodLemmas
 pub mod NumberLemmas
-use Rattle.std.proofs.Common.{◌≡◌, ◌<◌, ◌≤◌, ◌+◌, ◌-◌, ◌↔◌, ℕ, List, [], ◌∷◌, ◌++◌, length, get_or, Some, None, refl, sym, ap, ◌∙◌, subst, arith, ⊎_elim}
+use Rattle.std.proofs.Common.{◌≡◌, ◌<◌, ◌≤◌, ◌+◌, ◌-◌, ℕ, List, [], ◌∷◌, ◌++◌, length, get_or, sym, ap, ◌∙◌, subst, arith, ⊎_elim}
 use Rattle.std.proofs.lemmas.Bool.{cases_lt}
 use Rattle.std.proofs.lemmas.List.{get_or_append_left, get_or_push, length-append}
 use Rattle.std.proofs.lemmas.List.Elements.{Contains-get_or, Contains-append_left, Contains-push, Contains-push_cases}
@@ -13,12 +13,11 @@ use Rattle.dnsv_records.proofs.OneRecord.{one_rrsig}
 use Rattle.dnsv_records.specs.Rrsig.{IsRrsig}
 use Rattle.dnsv_records.specs.declared.rrsig.Rrsig.{Rrsig}
 use Rattle.dnsv_canonical.specs.Rrsets.{ReceivedRrset}
-use Rattle.dnsv_canonical.specs.SignedData.{IsSignedData}
-use Rattle.dnsv_verifier.specs.Admissible.{DnskeyRecord, IsEntryOf, IsGood, IsVerifiable, entry_over}
+use Rattle.dnsv_verifier.specs.Admissible.{DnskeyRecord, IsGood, IsVerifiable}
 use Rattle.dnsv_verifier.specs.declared.answer.Answer.{Answer}
 use Rattle.dnsv_verifier.specs.declared.entry.Entry.{Entry}
 use Rattle.dnsv_chain.proofs.ZipLemmas.{zip_at, zip_length}
-use Rattle.dnsv_chain.specs.Signing.{AreGoodNumbers, AreGoodNumbersTo, IsGoodNumber, IsGoodUnderSome, IsSignedUnderSome, IsValidBySome, MayHaveMadeOne}
+use Rattle.dnsv_chain.specs.Signing.{AreGoodNumbers, AreGoodNumbersTo, IsGoodNumber, IsGoodUnderSome, IsSignedUnderSome, MayHaveMadeOne}
 
 module _ (meaning : Entry → Answer) (moment : ℕ) (rrset : ReceivedRrset) (rrsig : Rrsig) (keys : List DnskeyRecord) where
   -- what is good can be verified, under a key that may have made it
@@ -31,44 +30,6 @@ module _ (meaning : Entry → Answer) (moment : ℕ) (rrset : ReceivedRrset) (rr
   not_verifiable never good =
       let admissible = good.good.admissible in
       never (record { over = admissible.over; timely = admissible.timely; signer = admissible.signer; unexpanded = admissible.unexpanded })
-
-  -- what can be verified signs something
-  pub never_signed : IsVerifiable moment rrset rrsig → IsSignedData rrset.owner rrset.rtype rrset.rdata rrsig None → ⊥
-  never_signed verifiable none = let labels = verifiable.over.labels in omega (arith, labels, none)
-
-  -- over what it signs, Valid is good
-  pub good_if_valid : (octets : List ℕ) → IsVerifiable moment rrset rrsig
-      → IsSignedData rrset.owner rrset.rtype rrset.rdata rrsig (Some octets)
-      → ((key : DnskeyRecord) (a b : Entry) → IsEntryOf rrset rrsig key a → IsEntryOf rrset rrsig key b → a ≡ b)
-      → IsValidBySome meaning rrsig octets keys ↔ IsGoodUnderSome meaning moment rrset rrsig keys
-  good_if_valid octets verifiable signed one =
-      let entry_is : (key : DnskeyRecord) → IsEntryOf rrset rrsig key (entry_over rrsig octets key) = λ key. record { algorithm = refl; key_field = refl; signed_data = signed; signature = refl } in (
-        λ some. record {
-          key = some.key;
-          among = some.among;
-          good = record {
-            admissible = record {
-              over = verifiable.over;
-              timely = verifiable.timely;
-              signer = verifiable.signer;
-              unexpanded = verifiable.unexpanded;
-              zone_key = some.valid.made.zone_key;
-              named = some.valid.made.named;
-            };
-            entry = entry_over rrsig octets some.key;
-            is = entry_is some.key;
-            valid = some.valid.valid;
-          };
-        },
-        λ good. record {
-          key = good.key;
-          among = good.among;
-          valid = record {
-            made = record { zone_key = good.good.admissible.zone_key; named = good.good.admissible.named };
-            valid = ap meaning (one good.key (entry_over rrsig octets good.key) good.good.entry (entry_is good.key) good.good.is) ∙ good.good.valid;
-          };
-        },
-      )
 
 length_push : (xs : List ℕ) (y : ℕ) → length (xs ++ y ∷ []) ≡ length xs + 1
 length_push xs y = length-append xs (y ∷ [])

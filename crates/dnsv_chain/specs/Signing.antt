@@ -31,13 +31,6 @@ pub record IsValidBy (meaning : Entry → Answer) (rrsig : Rrsig) (octets : List
   pub made : MayHaveMade key rrsig
   pub valid : meaning (entry_over rrsig octets key) ≡ Valid
 
--- so it is with one of the keys
-pub record IsValidBySome (meaning : Entry → Answer) (rrsig : Rrsig) (octets : List ℕ) (keys : List DnskeyRecord)
-    : Type 0 where
-  pub key : DnskeyRecord
-  pub among : Contains keys key
-  pub valid : IsValidBy meaning rrsig octets key
-
 -- the signature is good under one of the keys
 pub record IsGoodUnderSome
     (meaning : Entry → Answer) (moment : ℕ) (rrset : ReceivedRrset) (rrsig : Rrsig) (keys : List DnskeyRecord)

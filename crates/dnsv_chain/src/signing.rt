@@ -3,21 +3,18 @@
 pub mod answered;
 pub mod good;
 
-ghost use Rattle.std.specs.Prelude.{◌↔◌, ◌≡◌, IfOk, IfSome, IsTrue};
+ghost use Rattle.std.specs.Prelude.{◌↔◌, ◌≡◌, IfOk, IsTrue};
 ghost use Rattle.dnsv_canonical.specs.Rrsets.{ReceivedRrset};
 ghost use Rattle.dnsv_verifier.specs.Admissible.{IsGood, IsVerifiable, entry_over};
 ghost use Rattle.dnsv_verifier.specs.Table.{HasNumber, table_answer};
 ghost use Rattle.dnsv_anchors.specs.ByOwner.{values_at};
-ghost use Rattle.dnsv_chain.specs.Signing.{AreGoodNumbers, IsGoodUnderSome, IsOfTable, IsSignatureAt, IsSignedUnderSome, IsValidBy, IsValidBySome, MayHaveMadeOne};
+ghost use Rattle.dnsv_chain.specs.Signing.{AreGoodNumbers, IsGoodUnderSome, IsOfTable, IsSignatureAt, IsSignedUnderSome, IsValidBy, MayHaveMadeOne};
 
 use crate::signing::answered::AnsweredRrset;
 use dnsv_anchors::{ByOwner, at};
-use dnsv_canonical::{SignatureNumber, signed_data};
+use dnsv_canonical::SignatureNumber;
 use dnsv_records::Rrsig;
-use dnsv_verifier::{
-    Answer, KeyRecord, Table, Verifier, a_pair_has_one_entry, entry_over, is_verifiable,
-    may_have_made,
-};
+use dnsv_verifier::{Answer, KeyRecord, Table, Verifier, entry_over, is_verifiable, may_have_made};
 use std::alloc::{AllocError, Global};
 
 /// The keys of trusted RRsets by their owner, of each RDATA one.
@@ -61,9 +58,8 @@ pub fn is_signed_under_some(
     Ok(false)
 }
 
-/// Whether the signature of the RRset, which has the number in it, is good under one of the keys. Where the table doesn't
-/// know it by its numbers, what it signs is made once, and not at all where none of the keys may have made it.
-#[tactic(auto, using(crate::proofs::SigningLemmas::none_made, crate::proofs::SigningLemmas::not_verifiable, crate::proofs::SigningLemmas::never_signed))]
+/// Whether the signature of the RRset, which has the number in it, is good under one of the keys.
+#[tactic(auto, using(crate::proofs::SigningLemmas::none_made, crate::proofs::SigningLemmas::not_verifiable))]
 fn is_good_under_some(
     alloc: Global,
     answered: &AnsweredRrset<'_, '_>,
@@ -83,28 +79,21 @@ fn is_good_under_some(
     if !is_verifiable(table.moment(), rrset, rrsig) {
         return Ok(false);
     }
-    if let Some(good) = is_good_by_number(answered, number, rrsig, keys) {
-        return Ok(good);
-    }
-    a_pair_has_one_entry();
-    let Some(octets) = signed_data(alloc, rrset, rrsig)? else {
-        return Ok(false);
-    };
-    Ok(is_valid_under_some(table, rrsig, octets.as_slice(), keys))
+    is_good_by_number(alloc, answered, number, rrsig, keys)
 }
 
 /// Whether the signature, which can be verified, is good under one of the keys, by what the table says of its numbers.
-/// `None` where the table doesn't know it by these.
 fn is_good_by_number(
+    alloc: Global,
     answered: &AnsweredRrset<'_, '_>,
     number: usize,
     rrsig: &Rrsig<'_>,
     keys: &[KeyRecord<'_>],
-) -> Option<bool>
+) -> Result<bool, AllocError>
     requires rrset { IsOfTable answered.now }
     requires signature { IsSignatureAt answered.now.rrset.now number rrsig.now }
     requires verifiable { IsVerifiable answered.now.table.now.moment answered.now.rrset.now rrsig.now }
-    ensures { IfSome result (λ good. IsTrue good ↔ IsGoodUnderSome (table_answer answered.now.table.now)
+    ensures { IfOk result (λ good. IsTrue good ↔ IsGoodUnderSome (table_answer answered.now.table.now)
         answered.now.table.now.moment answered.now.rrset.now rrsig.now keys.now) }
 {
     let number = SignatureNumber {
@@ -112,35 +101,30 @@ fn is_good_by_number(
         signature: number,
     };
     for key in keys {
-        let Some(good) = is_good_at(answered.table, number, rrsig, key) else {
-            return None;
-        };
-        if good {
-            return Some(true);
+        if is_good_at(alloc, answered.table, number, rrsig, key)? {
+            return Ok(true);
         }
     }
-    Some(false)
+    Ok(false)
 }
 
-/// Whether the signature, which can be verified and has these numbers, is good under the key. `None` where the table doesn't
-/// know it by these.
+/// Whether the signature, which can be verified and has these numbers, is good under the key.
 fn is_good_at(
+    alloc: Global,
     table: &Table<'_>,
     number: SignatureNumber,
     rrsig: &Rrsig<'_>,
     key: &KeyRecord<'_>,
-) -> Option<bool>
-    ensures { (rrset : ReceivedRrset) → HasNumber table.now.rrsets number rrset rrsig.now
+) -> Result<bool, AllocError>
+    ensures { IfOk result (λ good. (rrset : ReceivedRrset) → HasNumber table.now.rrsets number rrset rrsig.now
         → IsVerifiable table.now.moment rrset rrsig.now
-        → IfSome result (λ good. IsTrue good ↔ IsGood (table_answer table.now) table.now.moment rrset rrsig.now key.now) }
+        → IsTrue good ↔ IsGood (table_answer table.now) table.now.moment rrset rrsig.now key.now) }
 {
     if !may_have_made(key, rrsig) {
-        return Some(false);
+        return Ok(false);
     }
-    match table.answer_at(number, key) {
-        Some(answer) => Some(answer == Answer::Valid),
-        None => None,
-    }
+    let answer = table.answer_at(alloc, number, key)?;
+    Ok(answer == Some(Answer::Valid))
 }
 
 /// Whether one of the keys may have made the signature.
@@ -148,18 +132,6 @@ fn has_made_one(keys: &[KeyRecord<'_>], rrsig: &Rrsig<'_>) -> bool
     ensures { IsTrue result ↔ MayHaveMadeOne keys.now rrsig.now }
 {
     keys.iter().any(|key| may_have_made(key, rrsig))
-}
-
-/// Whether one of the keys may have made the signature, and the table says Valid of it over the octets.
-fn is_valid_under_some(
-    table: &Table<'_>,
-    rrsig: &Rrsig<'_>,
-    octets: &[u8],
-    keys: &[KeyRecord<'_>],
-) -> bool
-    ensures { IsTrue result ↔ IsValidBySome (table_answer table.now) rrsig.now octets.now keys.now }
-{
-    keys.iter().any(|key| is_valid(table, rrsig, octets, key))
 }
 
 /// Whether the key may have made the signature, and the table says Valid of it over the octets.

@@ -1,5 +1,5 @@
 -- Signatures by their numbers, and what a table says of these.
-use Rattle.std.proofs.Common.{◌≡◌, ◌<◌, ◌≤◌, ◌+◌, ◌-◌, ◌↔◌, ℕ, List, [], length, get_or, sym, ap, ◌∙◌, subst, arith}
+use Rattle.std.proofs.Common.{◌≡◌, ◌<◌, ◌≤◌, ◌+◌, ◌-◌, ◌↔◌, ℕ, List, [], Option, Some, None, MatchOption, length, get_or, sym, ap, ◌∙◌, subst, arith}
 use Rattle.std.proofs.lemmas.Option.{slice_get-get_or}
 use Rattle.std.specs.List.{AllZip, slice_get}
 use Rattle.dnsv_records.proofs.OneRecord.{one_rrsig}
@@ -10,7 +10,7 @@ use Rattle.dnsv_canonical.specs.declared.number.SignatureNumber.{SignatureNumber
 use Rattle.dnsv_canonical.proofs.NumberLemmas.{one_numbered}
 use Rattle.dnsv_verifier.proofs.EntryLemmas.{one_entry}
 use Rattle.dnsv_verifier.specs.Admissible.{DnskeyRecord, IsEntryOf, IsGood, IsVerifiable, MayHaveMade}
-use Rattle.dnsv_verifier.specs.Table.{HasNumber, IsAnswerAt, TableContents, table_answer}
+use Rattle.dnsv_verifier.specs.Table.{HasNumber, IsAnswerAt, SignsNothing, TableContents, table_answer}
 use Rattle.dnsv_verifier.specs.declared.answer.Answer.{Answer}
 use Rattle.dnsv_verifier.specs.declared.answer.Answer.TheVariants.{Valid}
 use Rattle.dnsv_verifier.specs.declared.entry.Entry.{Entry}
@@ -71,6 +71,20 @@ good_by_answer contents number rrset rrsig key answer has verifiable made is =
         valid = sym is.says ∙ valid;
       },
       λ good. is.says ∙ ap (table_answer contents) (one_entry rrset rrsig key is.entry good.entry asked good.is) ∙ good.valid,
+    )
+
+-- so is what it says where it is asked something
+pub good_by_found : (contents : TableContents) (number : SignatureNumber) (rrset : ReceivedRrset) (rrsig : Rrsig) (key : DnskeyRecord)
+    (found : Option Answer) → HasNumber contents.rrsets number rrset rrsig → IsVerifiable contents.moment rrset rrsig → MayHaveMade key rrsig
+    → MatchOption found (SignsNothing contents.rrsets number) (IsAnswerAt contents number key)
+    → (found ≡ Some Valid) ↔ IsGood (table_answer contents) contents.moment rrset rrsig key
+good_by_found contents number rrset rrsig key None has verifiable made nothing =
+    let labels = verifiable.over.labels in
+    let more = nothing rrset rrsig has in absurd (omega (arith, labels, more))
+good_by_found contents number rrset rrsig key (Some answer) has verifiable made is =
+    let same = good_by_answer contents number rrset rrsig key answer has verifiable made is in (
+      λ found. same.0 (let is_valid : Some answer ≡ Some Valid = found in cc),
+      λ good. ap Some (same.1 good),
     )
 
 -- who is good under a key may have been made by it

@@ -1,20 +1,17 @@
-use Rattle.std.proofs.Common.{◌↔◌, Bool, Option, IfSome, IsTrue, refl, subst}
+use Rattle.std.proofs.Common.{refl}
 use Rattle.std.proofs.lemmas.Bool.{false≢true}
-use Rattle.dnsv_verifier.specs.Admissible.{IsGood}
 use Rattle.dnsv_verifier.specs.Table.{table_answer}
 use Rattle.dnsv_chain.proofs.SigningLemmas.NumberLemmas.{good_under, good_under_none, has_number}
 use Rattle.dnsv_chain.proofs.signing.is_good_by_number.Goals as goal
 
-pub returns-then-good : goal.returns-then-good
-returns-then-good c =
+pub returns-then-branch : goal.returns-then-branch
+returns-then-branch c =
     let table = c.args.answered.now.table.now in
     let rrset = c.args.answered.now.rrset.now in
     let has = has_number table.rrsets c.args.answered.now.number rrset c.args.number c.args.rrsig.now c.requires.rrset c.requires.signature in
-    let test : IsTrue c.in-Some.good ↔ IsGood (table_answer table) table.moment rrset c.args.rrsig.now c.key-item.result =
-    subst (λ (found : Option Bool). IfSome found (λ good. IsTrue good ↔ IsGood (table_answer table) table.moment rrset c.args.rrsig.now c.key-item.result)) c.in-Some.is
-    (c.is_good_at.ensures rrset has c.requires.verifiable) in (
+    let test = c.in_ok-is_good_at.ensures rrset has c.requires.verifiable in (
       λ _. good_under (table_answer table) table.moment rrset c.args.rrsig.now c.args.keys.now c.loop-key.key-index c.key-item.result c.loop-key-test.true c.key-item.is
-          (test.0 c.if-good.true),
+          (test.0 c.if-branch.true),
       λ _. refl,
     )
 
