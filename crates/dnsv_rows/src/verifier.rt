@@ -2,7 +2,7 @@
 
 use crate::evidence::dnskey_of;
 use bumpalo::Bump;
-use dnsv_canonical::{Capture, Rrset};
+use dnsv_canonical::{Capture, Rrset, SignatureNumber};
 use dnsv_names::Count;
 use dnsv_record_rows::{capture, signature};
 use dnsv_records::{Algorithm, Octets};
@@ -34,6 +34,9 @@ pub fn answer(row: &Row) -> Result<Option<String>, RowError> {
     }
     if row.calls("hopeful") {
         return Ok(Some(hopeful(row)?));
+    }
+    if row.calls("answer_at") {
+        return Ok(Some(answer_at(row)?));
     }
     if row.calls("admissible") {
         return Ok(Some(admissible(row)?));
@@ -165,6 +168,32 @@ fn hoped_of(
     let (moment, entries) = (hopeful.moment(), hopeful.len());
     let unknown = hopeful.unknown(row.alloc())?.len();
     Ok(format!(in row.alloc(); "{said:?} {hoped:?} {moment} {entries} {unknown}")?)
+}
+
+/// `answer_at CAPTURE MOMENT STATEMENTS RRSET SIGNATURE KEYRRSET KEY`: what the table says of the signature with these
+/// numbers under the key; `-` where a verifier is asked nothing of it.
+fn answer_at(row: &Row) -> Result<String, RowError> {
+    let bump = Bump::new(row.alloc());
+    let capture = capture(row, 0, &bump)?;
+    said_at(row, &bump, &capture)
+}
+
+fn said_at(row: &Row, bump: &Bump, capture: &Capture<'_>) -> Result<String, RowError> {
+    let table = table_of(row, bump, capture, &mut Count::new())?;
+    let (Ok(rrset), Ok(signature)) = (
+        usize::try_from(row.number(3)?),
+        usize::try_from(row.number(4)?),
+    ) else {
+        return Err(RowError::Malformed);
+    };
+    let set = dnsv_record_rows::rrset(row, 5, capture)?;
+    let rdata = key_rdata(row, 6, set)?;
+    let dnskey = dnskey_of(rdata)?;
+    let key = KeyRecord::new(set.owner(), rdata, &dnskey);
+    match table.answer_at(row.alloc(), SignatureNumber { rrset, signature }, &key)? {
+        Some(answer) => Ok(format!(in row.alloc(); "{answer:?}")?),
+        None => Ok(format!(in row.alloc(); "-")?),
+    }
 }
 
 /// `admissible CAPTURE MOMENT RRSET SIGNATURE KEYRRSET KEY`: whether the key may be used to verify the signature, and
