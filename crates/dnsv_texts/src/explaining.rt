@@ -44,7 +44,7 @@ fn push_line(text: &mut String, line: &Line, numbers: Option<&[usize]>) -> Resul
     ensures { OnOk result (string_bytes text.new
         ≡ string_bytes text.old ++ why_line (option_map (λ numbers. numbers.now) numbers.entry) line.now) }
 {
-    match renumbered(line, numbers)? {
+    match renumbered(line, numbers) {
         Some(told) => write_line(text, &told),
         None => write_line(text, line),
     }

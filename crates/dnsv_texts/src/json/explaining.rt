@@ -78,7 +78,7 @@ fn push_members(text: &mut String, line: &Line, numbers: Option<&[usize]>) -> Re
     ensures { OnOk result (string_bytes text.new
         ≡ string_bytes text.old ++ why_json (option_map (λ numbers. numbers.now) numbers.entry) line.now) }
 {
-    match renumbered(line, numbers)? {
+    match renumbered(line, numbers) {
         Some(line) => push_line(text, &line),
         None => push_line(text, line),
     }
