@@ -105,7 +105,7 @@ fn push_shown(
 ) -> Result<(), AllocError>
     ensures { OnOk result (AddsShown rrsets.now border.now all.old.items all.new.items) }
 {
-    let Some(shown) = shown_border(rrsets, *border)? else {
+    let Some(shown) = shown_border(rrsets, *border) else {
         return Ok(());
     };
     all.push(shown)?;
@@ -113,43 +113,36 @@ fn push_shown(
 }
 
 /// What is shown of the border; `None` where the evidence has no such signature.
-fn shown_border(rrsets: &[Rrset<'_>], border: Border) -> Result<Option<ShownBorder>, AllocError>
-    ensures { IfOk result (λ found. MatchOption found ((shown : ShownBorder) → ¬ specs.IsBorderShown rrsets.now border shown)
-        (specs.IsBorderShown rrsets.now border)) }
+fn shown_border(rrsets: &[Rrset<'_>], border: Border) -> Option<ShownBorder>
+    ensures { MatchOption result ((shown : ShownBorder) → ¬ specs.IsBorderShown rrsets.now border shown)
+        (specs.IsBorderShown rrsets.now border) }
 {
-    let Some(signature) = shown_signature(rrsets, border.signature.number)? else {
-        return Ok(None);
+    let Some(signature) = shown_signature(rrsets, border.signature.number) else {
+        return None;
     };
-    Ok(Some(ShownBorder { border, signature }))
+    Some(ShownBorder { border, signature })
 }
 
 /// What is shown of the signature with the number; `None` where the evidence has none.
-fn shown_signature(
-    rrsets: &[Rrset<'_>],
-    number: SignatureNumber,
-) -> Result<Option<ShownSignature>, AllocError>
-    ensures { IfOk result (λ found. MatchOption found
-        ((shown : ShownSignature) → ¬ specs.IsSignatureShown rrsets.now number shown) (specs.IsSignatureShown rrsets.now number)) }
+fn shown_signature(rrsets: &[Rrset<'_>], number: SignatureNumber) -> Option<ShownSignature>
+    ensures { MatchOption result ((shown : ShownSignature) → ¬ specs.IsSignatureShown rrsets.now number shown)
+        (specs.IsSignatureShown rrsets.now number) }
 {
     let Some(rrset) = numbered(rrsets, number.rrset) else {
-        return Ok(None);
+        return None;
     };
     let Some(rrsig) = numbered(rrset.signatures(), number.signature) else {
-        return Ok(None);
+        return None;
     };
-    Ok(Some(shown_of(number, rrset, rrsig)?))
+    Some(shown_of(number, rrset, rrsig))
 }
 
 /// A signature of the RRset, with the number and what it names its key by.
-fn shown_of(
-    number: SignatureNumber,
-    rrset: &Rrset<'_>,
-    rrsig: &Rrsig<'_>,
-) -> Result<ShownSignature, AllocError>
-    ensures { IfOk result (λ shown. shown ≡ specs.shown_of number rrset.now rrsig.now) }
+fn shown_of(number: SignatureNumber, rrset: &Rrset<'_>, rrsig: &Rrsig<'_>) -> ShownSignature
+    ensures { result ≡ specs.shown_of number rrset.now rrsig.now }
 {
-    Ok(ShownSignature {
-        owner: rrset.owner().clone()?,
+    ShownSignature {
+        owner: rrset.owner().clone().unwrap(),
         rtype: rrset.rtype(),
         number,
         key: KeyName {
@@ -157,5 +150,5 @@ fn shown_of(
             algorithm: rrsig.algorithm,
         },
         signer: rrsig.signer.to_name(),
-    })
+    }
 }

@@ -7,5 +7,5 @@ pub returns-in_default : goal.returns-in_default
 returns-in_default c = record {
   some = [];
   is = sym (append-nil c.args.all.now.items);
-  are = inr (MatchOption-at_none _ _ c.in_default.is c.in_ok-shown.ensures, refl);
+  are = inr (MatchOption-at_none _ _ c.in_default.is c.shown_border.ensures, refl);
 }

@@ -9,4 +9,4 @@ returns-in_default-numbered c =
 pub returns : goal.returns
 returns c =
     some_shown c.args.rrsets.now c.args.number c.in-Some.rrset.now c.signatures.result.now c.in-Some.ensures c.signatures.ensures
-    c.in-Some-numbered.rrsig.now c.in-Some-numbered.ensures c.in_ok-shown_of.field-0 c.in_ok-shown_of.ensures
+    c.in-Some-numbered.rrsig.now c.in-Some-numbered.ensures c.shown_of.result c.shown_of.ensures
