@@ -15,7 +15,7 @@ use std::cmp::Ordering;
 
 /// Whether there are no entries, or they rise.
 pub fn do_rise(entries: Option<&Entries<'_>>) -> bool
-    ensures { (are : IsTrue result) → AreRising (option_map_or (λ entries. entries.now) entries.entry []) }
+    ensures { IsTrue result ↔ AreRising (option_map_or (λ entries. entries.now) entries.entry []) }
 {
     match entries {
         Some(entries) => are_rising(entries),
@@ -25,7 +25,7 @@ pub fn do_rise(entries: Option<&Entries<'_>>) -> bool
 
 /// Whether each entry is less than the one behind it.
 fn are_rising(entries: &Entries<'_>) -> bool
-    ensures { (are : IsTrue result) → AreRising entries.now }
+    ensures { IsTrue result ↔ AreRising entries.now }
 {
     for place in 1..entries.len() {
         if !is_less(&entries.at(place - 1), &entries.at(place)) {

@@ -1,5 +1,5 @@
 //! What the derivations of all questions over one case share.
-ghost use Rattle.std.specs.Prelude.{◌≡◌, ◌⊎◌, [], IfErr, IfOk, IsErrOf};
+ghost use Rattle.std.specs.Prelude.{◌≡◌, ◌⊎◌, [], IfErr, IfOk, IsErrOf, length};
 ghost use Rattle.dnsv_questions.specs.Question.{IsQuestion};
 ghost use Rattle.dnsv_derivations.specs.Explained.{setting_in};
 ghost use Rattle.dnsv_holding.specs.Derived.{IsDerived};
@@ -157,7 +157,8 @@ impl<'a> Deriver<'a> {
 
 /// The first way into each RRset of the case, by its number.
 fn ways_of(alloc: Global, case: &Case<'_>) -> Result<Vec<KeptWay>, AllocError>
-    ensures { IfOk result (λ ways. AreFirstWays (setting_in (explained_by case.now [])) ways.items) }
+    ensures ways { IfOk result (λ ways. AreFirstWays (setting_in (explained_by case.now [])) ways.items) }
+    ensures all { IfOk result (λ ways. length ways.items ≡ length case.now.rrsets) }
 {
     let evidence = evidence_of(case, None);
     first_ways(alloc, &evidence)
@@ -195,8 +196,9 @@ fn hoped_ways(
     hope: &Hope<'_>,
     unknown: &Entries<'_>,
 ) -> Result<Vec<KeptWay>, AllocError>
-    ensures { IfOk result (λ ways. AreFirstWays (setting_in (explained_by hope.now.case.value unknown.now))
+    ensures ways { IfOk result (λ ways. AreFirstWays (setting_in (explained_by hope.now.case.value unknown.now))
         ways.items) }
+    ensures all { IfOk result (λ ways. length ways.items ≡ length hope.now.case.value.rrsets) }
 {
     let evidence = evidence_of(hope.case.as_ref(), Some(unknown));
     first_ways(alloc, &evidence)

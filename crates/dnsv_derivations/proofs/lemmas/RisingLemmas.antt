@@ -42,6 +42,15 @@ module _ (entries : List Entry) where
         (cases_lt j n);
   }
 
+  -- of those that rise each is less than the next
+  pub rising_next : (n : ℕ) (a b : Entry) → 0 < n → n < length entries → ((other : Entry) → slice_index_or entries (n - 1) other ≡ a)
+      → ((other : Entry) → slice_index_or entries n other ≡ b) → AreRising entries → entry_cmp a b ≡ Less
+  rising_next n a b some inside at next rising =
+      let step : entry_cmp (At (n - 1) a) (At n a) ≡ Less = rising.less (n - 1) n a (omega (arith, some)) inside inside in
+      let Of : Entry → Type 0 = λ each. entry_cmp each (At n a) ≡ Less in
+      let Under : Entry → Type 0 = λ each. entry_cmp a each ≡ Less in
+      subst Under (next a) (subst Of (at a) step)
+
   pub rising_all : (n : ℕ) → length entries ≤ n → AreRisingTo entries n → AreRising entries
   rising_all n past rising = record {
     less = λ i j d before below within. rising.less i j d before (omega (arith, within, past)) within;

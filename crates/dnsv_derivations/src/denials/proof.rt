@@ -1,5 +1,5 @@
 //! The line of a proof.
-ghost use Rattle.std.specs.Prelude.{◌≡◌, ◌↔◌, IfOk, IsTrue, OnOk};
+ghost use Rattle.std.specs.Prelude.{◌≡◌, ◌↔◌, IsTrue, OnOk};
 ghost use Rattle.std.specs.Option.{option_map};
 ghost use Rattle.dnsv_names.specs.Name.{rightmost};
 ghost use Rattle.dnsv_proof_forms.specs.forms.ProofForms.{form_encloser};
@@ -21,7 +21,7 @@ pub fn add_proof(lines: &mut Vec<Line>, name: &Name, shown: &ShownDenial) -> Res
     let Some(form) = told_form(&shown.form) else {
         return Ok(());
     };
-    let proof = proof_line(form, name, shown)?;
+    let proof = proof_line(form, name, shown);
     if is_proof_said(lines, &proof) {
         return Ok(());
     }
@@ -30,16 +30,16 @@ pub fn add_proof(lines: &mut Vec<Line>, name: &Name, shown: &ShownDenial) -> Res
 }
 
 /// How the denial of the name, which has the form, is reported.
-fn proof_line(form: Form, name: &Name, shown: &ShownDenial) -> Result<Proof, AllocError>
+fn proof_line(form: Form, name: &Name, shown: &ShownDenial) -> Proof
     requires { FitsEncloser name.now (form_encloser shown.now.form) }
-    ensures { IfOk result (IsProofLine form name.now shown.now) }
+    ensures { IsProofLine form name.now shown.now result }
 {
-    Ok(Proof {
+    Proof {
         form,
         chain: told_chain(shown.chain),
-        zone: shown.proof.zone().clone()?,
+        zone: shown.proof.zone().clone().unwrap(),
         encloser: encloser_of(name, &shown.form),
-    })
+    }
 }
 
 fn told_form(form: &ProofForm<RecordNumber>) -> Option<Form>

@@ -6,7 +6,6 @@ use Rattle.dnsv_names.specs.Tree.AncestorLaws.{rightmost_above, rightmost_same}
 use Rattle.dnsv_names.specs.Tree.TreeLaws.{at_or_below_trans}
 use Rattle.dnsv_zones.specs.forms.Forms.{IsAbove}
 use Rattle.dnsv_zones.specs.forms.RecordWords.{RecordWords}
-use Rattle.dnsv_canonical.specs.Rrsets.{ReceivedRrset}
 use Rattle.dnsv_proof_forms.specs.forms.ProofForms.{ShowsNoCloser, form_records}
 use Rattle.dnsv_proof_forms.specs.forms.ProofForms.ShowsNoCloser.{no_closer as closer_shown}
 use Rattle.dnsv_denial.specs.gathering.Evidence.{IsSecuredBy}

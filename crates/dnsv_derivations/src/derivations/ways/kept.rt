@@ -32,7 +32,8 @@ pub struct NewKey {
 
 /// The first way into each RRset, by its number.
 pub fn first_ways(alloc: Global, evidence: &Evidence<'_>) -> Result<Vec<KeptWay>, AllocError>
-    ensures { IfOk result (λ ways. AreFirstWays (setting_in evidence.now) ways.items) }
+    ensures ways { IfOk result (λ ways. AreFirstWays (setting_in evidence.now) ways.items) }
+    ensures all { IfOk result (λ ways. length ways.items ≡ length evidence.now.rrsets) }
 {
     let mut ways = Vec::new(alloc);
     for (place, rrset) in evidence.rrsets().iter().enumerate() {

@@ -6,7 +6,7 @@ use Rattle.dnsv_verdict.specs.declared.error.VerdictError.TheVariants.{BadQuesti
 use Rattle.dnsv_verdict.specs.declared.traced.Traced.{Traced}
 use Rattle.dnsv_derivations.specs.Explained.{Explained, setting_in}
 use Rattle.dnsv_holding.specs.Explained.{explained_by}
-use Rattle.dnsv_holding.specs.SharedWays.{AreHopedWays, AreOfCase}
+use Rattle.dnsv_holding.specs.SharedWays.{AreHopedWays}
 use Rattle.dnsv_derivations.specs.derivations.WaySearch.{AreFirstWays}
 use Rattle.dnsv_derivations.specs.declared.derivations.ways.kept.KeptWay.{KeptWay}
 use Rattle.dnsv_holding.proofs.lemmas.telling.DerivedLemmas.{derivation_by, same_error, stop_derived}

@@ -9,4 +9,4 @@ returns c =
     ways_of_hope case c.in-Some.hope c.in-Pending.unknown judged.report.last c.args.rtype.0 _
     (the_hope case judged.report.last c.args.rtype.0 judged.report.verdict judged.hope c.in-Pending.unknown c.in-Pending.is c.requires.hope c.in-Some.hope c.in-Some.is)
     (listed case judged.report.last c.args.rtype.0 judged.report.verdict c.in-Pending.unknown c.in-Pending.is c.requires.verdict)
-    c.in_ok-hoped.ensures
+    c.in_ok-hoped.ensures.ways

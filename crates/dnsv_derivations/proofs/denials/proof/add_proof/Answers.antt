@@ -18,11 +18,11 @@ pub returns-then-is_proof_said : goal.returns-then-is_proof_said
 returns-then-is_proof_said c =
     let lines = c.args.lines.now.items in
     let As : Option Form → Type 0 = λ form. Adds (IsProofOf form c.args.name.now c.args.shown.now) lines lines in
-    let said : IsProofSaid c.in_ok-proof.proof lines =
-    subst (λ each. IsProofSaid c.in_ok-proof.proof each) c.deref.ensures.value (c.is_proof_said.ensures.0 c.if-is_proof_said.true) in
+    let said : IsProofSaid c.proof_line-proof.result lines =
+    subst (λ each. IsProofSaid c.proof_line-proof.result each) c.deref.ensures.value (c.is_proof_said.ensures.0 c.if-is_proof_said.true) in
     subst As (sym c.in-Some.is ∙ c.told_form.ensures)
     (nothing_added lines (IsFormTold c.in-Some.form c.args.name.now c.args.shown.now)
-    (record { proof = c.in_ok-proof.proof; is = c.in_ok-proof.ensures; once = inl (said, refl) }))
+    (record { proof = c.proof_line-proof.result; is = c.proof_line-proof.ensures; once = inl (said, refl) }))
 
 pub returns : goal.returns
 returns c =
@@ -30,14 +30,14 @@ returns c =
     let As : Option Form → Type 0 = λ form. Adds (IsProofOf form c.args.name.now c.args.shown.now) lines c.push.new.self.items in
     subst As (sym c.in-Some.is ∙ c.told_form.ensures)
     (record {
-      more = line.Proof c.in_ok-proof.proof ∷ [];
+      more = line.Proof c.proof_line-proof.result ∷ [];
       is = c.in_ok-push.ensures.items;
       says = record {
-        proof = c.in_ok-proof.proof;
-        is = c.in_ok-proof.ensures;
+        proof = c.proof_line-proof.result;
+        is = c.proof_line-proof.ensures;
         once = inr (
           λ said. false≢true (sym c.if-is_proof_said.false
-              ∙ c.is_proof_said.ensures.1 (subst (λ each. IsProofSaid c.in_ok-proof.proof each) (sym c.deref.ensures.value) said)),
+              ∙ c.is_proof_said.ensures.1 (subst (λ each. IsProofSaid c.proof_line-proof.result each) (sym c.deref.ensures.value) said)),
           refl,
         );
       };

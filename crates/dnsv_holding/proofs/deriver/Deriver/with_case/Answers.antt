@@ -8,6 +8,6 @@ with_case-open_case-requires c = c.requires.evidence ∙ sym (ap (λ (case : Cas
 
 pub invariant_of-result : goal.invariant_of-result
 invariant_of-result c = rw c.with_case-open_case.ensures (
-  record { basis = c.requires.case.0; of = c.requires.case.1; ways = c.in_ok-ways.ensures },
+  record { basis = c.requires.case.0; of = c.requires.case.1; ways = c.in_ok-ways.ensures.ways },
   no_hoped_ways c.args.case c.new.result.items c.new.ensures.items,
 )
