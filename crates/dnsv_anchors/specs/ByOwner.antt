@@ -1,4 +1,4 @@
--- Values that are kept by the owner of their records. No public clause cites this module.
+-- Values that are kept by the owner of their records.
 use Rattle.std.specs.Prelude.{List, [], Vec}
 use Rattle.std.specs.BTreeMap.{BTreeMap}
 use Rattle.std.specs.Map.{lookup}

@@ -163,7 +163,8 @@ FollowsAsCase setting before cut =
 -- ---- lines one after another
 
 -- A line that says what is trusted, what is signed, a part of a proof, a case, a record that can't be used or where an
--- RRset stands follows from those before it.
+-- RRset stands follows from those before it. No rule speaks of proofs, of what may be hoped, of how long it holds, of
+-- reasons, of signers that aren't trusted and of keys: such a line follows from any.
 abbrev pub Follows : Setting → List Line → Line → Type 0
 Follows setting before (line.Trusted keys) = FollowsTrusted setting before keys
 Follows setting before (line.Signed signed) = FollowsSigned setting before signed

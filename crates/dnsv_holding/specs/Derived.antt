@@ -1,5 +1,5 @@
 -- What of an explanation derives a question: the lines of its way, and those of the verdict at its end.
-use Rattle.std.specs.Prelude.{◌≡◌, ℕ, List, [], ◌∷◌, ◌++◌}
+use Rattle.std.specs.Prelude.{ℕ, List, [], ◌∷◌, ◌++◌}
 use Rattle.dnsv_names.specs.Name.{Labels}
 use Rattle.dnsv_verifier.specs.Table.{IsTableOf, TableContents}
 use Rattle.dnsv_verdict.specs.Report.{IsReport}

@@ -1,4 +1,4 @@
--- Links of a way, with the hashes for their names. No public clause cites this module.
+-- Links of a way, with the hashes for their names.
 use Rattle.std.specs.Prelude.{◌≡◌, ℕ, List, map}
 use Rattle.dnsv_names.specs.Name.{Labels}
 use Rattle.dnsv_proof_forms.specs.QuestionHashes.{HashedQuestion}

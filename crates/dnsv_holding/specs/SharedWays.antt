@@ -1,4 +1,4 @@
--- What is kept of a case for the explanations of all questions. No public clause cites this module.
+-- What is kept of a case for the explanations of all questions.
 use Rattle.std.specs.Prelude.{List, []}
 use Rattle.dnsv_verifier.specs.declared.entry.Entry.{Entry}
 use Rattle.dnsv_chain.specs.Basis.{CaseContents, IsCaseOf, basis_by, Basis}

@@ -88,7 +88,8 @@ pub fn the_break_is_told()
         ≡ told.Signature (signature.Expired (times 100)) (signature_at 5 1) ∷ told.Signature (signature.Expired (times 100)) (signature_at 6 1) ∷ [] }
 {}
 
-/// A law: what the laws ask of facts can be met where a zone isn't trusted.
+/// A law: what the laws ask of facts is met by those of an example, to whose last zone a way is kept. No clause says that
+/// this zone isn't trusted.
 pub fn what_is_asked_of_facts_can_be_met()
     ensures closed { (heap : Global) → IsClosed (standby heap) }
     ensures in_place { (heap : Global) → IsInPlace (standby heap) }

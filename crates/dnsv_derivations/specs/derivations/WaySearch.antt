@@ -1,4 +1,4 @@
--- How the first way is looked for. No public clause cites this module.
+-- How the first way is looked for.
 use Rattle.std.specs.Prelude.{◌≡◌, ◌≢◌, ◌<◌, ◌≤◌, ◌+◌, ◌-◌, ℕ, List, Contains, MatchOption, Option, get_or, length, map}
 use Rattle.std.specs.List.{AllByRecursion}
 use Rattle.std.specs.declared.cmp.Ordering.TheVariants.{Less}
