@@ -1,7 +1,7 @@
 -- The steps in which the object of a list is written, up to what it lists.
 use Rattle.std.proofs.Common.{◌≡◌, true, false, List, [], ◌∷◌, ◌++◌, ℕ, refl, sym, ap, ◌∙◌, append_assoc, codes}
 use Rattle.std.proofs.lemmas.List.{append-nil}
-use Rattle.dnsv_lines.specs.Json.{array, member, object, parted, quoted}
+use Rattle.dnsv_lines.specs.Json.{array, member, parted, quoted}
 use Rattle.dnsv_lines.proofs.JsonLemmas.{parted_behind}
 use Rattle.dnsv_evidence_texts.specs.Json.{object_line}
 

@@ -1,36 +1,34 @@
 -- The first case of a source that is so.
-use Rattle.std.proofs.Common.{◌≡◌, ◌≢◌, ◌↔◌, ◌⊎◌, ◌<◌, ◌≤◌, ◌+◌, ◌-◌, ◌++◌, ℕ, Bool, IsTrue, inl, inr, List, [], ◌∷◌, length, map, refl, sym, ap, ◌∙◌, subst, arith, ⊎_elim}
+use Rattle.std.proofs.Common.{◌≡◌, ◌≢◌, ◌↔◌, ◌⊎◌, ◌<◌, ◌≤◌, ◌+◌, ◌-◌, ℕ, IsTrue, inl, inr, List, [], ◌∷◌, length, map, refl, sym, ◌∙◌, subst, arith, ⊎_elim}
 use Rattle.std.proofs.lemmas.Bool.{cases_lt}
 use Rattle.std.specs.List.{AllZip}
 use Rattle.std.proofs.lemmas.List.Elements.{Contains-append_right}
 use Rattle.std.specs.Prelude.{⊤, Contains}
 use Rattle.std.specs.declared.cmp.Ordering.TheVariants.{Less}
-use Rattle.dnsv_names.specs.Name.{Labels, IsAtOrBelow, SameName, rightmost}
+use Rattle.dnsv_names.specs.Name.{Labels, SameName, rightmost}
 use Rattle.dnsv_names.specs.Order.{IsBelow}
-use Rattle.dnsv_names.specs.Tree.AncestorLaws.{rightmost_above, rightmost_all, rightmost_in_line, rightmost_length}
+use Rattle.dnsv_names.specs.Tree.AncestorLaws.{rightmost_all, rightmost_in_line, rightmost_length}
 use Rattle.dnsv_names.specs.Tree.TreeLaws.{at_or_below_length, below_by_length, below_length, same_labels}
-use Rattle.dnsv_zones.specs.chains.NsecChain.{IsInBitmap}
 use Rattle.dnsv_zones.specs.forms.RecordWords.{RecordWords, words}
 use Rattle.dnsv_zones.specs.zones.TypeNumbers.{dname}
 use Rattle.dnsv_zones.specs.zones.Types.{IsClosed}
 use Rattle.dnsv_canonical.specs.declared.number.RecordNumber.{RecordNumber}
-use Rattle.dnsv_proof_forms.proofs.lemmas.words.IndexLemmas.{SayAlike, SaysAlike}
-use Rattle.dnsv_proof_forms.specs.records.Numbers.{number_at, numbers_of, record_count}
-use Rattle.dnsv_proof_forms.specs.words.ChainSaid.{IsTypesAt, chain_said}
+use Rattle.dnsv_proof_forms.specs.records.Numbers.{number_at}
+use Rattle.dnsv_proof_forms.specs.words.ChainSaid.{chain_said}
 use Rattle.dnsv_proof_forms.specs.records.Numbers.{number_cmp}
 use Rattle.dnsv_proof_forms.specs.words.SaidAt.{AreAllPlaces}
-use Rattle.dnsv_proof_forms.specs.declared.words.asked.AskedName.TheVariants.{Above, Wildcard}
+use Rattle.dnsv_proof_forms.specs.declared.words.asked.AskedName.TheVariants.{Above}
 use Rattle.dnsv_proof_forms.specs.declared.words.asked.AskedName.{AskedName}
 use Rattle.dnsv_proof_forms.specs.declared.words.asked.AskedTypes.TheVariants as kinds
 use Rattle.dnsv_proof_forms.specs.declared.words.asked.AskedWord.{AskedWord}
 use Rattle.dnsv_proof_forms.specs.declared.words.asked.AskedWord.TheVariants as word
-use Rattle.dnsv_proof_forms.specs.words.Asked.{asked_name, said_word}
+use Rattle.dnsv_proof_forms.specs.words.Asked.{asked_name}
 use Rattle.dnsv_lines.specs.declared.line.fault.denial.WhySource.{WhySource}
 use Rattle.dnsv_chain.specs.Basis.{basis_by, Basis}
 use Rattle.dnsv_remedies.specs.declared.facts.denial.ClosedFacts.{ClosedFacts}
 use Rattle.dnsv_gaps.specs.CaseSearch.{AreClosedFactsAt, AreFactsAtPlace, HasNoneClosedAt, IsHeldBy}
-use Rattle.dnsv_gaps.specs.Cases.{AreAt, AreClosedFacts, AreHeld, HasNone, HasNoneClosed, HasNoneShown, IsAt, IsClosedAbove, IsFirstClosed, IsHeld, IsHeldAt, IsLongestShown, IsShown}
-use Rattle.dnsv_gaps.specs.SourceSearch.{IsSourceIn, Says, said_in, zone_in}
+use Rattle.dnsv_gaps.specs.Cases.{AreClosedFacts, AreHeld, HasNoneClosed, HasNoneShown, IsFirstClosed, IsHeld, IsHeldAt, IsLongestShown, IsShown}
+use Rattle.dnsv_gaps.specs.SourceSearch.{IsSourceIn, Says, said_in}
 use Rattle.dnsv_gaps.specs.declared.asked.AskedQuestion.{AskedQuestion}
 use Rattle.dnsv_gaps.specs.declared.sources.ZoneSource.{ZoneSource}
 use Rattle.dnsv_gaps.proofs.AnswerLemmas.{nothing_there}

@@ -1,8 +1,8 @@
 -- The signers of RRsets that may deny.
-use Rattle.std.proofs.Common.{◌↔◌, ◌⊎◌, ℕ, Bool, false, List, IsTrue, refl, sym}
+use Rattle.std.proofs.Common.{◌↔◌, ℕ, Bool, false, List, IsTrue, refl, sym}
 use Rattle.std.proofs.lemmas.Bool.{false≢true}
 use Rattle.std.specs.List.{AllZip}
-use Rattle.dnsv_names.specs.Name.{Labels, IsAtOrBelow}
+use Rattle.dnsv_names.specs.Name.{Labels}
 use Rattle.dnsv_names.specs.Tree.TreeLaws.{at_or_below_respects, below_respects}
 use Rattle.dnsv_records.specs.Rrsig.{IsRrsig}
 use Rattle.dnsv_records.specs.declared.rrsig.Rrsig.{Rrsig}

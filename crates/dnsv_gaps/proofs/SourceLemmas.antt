@@ -1,23 +1,19 @@
 -- What the records of a source say: by their places and by their numbers.
-use Rattle.std.proofs.Common.{◌≡◌, ◌≢◌, ◌↔◌, ◌⊎◌, ◌<◌, ◌≤◌, ◌+◌, ℕ, Bool, inl, inr, List, [], ◌∷◌, Some, length, get_or, map, refl, sym, ap, ◌∙◌, subst, arith, ⊎_elim}
-use Rattle.std.proofs.lemmas.Bool.{cases_lt}
+use Rattle.std.proofs.Common.{◌≡◌, ◌≢◌, ◌↔◌, ◌⊎◌, ◌<◌, ℕ, Bool, inl, inr, List, ◌∷◌, Some, length, map, refl, sym, ap, ◌∙◌, subst, arith, ⊎_elim}
 use Rattle.std.proofs.lemmas.Option.{get_or_from_slice_get, slice_get_within}
-use Rattle.std.specs.Cmp.{nat_cmp_is}
 use Rattle.std.specs.List.{AllByRecursion}
 use Rattle.std.specs.List.Sorted.{IsStrictlySortedBy}
 use Rattle.std.specs.Ordering.{nat_cmp}
 use Rattle.std.specs.Prelude.{⊤, Contains, slice_get}
-use Rattle.std.specs.declared.cmp.Ordering.TheVariants.{Less, Equal}
+use Rattle.std.specs.declared.cmp.Ordering.TheVariants.{Less}
 use Rattle.dnsv_names.specs.Name.{Labels}
 use Rattle.dnsv_zones.specs.chains.NsecChain.{IsInBitmap}
-use Rattle.dnsv_zones.specs.chains.Nsec3Chain.{Nsec3Record}
-use Rattle.dnsv_zones.specs.chains.NsecChain.{NsecRecord}
 use Rattle.dnsv_zones.specs.forms.RecordWords.{RecordWords}
-use Rattle.dnsv_canonical.proofs.OrderLemmas.{each_kept, each_member, each_of}
+use Rattle.dnsv_canonical.proofs.OrderLemmas.{each_kept, each_member}
 use Rattle.dnsv_canonical.specs.declared.number.RecordNumber.{RecordNumber}
 use Rattle.dnsv_denial.proofs.lemmas.gathering.EvidenceLemmas.{all_said, all_to}
 use Rattle.dnsv_proof_forms.proofs.lemmas.PlaceLemmas.{mapped_length}
-use Rattle.dnsv_denial.proofs.lemmas.gathering.AlikeLemmas.{before_less, nsec3s_alike, nsecs_alike}
+use Rattle.dnsv_denial.proofs.lemmas.gathering.AlikeLemmas.{nsec3s_alike, nsecs_alike}
 use Rattle.dnsv_proof_forms.proofs.lemmas.words.IndexLemmas.{SayAlike, SaysAlike}
 use Rattle.dnsv_denial.specs.gathering.Evidence.{IsNsecOf, IsNsec3Of}
 use Rattle.dnsv_denial.specs.gathering.Gathered.{AreAll, AreNsecs, AreNsec3s}
@@ -26,7 +22,7 @@ use Rattle.dnsv_proof_forms.specs.records.Record.{read_entry, read_nsec3}
 use Rattle.dnsv_proof_forms.specs.words.Asked.{said_types, said_word}
 use Rattle.dnsv_proof_forms.specs.words.ChainSaid.{IsTypesAt, chain_said}
 use Rattle.dnsv_proof_forms.specs.records.Numbers.{number_cmp}
-use Rattle.dnsv_proof_forms.specs.words.SaidAt.{AreAllPlaces, IsSaidAt}
+use Rattle.dnsv_proof_forms.specs.words.SaidAt.{AreAllPlaces}
 use Rattle.dnsv_proof_forms.specs.declared.records.chain_records.ChainRecords.{ChainRecords}
 use Rattle.dnsv_proof_forms.specs.declared.records.chain_records.ChainRecords.TheVariants.{Nsec, Nsec3}
 use Rattle.dnsv_proof_forms.specs.declared.records.entry.NsecEntry.{NsecEntry}

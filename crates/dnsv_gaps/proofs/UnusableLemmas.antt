@@ -1,13 +1,11 @@
 -- NSEC3 records that can't be used: why, and those of some RRsets.
 use Rattle.std.specs.FinSet as set
-use Rattle.std.proofs.Common.{◌≡◌, ◌≢◌, ◌↔◌, ◌⊎◌, ◌<◌, ◌≤◌, ◌+◌, ◌++◌, ◌==◌, ℕ, Bool, true, false, IsTrue, List, [], ◌∷◌, Option, Some, None, length, inl, inr, refl, sym, ap, ◌∙◌, subst, arith, ⊎_elim}
-use Rattle.std.proofs.lemmas.Bool.{cases_lt, false≢true}
+use Rattle.std.proofs.Common.{◌≡◌, ◌≢◌, ◌↔◌, ◌⊎◌, ◌<◌, ◌≤◌, ◌+◌, ◌++◌, ℕ, Bool, IsTrue, List, [], ◌∷◌, Option, Some, None, length, inl, inr, refl, sym, ap, ◌∙◌, subst, arith, ⊎_elim}
+use Rattle.std.proofs.lemmas.Bool.{cases_lt}
 use Rattle.std.proofs.lemmas.Option.{get_or_from_slice_get, slice_get_within}
-use Rattle.std.specs.List.{AllByRecursion}
 use Rattle.std.specs.Prelude.{Contains, MatchOption, slice_get}
 use Rattle.dnsv_names.specs.Name.{Labels}
 use Rattle.dnsv_records.proofs.OneRecord.{one_nsec3}
-use Rattle.dnsv_records.specs.Base32Hex.{IsHash, Spells}
 use Rattle.dnsv_records.specs.Nsec3.{IsNsec3}
 use Rattle.dnsv_records.specs.Nsec3 as by_fields
 use Rattle.dnsv_records.specs.declared.nsec3.Nsec3.{Nsec3}
@@ -29,7 +27,6 @@ use Rattle.dnsv_lines.specs.declared.line.fault.denial.WhyNsec3.TheVariants as w
 use Rattle.dnsv_remedies.specs.declared.facts.name.UnusableFacts.{UnusableFacts}
 use Rattle.dnsv_gaps.specs.Asking.{Asking}
 use Rattle.dnsv_gaps.specs.Denials.{HasSigner, IsDenialNumber}
-use Rattle.dnsv_gaps.specs.Sources.{IsSourceNsec3}
 use Rattle.dnsv_gaps.specs.Unusable.{AreUnusable, IsOfItsParent, IsUnusable, IsUnusableOf, IsWhy}
 use Rattle.dnsv_gaps.specs.Unusable.IsWhy.{iterations, unusable}
 use Rattle.dnsv_gaps.specs.UnusableSearch.{AreUnused, IsInFront, IsUnusedAt, IsWhyUnused}

@@ -1,8 +1,8 @@
 -- The denials of a zone and its sources, one after another.
-use Rattle.std.proofs.Common.{◌≡◌, ◌≢◌, ◌↔◌, ◌⊎◌, ◌<◌, ◌≤◌, ◌+◌, ◌++◌, ℕ, zero, suc, Bool, IsTrue, inl, inr, List, [], ◌∷◌, Some, length, get_or, map, take, refl, sym, ap, ◌∙◌, subst, arith, append-nil, length-append, ⊎_elim}
+use Rattle.std.proofs.Common.{◌≡◌, ◌≢◌, ◌↔◌, ◌⊎◌, ◌<◌, ◌≤◌, ◌+◌, ◌++◌, ℕ, zero, suc, inl, inr, List, [], ◌∷◌, Some, length, get_or, map, take, refl, sym, ap, ◌∙◌, subst, arith, append-nil, length-append, ⊎_elim}
 use Rattle.std.proofs.lemmas.Bool.{cases_lt}
 use Rattle.std.proofs.lemmas.List.{map-append}
-use Rattle.std.proofs.lemmas.List.Elements.{Contains-append_left, Contains-append_right, Contains-get_or, Contains-push_cases}
+use Rattle.std.proofs.lemmas.List.Elements.{Contains-append_left, Contains-append_right, Contains-push_cases}
 use Rattle.std.proofs.lemmas.Option.{get_or_from_slice_get, slice_get_read, slice_get_within}
 use Rattle.std.specs.List.{AllByRecursion}
 use Rattle.std.specs.List.Sorted.{IsStrictlySortedBy}
@@ -14,7 +14,6 @@ use Rattle.dnsv_records.specs.OctetLaws.{recursion-append}
 use Rattle.dnsv_zones.specs.Any.{Any}
 use Rattle.dnsv_zones.specs.chains.Nsec3Chain.{Nsec3Record, Parameters}
 use Rattle.dnsv_zones.specs.chains.Rdata.{parameters_of}
-use Rattle.dnsv_canonical.proofs.OrderLemmas.{each_of}
 use Rattle.dnsv_canonical.specs.Evidence.{AreParametersAmong, nsec3_rdata}
 use Rattle.dnsv_canonical.specs.Rrsets.{ReceivedRrset}
 use Rattle.dnsv_canonical.specs.declared.number.RecordNumber.{RecordNumber}
@@ -40,7 +39,7 @@ use Rattle.dnsv_gaps.proofs.RisingLemmas.{contains_map, mapped_from}
 use Rattle.dnsv_gaps.specs.Asking.{Asking, IsAsked, asking}
 use Rattle.dnsv_gaps.specs.Denials.{IsDenialNumber}
 use Rattle.dnsv_gaps.specs.SourceSearch.{AreHeldSources, AreNsecSources, AreNsec3Sources, AreZoneDenials, HasEntryWith, IsHeldIn, IsNsecSource, IsNsec3Source, held_chain, zone_in}
-use Rattle.dnsv_gaps.specs.Sources.{AreSources, HasRecords, IsSourceNsec, IsSourceNsec3}
+use Rattle.dnsv_gaps.specs.Sources.{HasRecords}
 use Rattle.dnsv_gaps.specs.declared.asked.AskedQuestion.{AskedQuestion}
 use Rattle.dnsv_gaps.specs.declared.sources.HeldSource.{HeldSource}
 use Rattle.dnsv_gaps.specs.declared.sources.HeldSource.TheVariants as held

@@ -1,7 +1,6 @@
 -- The question of which facts are told.
 use Rattle.std.specs.Prelude.{◌≡◌, ℕ}
 use Rattle.dnsv_names.specs.Name.{Labels}
-use Rattle.dnsv_proof_forms.specs.QuestionHashes.{HashedQuestion}
 use Rattle.dnsv_chain.specs.Basis.{CaseContents, basis_by, Basis}
 use Rattle.dnsv_faults.specs.KnownZones.{AreKnownZones}
 use Rattle.dnsv_gaps.specs.declared.asked.AskedQuestion.{AskedQuestion}

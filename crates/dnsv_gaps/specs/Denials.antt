@@ -1,5 +1,5 @@
 -- Which NSEC and NSEC3 RRsets may deny a question, and for which zone, whether they are trusted or not.
-use Rattle.std.specs.Prelude.{◌≡◌, ◌⊎◌, ℕ, Contains}
+use Rattle.std.specs.Prelude.{◌≡◌, ◌⊎◌, ℕ}
 use Rattle.dnsv_names.specs.Name.{Labels, SameName, IsAtOrBelow}
 use Rattle.dnsv_names.specs.Order.{IsBelow}
 use Rattle.dnsv_records.specs.declared.rrsig.Rrsig.{Rrsig}

@@ -1,10 +1,9 @@
 -- The sources of a zone: its records that may deny, chain by chain, whether they are trusted or not (RFC 4035 5.4, RFC 5155 8).
-use Rattle.std.specs.Prelude.{◌≡◌, ◌↔◌, ◌<◌, ℕ, IsTrue, List, Contains, Some, map, slice_get}
-use Rattle.dnsv_names.specs.Name.{Labels, rightmost}
+use Rattle.std.specs.Prelude.{◌≡◌, ◌↔◌, ◌<◌, ℕ, List, Contains, Some, slice_get}
+use Rattle.dnsv_names.specs.Name.{Labels}
 use Rattle.dnsv_zones.specs.chains.HashedNames.{sha1_hash}
-use Rattle.dnsv_zones.specs.chains.Nsec3Chain.{Nsec3Record, Parameters}
+use Rattle.dnsv_zones.specs.chains.Nsec3Chain.{Nsec3Record}
 use Rattle.dnsv_zones.specs.chains.NsecChain.{NsecRecord}
-use Rattle.dnsv_zones.specs.chains.Rdata.{parameters_of}
 use Rattle.dnsv_zones.specs.forms.RecordWords.{RecordWords}
 use Rattle.dnsv_zones.specs.forms.Said.{nsec_records_say, nsec3_records_say}
 use Rattle.dnsv_canonical.specs.declared.number.RecordNumber.{RecordNumber}

@@ -8,7 +8,6 @@ use Rattle.std.proofs.lemmas.Option.{get_or_from_slice_get, slice_get_within}
 use Rattle.std.proofs.lemmas.List.Elements.{All-contains, All-from_recursion, Contains-get_or}
 use Rattle.std.specs.List.{AllZip, Contains}
 use Rattle.dnsv_names.specs.Name.{Labels, IsAtOrBelow, SameName, rightmost}
-use Rattle.dnsv_names.specs.Order.{IsBelow}
 use Rattle.dnsv_names.specs.Tree.AncestorLaws.{rightmost_above, rightmost_below, rightmost_length, rightmost_same}
 use Rattle.dnsv_names.specs.Tree.TreeLaws.{at_or_below_length, at_or_below_respects, below_by_length, below_length, below_respects, same_labels}
 use Rattle.dnsv_records.specs.Rrsig.{IsRrsig}
@@ -24,7 +23,7 @@ use Rattle.dnsv_verifier.proofs.AskLemmas.{adds_nothing, adds_same}
 use Rattle.dnsv_verifier.specs.Admissible.{IsSignatureOf}
 use Rattle.dnsv_verifier.specs.Asking.{AddsJust, ComesOfSome}
 use Rattle.dnsv_faults.specs.KnownZones.KnownSearch.{AreKnownTo, AreSpoken, IsAbove, IsSignedFromAbove, IsSignerAbove, IsSpokenBy}
-use Rattle.dnsv_faults.specs.KnownZones.{HasOwnAnchor, HasRrset, IsFromAbove, IsKnownZone, IsSpeaker, IsSpeakerOf, MaySpeak}
+use Rattle.dnsv_faults.specs.KnownZones.{HasOwnAnchor, HasRrset, IsFromAbove, IsKnownZone, IsSpeaker, MaySpeak}
 use Rattle.dnsv_zone_keys.specs.Keys.{HasKeys}
 use Rattle.dnsv_zone_keys.proofs.lemmas.IndexLemmas.{numbered_at}
 

@@ -1,9 +1,9 @@
 -- The zone keys that a signature names.
-use Rattle.std.proofs.Common.{◌≡◌, ◌<◌, ◌⊎◌, ℕ, ⊎_elim, List, [], map, refl, sym, ap, ◌∙◌, subst, arith}
+use Rattle.std.proofs.Common.{◌≡◌, ℕ, List, map, sym, ap, ◌∙◌, subst}
 use Rattle.std.proofs.lemmas.List.Kept.{Contains-dedup_nat, Contains-from_dedup}
 use Rattle.std.proofs.lemmas.List.Sorted.{Contains-permutation, IsPermutation-sym}
 use Rattle.std.proofs.lemmas.Map.Keys.{IsStrictlyIncreasing-dedup}
-use Rattle.std.specs.List.{AllByRecursion, dedup}
+use Rattle.std.specs.List.{dedup}
 use Rattle.std.specs.List.Sorted.{IsStrictlyIncreasing}
 use Rattle.std.specs.Ordering.{nat_cmp}
 use Rattle.std.specs.Prelude.{Contains, IsPermutation, IsSortedByKey}
@@ -14,7 +14,6 @@ use Rattle.dnsv_canonical.proofs.OrderLemmas.{each_member}
 use Rattle.dnsv_records.specs.declared.rrsig.Rrsig.{Rrsig}
 use Rattle.dnsv_mending.specs.declared.facts.signature.NamedKey.{NamedKey}
 use Rattle.dnsv_verifier.proofs.NumberLemmas.{contains_map}
-use Rattle.dnsv_verifier.specs.Admissible.{DnskeyRecord}
 use Rattle.dnsv_verifier.specs.Asking.{GivesEach}
 use Rattle.dnsv_chain.specs.Basis.{Basis}
 use Rattle.dnsv_zone_keys.specs.Answers.AnswerSearch.{ArePutInOrder, IsSaidOf}
@@ -22,7 +21,7 @@ use Rattle.dnsv_zone_keys.specs.Keys.Index.{Placed}
 use Rattle.dnsv_zone_keys.specs.Keys.KeySearch.{AreNamedOf}
 use Rattle.dnsv_zone_keys.specs.Keys.{IsKeyPlaced, IsZoneKey}
 use Rattle.dnsv_faults.specs.Signatures.{AreNamedKeys, IsNamedKey}
-use Rattle.dnsv_zone_keys.proofs.lemmas.IndexLemmas.{IsFoundAs, found_as, of_signer, zone_key_too}
+use Rattle.dnsv_zone_keys.proofs.lemmas.IndexLemmas.{found_as, of_signer, zone_key_too}
 use Rattle.dnsv_faults.proofs.lemmas.OrderLemmas.{sorted_map}
 
 abbrev pub place_of : NamedKey → ℕ

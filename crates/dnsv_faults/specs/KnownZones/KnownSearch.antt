@@ -1,6 +1,6 @@
 -- How known zones are looked for. Of this module, public clauses cite `IsAbove` alone (`is_above`).
 use Rattle.std.specs.Prelude.{◌≡◌, ◌≤◌, ◌<◌, ◌↔◌, ℕ, Bool, false, IsTrue, List, Contains, length, slice_index_or}
-use Rattle.dnsv_names.specs.Name.{Labels, SameName, IsAtOrBelow, rightmost}
+use Rattle.dnsv_names.specs.Name.{Labels, IsAtOrBelow, rightmost}
 use Rattle.dnsv_names.specs.Order.{IsBelow}
 use Rattle.dnsv_records.specs.declared.rrsig.Rrsig.{Rrsig}
 use Rattle.dnsv_canonical.specs.Rrsets.{ReceivedRrset}

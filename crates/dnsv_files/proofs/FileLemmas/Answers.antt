@@ -1,8 +1,8 @@
 -- A text of answers says one list of them, or has one fault.
-use Rattle.std.proofs.Common.{◌≡◌, ◌⊎◌, ℕ, List, Option, Some, None, Result, Err, inl, inr, refl, sym, ap, subst, ◌∙◌, length}
+use Rattle.std.proofs.Common.{◌≡◌, ◌⊎◌, ℕ, List, Option, Some, Result, Err, inl, inr, refl, sym, ap, subst, ◌∙◌, length}
 use Rattle.std.proofs.lemmas.List.{append-nil}
 use Rattle.std.specs.List.{AllByRecursion, flat_map}
-use Rattle.std.specs.Prelude.{IfErr, ⊤}
+use Rattle.std.specs.Prelude.{⊤}
 use Rattle.sha2.specs.Sha256.{sha256}
 use Rattle.dnsv_message.specs.Streams.Frames.{IsCapture, IsFramed, frame}
 use Rattle.dnsv_canonical.specs.Rrsets.{ReceivedRrset}

@@ -1,42 +1,33 @@
 -- What wildcards' signatures ask for beside them.
-use Rattle.std.proofs.Common.{◌≡◌, ◌↔◌, ◌⊎◌, ◌+◌, ◌-◌, ◌<◌, ◌≤◌, ◌==◌, ℕ, Bool, true, false, inl, inr, ⊎_elim, List, [], ◌∷◌, ◌++◌, Option, Some, None, if◌then◌else◌, length, get_or, map, take, refl, sym, ap, ◌∙◌, subst, arith, IsTrue}
+use Rattle.std.proofs.Common.{◌≡◌, ◌↔◌, ◌-◌, ◌<◌, ◌≤◌, ℕ, Bool, true, false, List, [], Option, Some, None, if◌then◌else◌, length, get_or, refl, sym, ap, ◌∙◌, subst, arith, IsTrue}
 use Rattle.std.proofs.lemmas.Bool.{false≢true}
-use Rattle.std.proofs.lemmas.List.Elements.{All-contains, All-from_recursion, Contains-append_cases, Contains-append_left, Contains-append_right}
 use Rattle.std.proofs.lemmas.List.Kept.{Contains-dedup, Contains-from_dedup, IsStrictlySortedBy-dedup}
 use Rattle.std.proofs.lemmas.List.Sorted.{Contains-permutation, IsPermutation-sym}
 use Rattle.std.proofs.lemmas.Option.{slice_get-get_or, slice_get_within}
-use Rattle.std.specs.List.{AllByRecursion, AllZip, Contains, dedup}
+use Rattle.std.specs.List.{AllZip, Contains, dedup}
 use Rattle.std.specs.List.Sorted.{IsPermutation, IsSorted, IsStrictlySortedBy}
 use Rattle.std.specs.Option.{is_some}
 use Rattle.std.specs.Prelude.{MatchOption, not, slice_get}
-use Rattle.dnsv_names.specs.Name.{IsAtOrBelow, Labels, SameName, rightmost}
+use Rattle.dnsv_names.specs.Name.{Labels, SameName}
 use Rattle.dnsv_names.specs.Tree.{is_wildcard}
-use Rattle.dnsv_names.specs.Tree.TreeLaws.{at_or_below_length, same_labels}
+use Rattle.dnsv_names.specs.Tree.TreeLaws.{same_labels}
 use Rattle.dnsv_records.specs.Rrsig.{IsRrsig}
 use Rattle.dnsv_records.specs.declared.rrsig.Rrsig.{Rrsig}
-use Rattle.dnsv_zones.specs.chains.Nsec3Chain.{Nsec3Record, Parameters}
-use Rattle.dnsv_zones.specs.chains.NsecChain.{NsecRecord}
-use Rattle.dnsv_canonical.specs.Rrsets.{IsNumbered, ReceivedRrset}
+use Rattle.dnsv_canonical.specs.Rrsets.{ReceivedRrset}
 use Rattle.dnsv_canonical.specs.SignedData.{IsExpanded, signed_label_count}
 use Rattle.dnsv_canonical.specs.declared.number.RecordNumber.{RecordNumber}
 use Rattle.dnsv_canonical.proofs.OrderLemmas.{zip_at}
 use Rattle.dnsv_chain.proofs.ZipLemmas.{zip_length}
-use Rattle.dnsv_chain.specs.Trust.{KeptTrust, SecuredIn}
+use Rattle.dnsv_chain.specs.Trust.{SecuredIn}
 use Rattle.dnsv_chain.specs.Trusted.{IsSecured}
 use Rattle.dnsv_denial.proofs.lemmas.proving.NumberLemmas.{number_cmp_total, number_eq, number_eq_equiv, number_eq_ties, same_number}
 use Rattle.dnsv_denial.specs.proving.FirstProof.{CanProveNoCloser}
-use Rattle.dnsv_denial.specs.gathering.EvidenceWords.{Chain}
 use Rattle.dnsv_proof_forms.specs.records.Numbers.{number_cmp}
-use Rattle.dnsv_denial.specs.gathering.EvidenceWords.Chain.{ByNsec, ByNsec3}
 use Rattle.dnsv_mending.specs.declared.facts.signature.RrsetFacts.{RrsetFacts}
 use Rattle.dnsv_chain.specs.Basis.{CaseContents, HasTrust, basis_by, Basis}
 use Rattle.dnsv_denial.proofs.lemmas.more.EvidenceLemmas.{no_closer_can_to}
-use Rattle.dnsv_verifier.specs.Asking.{AddsJust}
 use Rattle.dnsv_faults.specs.Signatures.{IsSignatureAt}
-use Rattle.dnsv_gaps.specs.Asking.{Asking, asking}
-use Rattle.dnsv_gaps.specs.Parts.{AreFactsOf, HasSuch}
-use Rattle.dnsv_gaps.specs.Sources.{HasRecords, IsSourceNsec, IsSourceNsec3, source_said}
-use Rattle.dnsv_gaps.specs.questions.Closers.{IsCloserDenied}
+use Rattle.dnsv_gaps.specs.Parts.{AreFactsOf}
 
 -- ---- signatures
 

@@ -1,14 +1,13 @@
 -- What a source says of a name that may be an unsigned delegation.
-use Rattle.std.proofs.Common.{◌≡◌, ◌≢◌, ◌↔◌, ◌⊎◌, ◌+◌, ◌-◌, ◌<◌, ◌==◌, ℕ, zero, suc, Bool, true, false, Less, inl, inr, ⊎_elim, List, [], ◌∷◌, Some, length, get_or, map, refl, sym, ap, ◌∙◌, subst, arith, IsTrue, if◌then◌else◌}
+use Rattle.std.proofs.Common.{◌≡◌, ◌≢◌, ◌↔◌, ◌⊎◌, ◌<◌, ◌==◌, ℕ, suc, Bool, true, false, inl, inr, List, [], ◌∷◌, Some, length, get_or, map, refl, sym, ap, ◌∙◌, subst, arith, if◌then◌else◌}
 use Rattle.std.proofs.lemmas.Bool.{false≢true}
 use Rattle.std.proofs.lemmas.Option.{get_or_from_slice_get, slice_get_within}
-use Rattle.std.specs.List.{AllByRecursion, Contains}
+use Rattle.std.specs.List.{Contains}
 use Rattle.std.specs.Prelude.{slice_get}
 use Rattle.dnsv_names.specs.Name.{Labels, rightmost}
 use Rattle.dnsv_names.specs.declared.number.RecordType.{RecordType}
 use Rattle.dnsv_zones.specs.Any.{Any}
 use Rattle.dnsv_zones.specs.chains.NsecChain.{IsInBitmap}
-use Rattle.dnsv_zones.specs.chains.Rdata.{parameters_of}
 use Rattle.dnsv_zones.specs.zones.Types.{IsUnsignedDelegation}
 use Rattle.dnsv_canonical.specs.declared.number.RecordNumber.{RecordNumber}
 use Rattle.dnsv_canonical.proofs.OrderLemmas.{each_of}
@@ -16,21 +15,19 @@ use Rattle.dnsv_proof_forms.specs.records.Numbers.{number_at, numbers_of, record
 use Rattle.dnsv_proof_forms.specs.records.Record.{read_nsec3}
 use Rattle.dnsv_proof_forms.specs.words.Asked.{said_word}
 use Rattle.dnsv_proof_forms.specs.words.ChainSaid.{IsOptOutOfChain, IsTypesAt, chain_said}
-use Rattle.dnsv_proof_forms.specs.records.Numbers.{number_cmp}
 use Rattle.dnsv_proof_forms.specs.words.SaidAt.{AreAllPlaces}
 use Rattle.dnsv_proof_forms.specs.declared.records.chain_records.ChainRecords.{ChainRecords}
 use Rattle.dnsv_proof_forms.specs.declared.records.chain_records.ChainRecords.TheVariants.{Nsec, Nsec3}
-use Rattle.dnsv_proof_forms.specs.declared.records.entry.Nsec3Entry.{Nsec3Entry}
 use Rattle.dnsv_proof_forms.specs.declared.words.asked.AskedName.TheVariants as name
 use Rattle.dnsv_proof_forms.specs.declared.words.asked.AskedTypes.TheVariants as types
 use Rattle.dnsv_proof_forms.specs.declared.words.asked.AskedWord.TheVariants as word
 use Rattle.dnsv_mending.specs.declared.facts.signature.RrsetFacts.{RrsetFacts}
 use Rattle.dnsv_chain.specs.Basis.{Basis}
-use Rattle.dnsv_gaps.specs.Asking.{Asking, asking}
+use Rattle.dnsv_gaps.specs.Asking.{Asking}
 use Rattle.dnsv_gaps.specs.Cases.{HasNone, HasOne, IsAt}
 use Rattle.dnsv_gaps.specs.Parts.{AreFactsOf}
 use Rattle.dnsv_gaps.specs.SourceSearch.{AreItsRecords, IsSourceIn, chain_of, said_in, zone_in}
-use Rattle.dnsv_gaps.specs.questions.Cuts.{HasOptOut, IsHeldInstead, IsLowestAt, IsUnsignedAt}
+use Rattle.dnsv_gaps.specs.questions.Cuts.{HasOptOut, IsHeldInstead, IsUnsignedAt}
 use Rattle.dnsv_gaps.specs.questions.CutSearch.{IsLowestPlace, held_instead}
 use Rattle.dnsv_gaps.specs.declared.asked.AskedQuestion.{AskedQuestion}
 use Rattle.dnsv_gaps.specs.declared.sources.ZoneSource.{ZoneSource}

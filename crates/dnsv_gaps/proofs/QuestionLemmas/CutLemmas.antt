@@ -1,8 +1,8 @@
 -- Which name below a zone is seen as a delegation, and what is so of all of them.
-use Rattle.std.proofs.Common.{◌≡◌, ◌↔◌, ◌⊎◌, ◌+◌, ◌-◌, ◌<◌, ◌≤◌, ◌==◌, ℕ, zero, suc, Bool, true, false, inl, inr, ⊎_elim, List, [], ◌∷◌, ◌++◌, Option, Some, None, length, get_or, map, take, refl, sym, ap, ◌∙◌, subst, arith, IsTrue}
-use Rattle.std.proofs.lemmas.Bool.{cases_lt, false≢true}
+use Rattle.std.proofs.Common.{◌≡◌, ◌↔◌, ◌⊎◌, ◌+◌, ◌-◌, ◌<◌, ◌≤◌, ℕ, suc, Bool, true, inl, inr, ⊎_elim, List, [], ◌∷◌, ◌++◌, Option, Some, None, length, get_or, map, take, refl, sym, ap, ◌∙◌, subst, arith, IsTrue}
+use Rattle.std.proofs.lemmas.Bool.{cases_lt}
 use Rattle.std.proofs.lemmas.List.{length-map, length-take, map-append, take_more}
-use Rattle.std.specs.List.{AllZip, Contains, enumerate_from, range_with_len}
+use Rattle.std.specs.List.{AllZip, enumerate_from, range_with_len}
 use Rattle.dnsv_names.specs.Name.{Labels, SameName, rightmost}
 use Rattle.dnsv_records.specs.Rrsig.{IsRrsig}
 use Rattle.dnsv_records.specs.declared.rrsig.Rrsig.{Rrsig}
@@ -23,7 +23,7 @@ use Rattle.dnsv_gaps.specs.Asking.{Asking, asking}
 use Rattle.dnsv_gaps.specs.DenialSearch.{HasSignerAbove}
 use Rattle.dnsv_gaps.specs.SourceSearch.{AreHeldSources, chain_of, held_chain, zone_in}
 use Rattle.dnsv_gaps.specs.Sources.{source_said}
-use Rattle.dnsv_gaps.specs.questions.Cuts.{AreCutFacts, AreParentFacts, AreParents, IsNext, IsNextZone, IsOptedOutBySome, IsParent, IsSeen, IsShown, IsTypedBySome, HasGoal, HasOptOut, IsCutCase, IsDsFromAbove, IsSeenHere, IsSeenUnsigned, IsThere, lowest_cut}
+use Rattle.dnsv_gaps.specs.questions.Cuts.{AreCutFacts, AreParentFacts, AreParents, IsOptedOutBySome, IsParent, IsSeen, IsShown, IsTypedBySome, HasGoal, HasOptOut, IsCutCase, IsDsFromAbove, IsSeenHere, IsSeenUnsigned, IsThere, lowest_cut}
 use Rattle.dnsv_gaps.specs.questions.CutSearch.{IsCaseOfCut, IsFirstSeen, IsSaidByOne}
 use Rattle.dnsv_gaps.specs.declared.asked.AskedQuestion.{AskedQuestion}
 use Rattle.dnsv_gaps.specs.declared.sources.HeldSource.{HeldSource}

@@ -5,7 +5,6 @@ use Rattle.std.specs.List.{flat_map, range_with_len}
 use Rattle.dnsv_names.specs.Name.{Labels, rightmost}
 use Rattle.dnsv_canonical.specs.Index.{numbers_at}
 use Rattle.dnsv_canonical.specs.Rrsets.{ReceivedRrset}
-use Rattle.dnsv_remedies.specs.declared.facts.question.DnameFacts.{DnameFacts}
 use Rattle.dnsv_gaps.specs.questions.Dnames.{dname_at, lowest}
 use Rattle.dnsv_gaps.proofs.AnswerLemmas.{none_in}
 

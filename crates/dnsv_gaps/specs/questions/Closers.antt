@@ -9,7 +9,6 @@ use Rattle.dnsv_chain.specs.Trusted.{IsSecured}
 use Rattle.dnsv_denial.specs.proving.FirstProof.{CanProveNoCloser}
 use Rattle.dnsv_denial.specs.gathering.EvidenceWords.{Chain}
 use Rattle.dnsv_faults.specs.Signatures.{IsSignatureAt}
-use Rattle.dnsv_chain.specs.Basis.{Basis}
 use Rattle.dnsv_verifier.specs.Admissible.{MaySign}
 use Rattle.dnsv_remedies.specs.declared.facts.answer.CloserFacts.{CloserFacts}
 use Rattle.dnsv_gaps.specs.Asking.{Asking}

@@ -1,5 +1,5 @@
 -- How names that may be unsigned delegations are looked for. No public clause cites this module.
-use Rattle.std.specs.Prelude.{◌≡◌, ◌-◌, ◌≤◌, ◌<◌, ℕ, Bool, if◌then◌else◌, List, Contains, Option, Some, None, length}
+use Rattle.std.specs.Prelude.{◌-◌, ◌≤◌, ◌<◌, ℕ, Bool, if◌then◌else◌, List, Contains, Option, Some, None, length}
 use Rattle.dnsv_names.specs.Name.{rightmost}
 use Rattle.dnsv_zones.specs.forms.Parts.{IsFirstToSay}
 use Rattle.dnsv_zones.specs.zones.TypeNumbers.{ds, soa}

@@ -1,13 +1,11 @@
 -- A timeline has one text.
 use Rattle.std.proofs.Common.{◌≡◌, ◌∙◌, ℕ, Bool, List, [], ◌∷◌, inl, inr, sym, ap, refl, subst}
 use Rattle.dnsv_names.specs.Name.{Labels}
-use Rattle.dnsv_records.specs.declared.rrsig.Rrsig.{Rrsig}
 use Rattle.dnsv_canonical.specs.Rrsets.{ReceivedRrset}
 use Rattle.dnsv_canonical.specs.declared.number.SignatureNumber.{SignatureNumber}
 use Rattle.dnsv_lines.specs.declared.line.fault.signature.ShownSignature.{ShownSignature}
 use Rattle.dnsv_moments.specs.texts.Borders.{borders_of}
 use Rattle.dnsv_moments.specs.declared.texts.borders.Border.{Border}
-use Rattle.dnsv_moments.specs.declared.dated.DatedSignature.{DatedSignature}
 use Rattle.dnsv_timeline.specs.declared.stretch.Stretch.{Stretch}
 use Rattle.dnsv_questions.specs.declared.format.Format.{Format}
 use Rattle.dnsv_derivations.proofs.lemmas.one.TrustedLemmas.{one_signature_at}

@@ -1,5 +1,5 @@
 -- Border lines: the signatures that end or begin where one stretch is over and the next begins.
-use Rattle.std.specs.Prelude.{ℕ, ◌-◌, ◌^◌, Bool, nat_lt, not, ◌&&◌, List, ◌++◌, map}
+use Rattle.std.specs.Prelude.{ℕ, ◌-◌, Bool, nat_lt, not, ◌&&◌, List, ◌++◌, map}
 use Rattle.std.specs.List.{filter}
 use Rattle.dnsv_records.specs.Rrsig.Time.{seconds_on}
 use Rattle.dnsv_moments.specs.declared.texts.borders.Border.{Border}

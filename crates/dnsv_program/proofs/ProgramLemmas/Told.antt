@@ -1,8 +1,7 @@
 -- The line on the errors, by how the program ends.
 use Rattle.std.proofs.Common.{◌≡◌, ◌<◌, ◌-◌, ◌^◌, ◌⊎◌, ◌↔◌, ℕ, Bool, List, Option, Some, None, ap, refl, sym, ◌∙◌, inl, inr, arith}
-use Rattle.std.specs.Prelude.{Result, Ok, Err, IfErr, IfSome, OnOk, is_err}
-use Rattle.std.specs.Io.KnownBytes.{Appends}
-use Rattle.dnsv_message.specs.Streams.Counted.{AppendsBeginning, count_after, failures_of, inner_of}
+use Rattle.std.specs.Prelude.{Result, Ok, Err, IfErr, IfSome, OnOk}
+use Rattle.dnsv_message.specs.Streams.Counted.{failures_of}
 use Rattle.dnsv_message.specs.declared.streams.counted.Counted.{Counted}
 use Rattle.dnsv_commands.specs.declared.command_line.CommandLineError.{CommandLineError}
 use Rattle.dnsv_commands.specs.declared.request.Request.{Request}
@@ -16,9 +15,9 @@ use Rattle.dnsv_files.specs.Files.{Files}
 use Rattle.dnsv_commands.specs.CommandLine.{IsAccepted, IsRefused, command_line_code}
 use Rattle.dnsv_work.specs.Opened.{AreFilesAt, first_unopened, paths_of}
 use Rattle.dnsv_program.specs.Program.{FailedRequest, FailedWords, IsEnd, TellsQuestion}
-use Rattle.dnsv_work.specs.Telling.{HasToldIn, LeavesOutput}
+use Rattle.dnsv_work.specs.Telling.{LeavesOutput}
 use Rattle.dnsv_program.specs.Run.{AsksRefused, IsFirstFault, IsReached}
-use Rattle.dnsv_files.specs.Status.{fault_code, fault_line, outcome_code}
+use Rattle.dnsv_files.specs.Status.{fault_code, outcome_code}
 use Rattle.dnsv_files.specs.Told.{IsOpenFault}
 use Rattle.dnsv_program.proofs.ProgramLemmas.{no_1, no_end, refused_alone}
 use Rattle.dnsv_program.proofs.ProgramLemmas.Words.{EndsSo, at_most_2, no_7_of_words}

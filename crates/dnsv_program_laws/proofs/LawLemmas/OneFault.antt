@@ -1,6 +1,6 @@
 -- For its files a request has at most one first fault, and none where it has a text.
 use Rattle.std.proofs.Common.{◌≡◌, ℕ, Bool, List, Option, Some, None, refl, sym, ap, subst, ◌∙◌, inl, inr, ⊎_elim}
-use Rattle.std.specs.Prelude.{string_bytes, true, false}
+use Rattle.std.specs.Prelude.{string_bytes}
 use Rattle.dnsv_answers.specs.declared.heading.Moments.{Moments}
 use Rattle.dnsv_answers.specs.declared.heading.Moments.TheVariants.{At, Between}
 use Rattle.dnsv_names.specs.Name.{Labels}

@@ -22,7 +22,7 @@ use Rattle.dnsv_remedies.specs.Denials.{denial, denial_ways, lacking, other_ways
 use Rattle.dnsv_remedies.specs.Parts.{zone_kept, zone_of}
 use Rattle.dnsv_remedies.specs.Question.{all_lines, answer_or_denial, dname_line, is_below_dname, question_remedy, question_ways}
 use Rattle.dnsv_remedies.specs.Reasons.{IsTrusted}
-use Rattle.dnsv_remedies.specs.Remedy.{Remedied, after, beside, ended, fault, untold, with_unusable}
+use Rattle.dnsv_remedies.specs.Remedy.{Remedied, after, ended, fault, untold, with_unusable}
 use Rattle.dnsv_remedies.specs.declared.facts.answer.AnswerSignature.{AnswerSignature}
 use Rattle.dnsv_remedies.specs.declared.facts.answer.CloserFacts.{CloserFacts}
 use Rattle.dnsv_remedies.specs.declared.facts.answer.GoalFacts.{GoalFacts}

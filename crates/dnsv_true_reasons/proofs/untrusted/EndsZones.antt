@@ -6,7 +6,7 @@ use Rattle.std.proofs.lemmas.Option.{same_Some}
 use Rattle.std.specs.List.{AllByRecursion}
 use Rattle.dnsv_canonical.specs.declared.number.SignatureNumber.{SignatureNumber}
 use Rattle.dnsv_lines.specs.declared.line.fault.zone.WhyZone.TheVariants as why
-use Rattle.dnsv_mending.specs.Keys.{fits, group_ways, signing, signings}
+use Rattle.dnsv_mending.specs.Keys.{group_ways, signing, signings}
 use Rattle.dnsv_mending.specs.Level.{Held, Leveled, zone_above}
 use Rattle.dnsv_mending.specs.Mend.{Mended, after, fault, following, is_none, nothing, with_fault}
 use Rattle.dnsv_mending.specs.Reasons.{IsClosed, is_reason}

@@ -1,5 +1,5 @@
 -- The numbers of the answers that leave an entry open, one answer after another.
-use Rattle.std.proofs.Common.{◌≡◌, ◌<◌, ◌+◌, ◌++◌, ◌∙◌, ℕ, suc, Bool, true, false, List, [], ◌∷◌, Option, Some, None, is_some, ap, arith, get_or, length, map, refl, subst, sym, take}
+use Rattle.std.proofs.Common.{◌≡◌, ◌<◌, ◌+◌, ◌++◌, ◌∙◌, ℕ, suc, true, false, List, [], ◌∷◌, Option, Some, None, is_some, ap, arith, get_or, length, map, refl, subst, sym, take}
 use Rattle.std.proofs.lemmas.List.{length-map, length-take-le, map-append, take_more}
 use Rattle.dnsv_answers.specs.declared.said.SaidAnswer.{SaidAnswer}
 use Rattle.dnsv_verifier.specs.declared.answer.Answer.{Answer}

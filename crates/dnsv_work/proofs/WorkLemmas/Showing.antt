@@ -1,9 +1,8 @@
 -- The messages of a file that are shown, one after another.
-use Rattle.std.proofs.Common.{◌≡◌, ℕ, ◌+◌, ◌<◌, ◌≤◌, List, [], ◌∷◌, ◌++◌, length, get_or, refl, sym, ap, ◌∙◌, arith, length-append}
+use Rattle.std.proofs.Common.{◌≡◌, ℕ, ◌+◌, ◌<◌, List, [], ◌∷◌, ◌++◌, length, get_or, sym, ap, ◌∙◌, arith, length-append}
 use Rattle.std.proofs.lemmas.List.{append-nil}
 use Rattle.dnsv_message.specs.Message.{Contents}
-use Rattle.dnsv_canonical.specs.Evidence.{no_evidence}
-use Rattle.dnsv_files.specs.Files.Capture.{AnyMessage, AllTaken}
+use Rattle.dnsv_files.specs.Files.Capture.{AnyMessage}
 use Rattle.dnsv_files.specs.Opening.{IsInFrame}
 use Rattle.dnsv_files.specs.declared.opening.Opening.TheVariants.{Plain}
 use Rattle.dnsv_files.proofs.FileLemmas.Capture.{MessagesSoFar, MessagesSoFar-next}

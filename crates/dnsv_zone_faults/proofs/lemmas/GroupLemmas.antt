@@ -1,5 +1,5 @@
 -- The trust anchors and the DS records of a zone, one after another.
-use Rattle.std.proofs.Common.{◌≡◌, ◌↔◌, ◌+◌, ◌<◌, ◌==◌, ℕ, if◌then◌else◌, inl, inr, Bool, true, false, List, [], ◌∷◌, ◌++◌, Option, Some, None, length, get_or, map, take, refl, sym, ap, ◌∙◌, subst, arith, IsTrue}
+use Rattle.std.proofs.Common.{◌≡◌, ◌↔◌, ◌+◌, ◌<◌, ◌==◌, ℕ, if◌then◌else◌, inl, inr, Bool, true, false, List, [], ◌∷◌, ◌++◌, Some, None, length, get_or, map, take, refl, sym, ap, ◌∙◌, subst, arith, IsTrue}
 use Rattle.std.proofs.lemmas.Bool.Decides.{nat_tests}
 use Rattle.std.proofs.lemmas.List.{length-map, length-take, map-append, take_more}
 use Rattle.std.specs.List.{AllByRecursion, AllZip}
@@ -23,7 +23,7 @@ use Rattle.dnsv_lines.specs.declared.line.fault.zone.EntryNumber.TheVariants as 
 use Rattle.dnsv_mending.specs.declared.facts.keys.VoucherFacts.{VoucherFacts}
 use Rattle.dnsv_mending.specs.declared.facts.zone.DsFacts.{DsFacts}
 use Rattle.std.proofs.lemmas.List.Elements.{Contains-get_or}
-use Rattle.dnsv_zone_faults.specs.Groups.{AreAnchorFactsFrom, AreDsFacts, AreRecordFacts, IsRecordFacts, anchor_wanted}
+use Rattle.dnsv_zone_faults.specs.Groups.{AreAnchorFactsFrom, AreDsFacts, AreRecordFacts, IsRecordFacts}
 use Rattle.dnsv_zone_faults.specs.Groups.GroupSearch.{AddsAnchor, AddsDs, HasStronger, IsDsNumber}
 use Rattle.dnsv_zone_keys.specs.Keys.Index.{Placed}
 use Rattle.dnsv_zone_keys.specs.Vouchers.{AreVoucherFacts}

@@ -1,11 +1,9 @@
 -- How the facts of DNSKEY RRsets are looked for. No public clause cites this module.
-use Rattle.std.specs.Prelude.{◌≡◌, ◌≢◌, ◌↔◌, ◌⊎◌, ◌++◌, ◌∷◌, [], ℕ, IsSortedByKey, IsTrue, List, Contains, length, map}
+use Rattle.std.specs.Prelude.{◌≡◌, ◌⊎◌, ◌++◌, ◌∷◌, [], ℕ, IsSortedByKey, IsTrue, List, Contains, length, map}
 use Rattle.std.specs.List.{AllByRecursion}
 use Rattle.std.specs.Option.{option_map}
-use Rattle.std.specs.Ordering.{nat_cmp}
 use Rattle.dnsv_names.specs.Name.{Labels, SameName}
 use Rattle.dnsv_records.specs.Algorithm.{is_supported}
-use Rattle.dnsv_records.specs.Dnskey.KeyTag.{key_tag_of}
 use Rattle.dnsv_records.specs.declared.rrsig.Rrsig.{Rrsig}
 use Rattle.dnsv_canonical.specs.Canonical.{IsCanonical, rdata_cmp}
 use Rattle.dnsv_canonical.specs.Rrsets.{IsNumbered, ReceivedRrset}
@@ -16,7 +14,7 @@ use Rattle.dnsv_chain.specs.Basis.{CaseContents, basis_by, Basis}
 use Rattle.dnsv_mending.specs.declared.facts.keys.DnskeyFacts.{DnskeyFacts}
 use Rattle.dnsv_mending.specs.declared.facts.keys.SelfSignature.{SelfSignature}
 use Rattle.dnsv_zone_keys.specs.Answers.AnswerSearch.{IsAskedOf}
-use Rattle.dnsv_zone_faults.specs.Dnskeys.{AreDnskeyFacts, IsOwnSignature, MayBeBy}
+use Rattle.dnsv_zone_faults.specs.Dnskeys.{AreDnskeyFacts, IsOwnSignature}
 use Rattle.dnsv_zone_faults.specs.Dnskeys.OwnSearch.{IsSigning}
 use Rattle.dnsv_zone_keys.specs.Keys.{AreZoneKeys, IsKeyPlaced}
 use Rattle.dnsv_zone_keys.specs.Keys.Index.{Placed}

@@ -1,5 +1,5 @@
 -- The keys of a zone.
-use Rattle.std.proofs.Common.{◌≡◌, ℕ, zero, suc, ◌+◌, ◌<◌, ◌&&◌, ◌==◌, List, [], ◌∷◌, ◌++◌, Some, None, length, map, take, get_or, refl, sym, ap, ◌∙◌, subst, arith, append_assoc, append-nil}
+use Rattle.std.proofs.Common.{◌≡◌, ℕ, zero, suc, ◌+◌, ◌<◌, ◌&&◌, ◌==◌, List, [], ◌∷◌, ◌++◌, Some, length, map, take, get_or, refl, sym, ap, ◌∙◌, subst, arith, append_assoc, append-nil}
 use Rattle.std.proofs.lemmas.List.{take_more}
 use Rattle.std.proofs.lemmas.List.Elements.{Contains-get_or}
 use Rattle.std.specs.Prelude.{Contains, filter, nat_eq, slice_get}
@@ -16,7 +16,7 @@ use Rattle.dnsv_canonical.proofs.NumberLemmas.{each_number, IsOneAt, one_numbere
 use Rattle.dnsv_records.specs.declared.dnskey.Dnskey.{Dnskey}
 use Rattle.dnsv_rrsets.specs.declared.canonical_order.ReadRecord.{ReadRecord}
 use Rattle.dnsv_verifier.specs.Admissible.{DnskeyRecord}
-use Rattle.dnsv_zone_keys.specs.Keys.Index.{HasPlaced, HaveAllOf, IsPlaced, Placed}
+use Rattle.dnsv_zone_keys.specs.Keys.Index.{HaveAllOf, IsPlaced, Placed}
 use Rattle.dnsv_zone_keys.specs.Keys.{AreRecordsOf, AreStanding, AreZoneKeys, IsKeyPlaced}
 use Rattle.dnsv_zone_keys.specs.Keys.ZoneSearch.{AddsRecords, AreKeysOf, IsDnskeyNumber, IsOf}
 use Rattle.dnsv_zone_keys.proofs.lemmas.OnceLemmas.{pair}

@@ -1,5 +1,5 @@
 -- How the keys of zones are gathered.
-use Rattle.std.specs.Prelude.{◌≡◌, ◌++◌, ◌∷◌, ℕ, List, [], map}
+use Rattle.std.specs.Prelude.{◌≡◌, ◌++◌, ◌∷◌, ℕ, List, map}
 use Rattle.std.specs.List.{AllByRecursion, enumerate_from}
 use Rattle.dnsv_names.specs.Name.{Labels}
 use Rattle.dnsv_records.specs.Dnskey.{IsDnskey}

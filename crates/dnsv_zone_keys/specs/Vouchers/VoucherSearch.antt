@@ -1,5 +1,5 @@
 -- How the keys that anchors and DS records match are looked for.
-use Rattle.std.specs.Prelude.{◌≡◌, ◌↔◌, ◌<◌, ⊤, ℕ, List, [], Option, Some, None, Contains, IsTrue}
+use Rattle.std.specs.Prelude.{◌≡◌, ⊤, ℕ, List, Option, Some, None, Contains, IsTrue}
 use Rattle.std.specs.List.Sorted.{IsStrictlyIncreasing}
 use Rattle.dnsv_names.specs.Name.{Labels}
 use Rattle.dnsv_records.specs.Algorithm.{is_supported}

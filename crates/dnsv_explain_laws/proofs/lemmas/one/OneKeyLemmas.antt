@@ -1,5 +1,5 @@
 -- The keys in question are told in one list.
-use Rattle.std.proofs.Common.{◌≡◌, ◌≢◌, ◌∙◌, ℕ, List, [], ◌∷◌, Option, Some, None, map, refl, sym, ap, subst}
+use Rattle.std.proofs.Common.{◌≡◌, ◌∙◌, ℕ, List, [], ◌∷◌, Option, Some, None, map, refl, sym, ap, subst}
 use Rattle.std.specs.List.{Contains}
 use Rattle.dnsv_canonical.proofs.CanonicalLemmas.{canonical_unique}
 use Rattle.dnsv_chain.specs.Trusted.{IsKeyOf}

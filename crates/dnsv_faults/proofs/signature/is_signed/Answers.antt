@@ -1,4 +1,4 @@
-use Rattle.std.proofs.Common.{◌↔◌, List, ℕ, subst, sym, ap, ◌∙◌, IsTrue}
+use Rattle.std.proofs.Common.{◌↔◌, List, ℕ, subst, ap, ◌∙◌, IsTrue}
 use Rattle.std.specs.List.{Contains}
 use Rattle.dnsv_chain.specs.Trust.{KeptTrust, signed_of}
 use Rattle.dnsv_faults.proofs.signature.is_signed.Goals as goal

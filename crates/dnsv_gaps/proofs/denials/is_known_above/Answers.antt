@@ -1,6 +1,6 @@
 use Rattle.std.proofs.Common.{refl, subst, sym, ◌∙◌}
 use Rattle.std.proofs.lemmas.Bool.{false≢true}
-use Rattle.dnsv_names.specs.Name.{IsAtOrBelow, Labels}
+use Rattle.dnsv_names.specs.Name.{Labels}
 use Rattle.dnsv_names.specs.Order.{IsBelow}
 use Rattle.dnsv_gaps.proofs.denials.is_known_above.Goals as goal
 

@@ -1,4 +1,4 @@
-use Rattle.std.proofs.Common.{ℕ, List, subst, sym}
+use Rattle.std.proofs.Common.{List, subst}
 use Rattle.std.specs.Prelude.{Contains}
 use Rattle.dnsv_names.specs.Name.{Labels, rightmost}
 use Rattle.dnsv_canonical.specs.Rrsets.{ReceivedRrset}

@@ -1,7 +1,6 @@
-use Rattle.std.proofs.Common.{◌≡◌, ◌+◌, ◌++◌, [], ◌∷◌, List, ℕ, get_or, map, take, refl, sym, ap, ◌∙◌, subst}
+use Rattle.std.proofs.Common.{◌≡◌, ◌+◌, ◌++◌, [], ◌∷◌, List, map, take, sym, ap, ◌∙◌, subst}
 use Rattle.std.proofs.lemmas.List.{map-append, take_all, take_more}
 use Rattle.std.specs.List.Sorted.{IsStrictlySortedBy}
-use Rattle.dnsv_canonical.specs.Evidence.{AreParameters, nsec3_rdata}
 use Rattle.dnsv_canonical.specs.Rrsets.{ReceivedRrset}
 use Rattle.std.specs.Prelude.{Contains}
 use Rattle.dnsv_zones.specs.chains.Nsec3Chain.{Parameters}
@@ -10,7 +9,7 @@ use Rattle.dnsv_denial.specs.gathering.Evidence.{IsNsec3Of}
 use Rattle.dnsv_proof_forms.specs.records.ParametersOrder.{parameters_cmp}
 use Rattle.dnsv_proof_forms.specs.QuestionHashes.{AreUsed}
 use Rattle.dnsv_proof_forms.specs.declared.records.parameters.OrderedParameters.{OrderedParameters}
-use Rattle.dnsv_gaps.specs.SourceSearch.{AreNsecSources, zone_in}
+use Rattle.dnsv_gaps.specs.SourceSearch.{zone_in}
 use Rattle.dnsv_gaps.specs.declared.sources.HeldSource.{HeldSource}
 use Rattle.dnsv_gaps.proofs.ZoneLemmas.{AreSourcesTo, all_sources, before_all, every_used, nsecs_first, ordered_of, sources_more, used_there}
 use Rattle.dnsv_gaps.proofs.sources.sources_of.Goals as goal

@@ -1,7 +1,7 @@
 use Rattle.std.proofs.Common.{[]}
 use Rattle.dnsv_verdict.specs.Traced.{hashes_on_way}
 use Rattle.dnsv_verdict.specs.declared.verdict.Verdict.TheVariants.{SecureAlias}
-use Rattle.dnsv_derivations.specs.Explained.{Explained, setting_in}
+use Rattle.dnsv_derivations.specs.Explained.{Explained}
 use Rattle.dnsv_holding.proofs.lemmas.telling.DerivedLemmas.{alias_told}
 use Rattle.dnsv_holding.proofs.lemmas.telling.SecureLemmas.{alias_secure, settled_by}
 use Rattle.dnsv_holding.proofs.lemmas.telling.TellLemmas.{last_hashed}

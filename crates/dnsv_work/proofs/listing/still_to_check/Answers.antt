@@ -1,4 +1,3 @@
-use Rattle.std.proofs.Common.{subst, sym}
 use Rattle.dnsv_files.specs.Bounds.{begin_of, end_of}
 use Rattle.dnsv_work.specs.Span.{moments_of}
 use Rattle.dnsv_work.proofs.WorkLemmas.Listing.{unknown_asked}

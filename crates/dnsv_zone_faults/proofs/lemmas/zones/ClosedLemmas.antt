@@ -1,11 +1,10 @@
 -- What follows from signatures and keys that are found is kept.
-use Rattle.std.proofs.Common.{◌≡◌, ◌+◌, ◌<◌, ◌≤◌, ℕ, zero, suc, Bool, true, false, inl, inr, ⊎_elim, List, [], ◌∷◌, ◌++◌, Some, None, length, map, refl, sym, ap, ◌∙◌, subst, arith, IsTrue}
+use Rattle.std.proofs.Common.{◌≡◌, ◌+◌, ℕ, zero, suc, Bool, true, false, inl, inr, List, [], ◌∷◌, ◌++◌, Some, map, refl, sym, ◌∙◌, subst, arith, IsTrue}
 use Rattle.std.proofs.lemmas.Bool.{false≢true}
 use Rattle.std.specs.Prelude.{Contains, slice_get}
-use Rattle.std.specs.List.{AllByRecursion, AllZip, list_any}
+use Rattle.std.specs.List.{list_any}
 use Rattle.dnsv_names.specs.Name.{Labels, IsAtOrBelow, SameName, rightmost}
 use Rattle.dnsv_names.specs.Tree.AncestorLaws.{rightmost_same}
-use Rattle.dnsv_records.specs.declared.rrsig.Rrsig.{Rrsig}
 use Rattle.dnsv_canonical.specs.Index.{numbers_at}
 use Rattle.dnsv_canonical.specs.Rrsets.{IsNumbered, ReceivedRrset}
 use Rattle.dnsv_canonical.proofs.OrderLemmas.{each_of, zip_at}
@@ -31,7 +30,7 @@ use Rattle.dnsv_zone_keys.specs.Answers.{IsKeyAnswer}
 use Rattle.dnsv_zone_faults.specs.Dnskeys.{AreDnskeyFacts}
 use Rattle.dnsv_zone_keys.specs.Keys.{IsKeyPlaced, NamesKey, NamesZoneKey}
 use Rattle.dnsv_faults.specs.Signatures.{AreSignatureFacts, IsNamedKey}
-use Rattle.dnsv_zone_faults.specs.Zones.{AreFactsOfZone, AreZoneFacts, IsZoneKeyFacts}
+use Rattle.dnsv_zone_faults.specs.Zones.{AreZoneFacts, IsZoneKeyFacts}
 use Rattle.dnsv_zone_faults.proofs.lemmas.zones.TrustLemmas.{zip_left}
 use Rattle.dnsv_zone_keys.proofs.lemmas.ZoneKeyLemmas.{one_zone_keys, placed_same, same_numbers}
 

@@ -1,5 +1,5 @@
 -- Which DNSKEY RRsets hold which keys.
-use Rattle.std.proofs.Common.{◌≡◌, ◌↔◌, ◌⊎◌, ℕ, zero, suc, ◌+◌, ◌<◌, ◌≤◌, ◌==◌, inl, inr, ⊎_elim, Bool, List, [], ◌∷◌, ◌++◌, Some, length, map, get_or, take, refl, sym, ap, ◌∙◌, subst, arith, IsTrue, length-append}
+use Rattle.std.proofs.Common.{◌≡◌, ◌↔◌, ◌⊎◌, ℕ, ◌+◌, ◌<◌, ◌≤◌, inl, inr, ⊎_elim, List, [], ◌∷◌, ◌++◌, Some, length, map, get_or, refl, sym, ap, ◌∙◌, subst, arith, IsTrue, length-append}
 use Rattle.std.proofs.Math.Seq.{get_or-append_seam}
 use Rattle.std.proofs.lemmas.Bool.{cases_lt}
 use Rattle.std.proofs.lemmas.List.{get_or_append_left}
@@ -12,13 +12,12 @@ use Rattle.std.specs.List.Sorted.{IsStrictlyIncreasing}
 use Rattle.std.specs.Ordering.{nat_cmp}
 use Rattle.std.specs.Prelude.{Contains, IsPermutation, IsSorted, IsSortedByKey, slice_get}
 use lib.Dec.{eqb}
-use Rattle.dnsv_verifier.proofs.AskLemmas.{adds_more, adds_moved, adds_nothing}
+use Rattle.dnsv_verifier.proofs.AskLemmas.{adds_more, adds_nothing}
 use Rattle.dnsv_verifier.proofs.NumberLemmas.{contains_from_map, contains_map}
-use Rattle.dnsv_verifier.specs.Asking.{AddsJust, ComesOfSome}
+use Rattle.dnsv_verifier.specs.Asking.{AddsJust}
 use Rattle.dnsv_mending.specs.declared.facts.keys.DnskeyFacts.{DnskeyFacts}
-use Rattle.dnsv_mending.specs.declared.facts.keys.HeldKey.{HeldKey}
 use Rattle.dnsv_mending.specs.declared.facts.zone.ZoneKey.{ZoneKey}
-use Rattle.dnsv_zone_faults.specs.Zones.HolderSearch.{AreHolders, AreHoldersOf, AreHoldersOfEach, AreHoldings, AreOfKey, HasTrusted, Holds, IsHeldByTrusted, IsHoldingIn, IsHoldingOf, holding_of, key_of}
+use Rattle.dnsv_zone_faults.specs.Zones.HolderSearch.{AreHolders, AreHoldersOf, AreHoldersOfEach, AreHoldings, AreOfKey, HasTrusted, Holds, IsHoldingIn, IsHoldingOf, holding_of, key_of}
 use Rattle.dnsv_zone_faults.specs.declared.zone.holders.Holding.{Holding}
 
 -- ---- one RRset after another

@@ -3,7 +3,7 @@ use Rattle.std.proofs.Common.{◌≡◌, ◌+◌, ◌<◌, ℕ, List, [], ◌∷
 use Rattle.std.proofs.lemmas.List.{length-map, map-append, take_more}
 use Rattle.std.proofs.lemmas.List.FromFn.{length-enumerate_from}
 use Rattle.std.proofs.lemmas.List.Sorted.{length_permutation}
-use Rattle.std.specs.Prelude.{Contains, IsPermutation, IsSortedByKey, slice_get}
+use Rattle.std.specs.Prelude.{Contains, IsPermutation, IsSortedByKey}
 use Rattle.dnsv_canonical.specs.Canonical.{rdata_cmp}
 use Rattle.dnsv_names.specs.Name.{Labels, SameName}
 use Rattle.dnsv_records.specs.Dnskey.{IsDnskey}
@@ -12,10 +12,9 @@ use Rattle.dnsv_records.specs.declared.dnskey.Dnskey.{Dnskey}
 use Rattle.dnsv_rrsets.specs.declared.canonical_order.ReadRecord.{ReadRecord}
 use Rattle.dnsv_verifier.specs.Admissible.{DnskeyRecord}
 use Rattle.dnsv_zone_faults.specs.Dnskeys.DnskeySearch.{AreKeyed, AreVouched, IsKeyIn, IsSetOf, basis_in, rdata_of}
-use Rattle.dnsv_zone_keys.specs.Keys.{AreZoneKeys, IsKeyPlaced}
+use Rattle.dnsv_zone_keys.specs.Keys.{IsKeyPlaced}
 use Rattle.dnsv_zone_keys.specs.Keys.Index.{Placed}
 use Rattle.dnsv_zone_keys.specs.Keys.ZoneSearch.{AreKeysOf}
-use Rattle.dnsv_zone_keys.specs.Vouchers.VoucherSearch.{AreKeysOfZone}
 use Rattle.dnsv_zone_faults.specs.declared.zone.keyed.KeyedZone.{KeyedZone}
 use Rattle.dnsv_zone_keys.proofs.lemmas.OnceLemmas.{pair}
 use Rattle.dnsv_zone_faults.proofs.lemmas.zones.PlaceLemmas.{record_placed}

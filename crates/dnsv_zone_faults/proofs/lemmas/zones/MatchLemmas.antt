@@ -1,22 +1,19 @@
 -- What anchors and DS records match among the keys of a zone, and which signatures are good.
-use Rattle.std.proofs.Common.{◌≡◌, ◌≤◌, ◌↔◌, ◌⊎◌, ◌+◌, ◌-◌, ◌<◌, ℕ, zero, suc, Bool, true, false, inl, inr, ⊎_elim, List, [], ◌∷◌, Option, Some, None, length, get_or, refl, sym, ap, ◌∙◌, subst, arith, IsTrue}
-use Rattle.std.proofs.lemmas.Option.{get_or_from_slice_get, slice_get-get_or, slice_get_within}
-use Rattle.std.specs.Prelude.{Contains, slice_get}
-use Rattle.std.specs.List.{AllByRecursion, AllZip}
+use Rattle.std.proofs.Common.{◌≡◌, ◌⊎◌, ◌+◌, ℕ, zero, suc, inl, inr, ⊎_elim, List, [], ◌∷◌, Option, Some, None, refl, sym, ap, ◌∙◌, subst, arith, IsTrue}
+use Rattle.std.specs.Prelude.{Contains}
+use Rattle.std.specs.List.{AllByRecursion}
 use Rattle.dnsv_names.specs.Name.{Labels, SameName}
 use Rattle.dnsv_names.specs.Octets.{number_at}
 use Rattle.dnsv_records.specs.Algorithm.{is_supported}
 use Rattle.dnsv_records.specs.Dnskey.{IsDnskey}
 use Rattle.dnsv_records.specs.Ds.{IsDs}
-use Rattle.dnsv_records.specs.declared.dnskey.Dnskey.{Dnskey}
 use Rattle.dnsv_records.specs.declared.ds.Ds.{Ds}
-use Rattle.dnsv_records.proofs.OneRecord.{one_dnskey, one_ds}
+use Rattle.dnsv_records.proofs.OneRecord.{one_ds}
 use Rattle.dnsv_canonical.specs.Rrsets.{ReceivedRrset}
-use Rattle.dnsv_canonical.proofs.OrderLemmas.{zip_from}
 use Rattle.dnsv_anchors.specs.Anchor.{anchor_owner}
 use Rattle.dnsv_chain.specs.Anchor.{IsAnchorMatch}
-use Rattle.dnsv_anchors.specs.Ds.{IsIgnored, IsSupported, IsUsable}
-use Rattle.dnsv_chain.specs.Ds.{HasDigestOf, IsMatch}
+use Rattle.dnsv_anchors.specs.Ds.{IsSupported}
+use Rattle.dnsv_chain.specs.Ds.{HasDigestOf}
 use Rattle.dnsv_anchors.specs.declared.anchor.Anchor.{Anchor}
 use Rattle.dnsv_anchors.specs.declared.anchor.Anchor.TheVariants as given
 use Rattle.dnsv_digest.specs.DigestAlgorithm.{digest_algorithm_of}
@@ -29,7 +26,7 @@ use Rattle.dnsv_mending.specs.declared.facts.keys.VoucherFacts.{VoucherFacts}
 use Rattle.dnsv_verifier.specs.Admissible.{DnskeyRecord}
 use Rattle.dnsv_zone_keys.specs.Keys.{IsKeyPlaced}
 use Rattle.dnsv_zone_keys.specs.Vouchers.{AreVoucherFacts, HasUnknownDigest, IsFirstOf, IsIgnoredBeside, IsMatchOf, IsVoucherFault, Wanted, voucher_faults, wanted_key}
-use Rattle.dnsv_zone_keys.specs.Vouchers.Wanted.{by_digest, whole_key}
+use Rattle.dnsv_zone_keys.specs.Vouchers.Wanted.{by_digest}
 use Rattle.dnsv_zone_faults.specs.Groups.{AreAnchorFactsFrom, AreRecordFacts, anchor_wanted}
 use Rattle.dnsv_zone_faults.proofs.lemmas.zones.PlaceLemmas.{placed_rdata, read_same}
 use Rattle.dnsv_zone_keys.proofs.lemmas.VoucherLemmas.{IsSameKey, match_moves, match_wanted, wanted_tag}

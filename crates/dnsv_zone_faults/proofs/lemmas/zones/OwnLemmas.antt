@@ -1,8 +1,8 @@
 -- The keys in a DNSKEY RRset and its signatures.
-use Rattle.std.proofs.Common.{◌≡◌, ◌≢◌, ◌↔◌, ◌⊎◌, ◌+◌, ◌-◌, ◌<◌, ◌==◌, ℕ, Bool, true, false, not, inl, inr, ⊎_elim, List, [], ◌∷◌, ◌++◌, Some, length, map, take, get_or, refl, sym, ap, ◌∙◌, subst, arith, IsTrue}
+use Rattle.std.proofs.Common.{◌≡◌, ◌≢◌, ◌↔◌, ◌⊎◌, ◌+◌, ◌-◌, ◌==◌, ℕ, Bool, false, not, inl, inr, ⊎_elim, List, [], ◌∷◌, length, map, refl, sym, ap, ◌∙◌, subst, arith, IsTrue}
 use Rattle.std.proofs.lemmas.Bool.{false≢true}
 use Rattle.std.proofs.lemmas.Bool.Decides.{nat_tests}
-use Rattle.std.specs.Prelude.{Contains, slice_get}
+use Rattle.std.specs.Prelude.{Contains}
 use Rattle.std.specs.List.{AllByRecursion, AllZip, enumerate_from}
 use Rattle.std.specs.List.Sorted.{IsStrictlyIncreasing}
 use Rattle.dnsv_names.specs.Name.{Labels, SameName}
@@ -11,10 +11,10 @@ use Rattle.dnsv_records.specs.Dnskey.KeyTag.{key_tag_of}
 use Rattle.dnsv_records.specs.Rrsig.{IsRrsig}
 use Rattle.dnsv_records.specs.declared.rrsig.Rrsig.{Rrsig}
 use Rattle.dnsv_records.proofs.OneRecord.{one_rrsig}
-use Rattle.dnsv_canonical.specs.Rrsets.{IsNumbered, ReceivedRrset}
+use Rattle.dnsv_canonical.specs.Rrsets.{ReceivedRrset}
 use Rattle.dnsv_canonical.proofs.OrderLemmas.{each_member, each_of, zip_from}
 use Rattle.dnsv_chain.specs.Anchor.{HasAnchorMatch}
-use Rattle.dnsv_chain.specs.Trusted.{IsKeyOf, IsTrusted, SignsItsSet, anchored, delegated}
+use Rattle.dnsv_chain.specs.Trusted.{IsTrusted, SignsItsSet, anchored, delegated}
 use Rattle.dnsv_chain.specs.Basis.{Basis}
 use Rattle.dnsv_verifier.proofs.NumberLemmas.{contains_from_map}
 use Rattle.dnsv_verifier.specs.Admissible.{DnskeyRecord, IsGood}
@@ -27,10 +27,9 @@ use Rattle.dnsv_zone_faults.specs.Dnskeys.OwnSearch.{AreTagged, HasNaming, tag_o
 use Rattle.dnsv_zone_faults.specs.Dnskeys.PlaceSearch.{HasOther}
 use Rattle.dnsv_zone_keys.specs.Keys.{IsKeyPlaced, IsNamed}
 use Rattle.dnsv_zone_keys.specs.Keys.Index.{AreIndexed, IsNamedBySigner, Placed}
-use Rattle.dnsv_faults.specs.Signatures.{IsSignatureAt}
-use Rattle.dnsv_zone_keys.specs.Vouchers.VoucherSearch.{ArePlacesOf, IsPlaceOf}
+use Rattle.dnsv_zone_keys.specs.Vouchers.VoucherSearch.{ArePlacesOf}
 use Rattle.dnsv_zone_faults.specs.declared.zone.dnskeys.tagged.OwnSignature.{OwnSignature}
-use Rattle.dnsv_zone_keys.proofs.lemmas.IndexLemmas.{IsFoundAs, found_as}
+use Rattle.dnsv_zone_keys.proofs.lemmas.IndexLemmas.{found_as}
 use Rattle.dnsv_zone_faults.proofs.lemmas.zones.PlaceLemmas.{key_in, key_records, placed_rdata, same_record}
 use Rattle.dnsv_zone_faults.proofs.lemmas.zones.TrustLemmas.{in_enumerated, number_of, numbered_among}
 use Rattle.dnsv_zone_keys.proofs.lemmas.ZoneKeyLemmas.{placed_same}

@@ -1,10 +1,9 @@
 -- Which keys of a zone are vouched for, and which DNSKEY RRsets that makes trusted.
-use Rattle.std.proofs.Common.{◌≡◌, ◌≢◌, ◌↔◌, ◌⊎◌, ◌+◌, ◌-◌, ◌<◌, ◌||◌, ℕ, zero, suc, Bool, true, false, inl, inr, ⊎_elim, List, [], ◌∷◌, ◌++◌, Some, None, length, map, get_or, refl, sym, ap, ◌∙◌, subst, arith, IsTrue}
+use Rattle.std.proofs.Common.{◌≡◌, ◌≢◌, ◌↔◌, ◌⊎◌, ◌+◌, ◌-◌, ◌<◌, ◌||◌, ℕ, zero, suc, Bool, true, false, inl, inr, ⊎_elim, List, [], ◌∷◌, ◌++◌, Some, length, get_or, refl, sym, ap, ◌∙◌, subst, arith, IsTrue}
 use Rattle.std.proofs.lemmas.Bool.{false≢true}
 use Rattle.std.proofs.lemmas.List.Elements.{Contains-append_cases, Contains-append_left, Contains-append_right}
-use Rattle.std.proofs.lemmas.List.Sorted.{Contains-permutation, IsPermutation-sym}
-use Rattle.std.proofs.lemmas.Option.{get_or_from_slice_get, slice_get-get_or, slice_get_within}
-use Rattle.std.specs.Prelude.{Contains, IsPermutation, slice_get}
+use Rattle.std.proofs.lemmas.List.Sorted.{Contains-permutation}
+use Rattle.std.specs.Prelude.{Contains, slice_get}
 use Rattle.std.specs.List.{AllZip, enumerate_from, list_any}
 use Rattle.dnsv_names.specs.Name.{Labels, SameName}
 use Rattle.dnsv_records.specs.Algorithm.{is_supported}
@@ -16,17 +15,14 @@ use Rattle.dnsv_records.proofs.OneRecord.{one_ds}
 use Rattle.dnsv_canonical.specs.Index.{numbers_at}
 use Rattle.dnsv_canonical.specs.Rrsets.{IsNumbered, ReceivedRrset}
 use Rattle.dnsv_canonical.proofs.OrderLemmas.{each_of, zip_at, zip_from}
-use Rattle.dnsv_anchors.specs.Anchor.{anchor_owner}
 use Rattle.dnsv_chain.specs.Anchor.{HasAnchorMatch}
 use Rattle.dnsv_anchors.specs.Ds.{IsUsable}
-use Rattle.dnsv_chain.specs.Ds.{HasUsableMatch}
 use Rattle.dnsv_chain.specs.Trusted.{DelegatesTo, IsKeyOf, IsSecured, IsSignedUnder, IsTrusted}
-use Rattle.dnsv_anchors.specs.declared.anchor.Anchor.{Anchor}
 use Rattle.dnsv_chain.proofs.ChainLemmas.{same_ds}
 use Rattle.dnsv_chain.specs.Basis.{Basis}
 use Rattle.dnsv_chain.proofs.NumberedLemmas.{numbers_are}
 use Rattle.dnsv_canonical.proofs.NumberLemmas.{each_number, IsOneAt, one_numbered}
-use Rattle.dnsv_verifier.specs.Admissible.{DnskeyRecord, IsGood, IsSignatureOf}
+use Rattle.dnsv_verifier.specs.Admissible.{DnskeyRecord}
 use Rattle.dnsv_verifier.specs.Asking.{AddsJust, ComesOfSome}
 use Rattle.dnsv_mending.specs.declared.facts.keys.VoucherFacts.{VoucherFacts}
 use Rattle.dnsv_mending.specs.declared.facts.signature.RrsetFacts.{RrsetFacts}
@@ -35,12 +31,10 @@ use Rattle.dnsv_mending.specs.declared.facts.zone.DsFacts.{DsFacts}
 use Rattle.dnsv_zone_faults.specs.Groups.{AreAllDsFacts, AreAnchorFacts, AreDsFacts, anchor_wanted}
 use Rattle.dnsv_zone_faults.specs.Groups.GroupSearch.{AreMatched, HasSigned, IsMatched, IsMatchedByDs}
 use Rattle.dnsv_zone_keys.specs.Keys.{IsKeyPlaced}
-use Rattle.dnsv_zone_keys.specs.Keys.Index.{Placed}
 use Rattle.dnsv_faults.specs.Rrsets.{AreRrsetFacts}
 use Rattle.dnsv_faults.specs.Signatures.{AreSignatureFacts, IsSignatureAt}
-use Rattle.dnsv_zone_keys.specs.Vouchers.{IsMatchOf}
-use Rattle.dnsv_zone_keys.specs.Vouchers.Wanted.{by_digest, whole_key}
-use Rattle.dnsv_zone_faults.specs.Dnskeys.DnskeySearch.{AreVouched, IsDelegatedTo, IsVouchedFor}
+use Rattle.dnsv_zone_keys.specs.Vouchers.Wanted.{by_digest}
+use Rattle.dnsv_zone_faults.specs.Dnskeys.DnskeySearch.{AreVouched, IsDelegatedTo}
 use Rattle.dnsv_zone_keys.proofs.lemmas.IndexLemmas.{numbered_at}
 use Rattle.dnsv_zone_faults.proofs.lemmas.zones.MatchLemmas.{anchor_known, anchor_match, anchor_match_owner, anchor_of_use, digest_supported, match_anchor, match_there, matches_it, nothing_said, of_anchor, of_record, record_known}
 use Rattle.dnsv_zone_faults.proofs.lemmas.zones.PlaceLemmas.{at_some, contains_at}

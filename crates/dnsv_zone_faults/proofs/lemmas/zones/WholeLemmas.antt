@@ -1,10 +1,10 @@
 -- What follows by one rule of trust from what is found of zones is found too.
-use Rattle.std.proofs.Common.{◌≡◌, ◌==◌, ◌||◌, ℕ, zero, suc, Bool, true, false, ⊎_elim, List, [], ◌∷◌, ◌++◌, Option, Some, None, length, refl, sym, ap, ◌∙◌, subst, arith, IsTrue}
+use Rattle.std.proofs.Common.{◌≡◌, ℕ, suc, true, ⊎_elim, List, [], ◌∷◌, Option, Some, None, refl, sym, ap, ◌∙◌, subst, arith}
 use Rattle.std.proofs.lemmas.Bool.{false≢true}
 use Rattle.std.proofs.lemmas.Bool.Decides.{nat_tests}
 use Rattle.std.specs.Prelude.{Contains, nat_eq, slice_get}
-use Rattle.std.specs.List.{AllZip, list_any}
-use Rattle.dnsv_names.specs.Name.{Labels, IsAtOrBelow, SameName, rightmost}
+use Rattle.std.specs.List.{list_any}
+use Rattle.dnsv_names.specs.Name.{Labels, SameName, rightmost}
 use Rattle.dnsv_names.specs.Tree.AncestorLaws.{rightmost_above}
 use Rattle.dnsv_names.specs.Tree.TreeLaws.{at_or_below_respects, at_or_below_trans}
 use Rattle.dnsv_records.specs.declared.rrsig.Rrsig.{Rrsig}
@@ -12,24 +12,22 @@ use Rattle.dnsv_canonical.specs.Index.{numbers_at}
 use Rattle.dnsv_canonical.specs.Rrsets.{IsNumbered, ReceivedRrset}
 use Rattle.dnsv_canonical.proofs.OrderLemmas.{each_of, zip_at}
 use Rattle.dnsv_chain.specs.Anchor.{HasAnchorMatch}
-use Rattle.dnsv_chain.specs.Trusted.{IsTrustedKey, SignsItsSet, anchored, delegated}
+use Rattle.dnsv_chain.specs.Trusted.{SignsItsSet, anchored, delegated}
 use Rattle.dnsv_chain.specs.Basis.{Basis}
 use Rattle.dnsv_canonical.proofs.NumberLemmas.{each_number, IsOneAt, one_numbered}
 use Rattle.dnsv_lines.specs.declared.line.fault.zone.WhyEntry.{WhyEntry}
 use Rattle.dnsv_mending.specs.Faults.{answer_lines, or_else}
 use Rattle.dnsv_mending.specs.Keys.{fits, fits_by, signing}
-use Rattle.dnsv_mending.specs.Reasons.{IsClosed, IsClosedRrset, IsSelfSigned, IsSignedRrset}
+use Rattle.dnsv_mending.specs.Reasons.{IsClosed, IsClosedRrset, IsSelfSigned}
 use Rattle.dnsv_mending.specs.Ways.{IsAmong}
 use Rattle.dnsv_mending.specs.declared.facts.keys.DnskeyFacts.{DnskeyFacts}
 use Rattle.dnsv_mending.specs.declared.facts.keys.HeldKey.{HeldKey}
 use Rattle.dnsv_mending.specs.declared.facts.keys.VoucherFacts.{VoucherFacts}
-use Rattle.dnsv_mending.specs.declared.facts.signature.SignatureFacts.{SignatureFacts}
 use Rattle.dnsv_mending.specs.declared.facts.zone.DsFacts.{DsFacts}
 use Rattle.dnsv_mending.specs.declared.facts.zone.ZoneFacts.{ZoneFacts}
-use Rattle.dnsv_mending.specs.declared.facts.zone.ZoneKey.{ZoneKey}
 use Rattle.dnsv_mending.specs.declared.told.Told.{Told}
 use Rattle.dnsv_zone_keys.specs.Answers.AnswerSearch.{is_good_answer}
-use Rattle.dnsv_zone_faults.specs.Dnskeys.{AreDnskeyFacts, IsHeldKey, IsOwnSignature}
+use Rattle.dnsv_zone_faults.specs.Dnskeys.{AreDnskeyFacts, IsOwnSignature}
 use Rattle.dnsv_zone_faults.specs.Groups.{AreDsFacts, anchor_wanted}
 use Rattle.dnsv_faults.specs.Signatures.{AreSignatureFacts}
 use Rattle.dnsv_zone_faults.specs.Zones.{AreZoneFacts, IsZoneKeyFacts}

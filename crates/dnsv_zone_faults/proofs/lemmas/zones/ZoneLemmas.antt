@@ -1,5 +1,5 @@
 -- What is so of the keys of a zone, and of zones one after another.
-use Rattle.std.proofs.Common.{◌≡◌, ◌↔◌, ◌+◌, ◌<◌, ◌≤◌, ℕ, zero, suc, ⊎_elim, Bool, List, [], ◌∷◌, ◌++◌, Some, length, refl, sym, ap, ◌∙◌, subst, arith, IsTrue, length-append}
+use Rattle.std.proofs.Common.{◌≡◌, ◌+◌, ℕ, zero, suc, ⊎_elim, List, [], ◌∷◌, ◌++◌, Some, length, refl, sym, ap, ◌∙◌, subst, arith, length-append}
 use Rattle.std.specs.Prelude.{Contains, slice_get}
 use Rattle.std.specs.List.{AllZip}
 use Rattle.dnsv_names.specs.Name.{Labels, SameName, rightmost}
@@ -10,16 +10,15 @@ use Rattle.dnsv_chain.specs.Trusted.{IsTrusted}
 use Rattle.dnsv_chain.proofs.TrustedLemmas.{trusted_among, trusted_rtype}
 use Rattle.dnsv_chain.specs.Basis.{Basis}
 use Rattle.dnsv_canonical.proofs.NumberLemmas.{each_number, IsOneAt, one_numbered}
-use Rattle.dnsv_verifier.specs.Admissible.{DnskeyRecord}
 use Rattle.dnsv_mending.specs.declared.facts.keys.DnskeyFacts.{DnskeyFacts}
 use Rattle.dnsv_mending.specs.declared.facts.keys.HeldKey.{HeldKey}
 use Rattle.dnsv_mending.specs.declared.facts.zone.ZoneFacts.{ZoneFacts}
 use Rattle.dnsv_mending.specs.declared.facts.zone.ZoneKey.{ZoneKey}
 use Rattle.dnsv_zone_faults.specs.Dnskeys.{AreAllDnskeyFacts, AreDnskeyFacts, AreHeldKeys, IsHeldKey}
 use Rattle.dnsv_zone_faults.specs.Dnskeys.DnskeySearch.{IsSetOf}
-use Rattle.dnsv_zone_keys.specs.Keys.{AreZoneKeys, IsKeyPlaced}
+use Rattle.dnsv_zone_keys.specs.Keys.{AreZoneKeys}
 use Rattle.dnsv_zone_faults.specs.Zones.{AreFactsOfZone, AreZoneFacts, AreZoneKeyFacts, IsHolder, IsZoneKeyFacts}
-use Rattle.dnsv_zone_faults.specs.Zones.HolderSearch.{AreHolders, AreHoldersOfEach, Holds, IsHeldByTrusted}
+use Rattle.dnsv_zone_faults.specs.Zones.HolderSearch.{AreHolders, AreHoldersOfEach, Holds}
 use Rattle.dnsv_zone_faults.proofs.lemmas.zones.HolderLemmas.{at_end}
 use Rattle.dnsv_zone_faults.proofs.lemmas.zones.PlaceLemmas.{at_some, contains_at, one_place, set_number}
 use Rattle.dnsv_zone_faults.proofs.lemmas.zones.TrustLemmas.{number_of}

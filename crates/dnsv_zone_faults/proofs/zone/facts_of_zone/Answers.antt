@@ -1,4 +1,4 @@
-use Rattle.std.proofs.Common.{ℕ, List, sym, ap, ◌∙◌, subst, arith}
+use Rattle.std.proofs.Common.{List, subst, arith}
 use Rattle.dnsv_names.specs.Name.{Labels}
 use Rattle.dnsv_chain.specs.Basis.{CaseContents, basis_by}
 use Rattle.dnsv_zone_faults.specs.Dnskeys.{AreAllDnskeyFacts}

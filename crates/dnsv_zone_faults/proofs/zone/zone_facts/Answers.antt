@@ -1,4 +1,4 @@
-use Rattle.std.proofs.Common.{◌↔◌, ◌≤◌, ℕ, Bool, false, List, IsTrue, get_or, length, sym, ap, ◌+◌, ◌∙◌, subst, arith}
+use Rattle.std.proofs.Common.{◌↔◌, ℕ, Bool, false, List, IsTrue, get_or, length, sym, ap, ◌+◌, subst, arith}
 use Rattle.dnsv_names.specs.Name.{Labels, rightmost}
 use Rattle.dnsv_mending.specs.declared.facts.zone.ZoneFacts.{ZoneFacts}
 use Rattle.dnsv_chain.specs.Basis.{basis_by}

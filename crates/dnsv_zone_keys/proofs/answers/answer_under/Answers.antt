@@ -1,9 +1,8 @@
-use Rattle.std.proofs.Common.{List, ℕ, Option, Some, sym, ap, ◌∙◌, subst}
+use Rattle.std.proofs.Common.{List, ℕ, Some, sym, ap, ◌∙◌, subst}
 use Rattle.std.specs.Option.{option_map}
 use Rattle.dnsv_canonical.specs.SignedData.{IsSignedData}
 use Rattle.dnsv_mending.specs.declared.facts.signature.KeyAnswer.{KeyAnswer}
 use Rattle.dnsv_verifier.specs.Table.{table_answer}
-use Rattle.dnsv_verifier.specs.declared.entry.Entry.{Entry}
 use Rattle.dnsv_zone_keys.specs.Answers.AnswerSearch.{IsAskedOf}
 use Rattle.dnsv_zone_keys.specs.Answers.{IsKeyAnswer}
 use Rattle.dnsv_zone_keys.proofs.lemmas.AnswerLemmas.{says_so}

@@ -1,4 +1,4 @@
-use Rattle.std.proofs.Common.{List, ℕ, ap, sym, subst, ◌∙◌, arith, map}
+use Rattle.std.proofs.Common.{List, ap, sym, subst, ◌∙◌, arith, map}
 use Rattle.std.specs.List.{AllByRecursion}
 use Rattle.dnsv_canonical.proofs.ListLemmas.{each_at}
 use Rattle.dnsv_records.specs.declared.dnskey.Dnskey.{Dnskey}

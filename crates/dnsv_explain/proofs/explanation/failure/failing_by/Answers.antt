@@ -1,5 +1,5 @@
 -- the capture, the denials and the hashes are those of the facts
-use Rattle.std.proofs.Common.{◌≡◌, ◌∙◌, ap, subst, sym}
+use Rattle.std.proofs.Common.{◌∙◌, ap, subst, sym}
 use Rattle.std.specs.Prelude.{IfOk}
 use Rattle.dnsv_chain.specs.Basis.{CaseContents}
 use Rattle.dnsv_chain.specs.Trust.{SecuredIn}

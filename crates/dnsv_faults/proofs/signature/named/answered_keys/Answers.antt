@@ -1,4 +1,4 @@
-use Rattle.std.proofs.Common.{List, [], sym, subst, take}
+use Rattle.std.proofs.Common.{List, [], sym, subst}
 use Rattle.dnsv_mending.specs.declared.facts.signature.NamedKey.{NamedKey}
 use Rattle.dnsv_verifier.specs.Asking.{GivesEach}
 use Rattle.dnsv_verifier.specs.Table.{table_answer}

@@ -1,7 +1,4 @@
-use Rattle.std.proofs.Common.{arith, subst, sym}
-use Rattle.std.proofs.lemmas.Bool.{false≢true}
 use Rattle.dnsv_names.specs.Tree.TreeLaws.{at_or_below_length}
-use Rattle.dnsv_gaps.specs.Asking.{asking}
 use Rattle.dnsv_gaps.proofs.QuestionLemmas.CloserLemmas.{fewer_counted}
 use Rattle.dnsv_gaps.proofs.question.closers.closer_by.Goals as goal
 

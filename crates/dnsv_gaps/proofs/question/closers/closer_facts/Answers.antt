@@ -1,6 +1,5 @@
-use Rattle.std.proofs.Common.{ℕ, subst, sym, refl, ◌∙◌}
+use Rattle.std.proofs.Common.{ℕ, subst, refl, ◌∙◌}
 use Rattle.dnsv_names.specs.Name.{rightmost}
-use Rattle.dnsv_chain.specs.Basis.{basis_by}
 use Rattle.dnsv_gaps.specs.Asking.{asking}
 use Rattle.dnsv_gaps.specs.Parts.{AreFactsOf}
 use Rattle.dnsv_gaps.specs.Unusable.{AreUnusable}

@@ -1,4 +1,4 @@
-use Rattle.std.proofs.Common.{subst, sym, ◌∙◌}
+use Rattle.std.proofs.Common.{subst, sym}
 use Rattle.dnsv_names.specs.Name.{IsAtOrBelow, Labels}
 use Rattle.dnsv_canonical.specs.SignedData.{IsExpanded}
 use Rattle.dnsv_chain.specs.Trust.{SecuredIn}
@@ -6,7 +6,6 @@ use Rattle.dnsv_denial.specs.Viewed.{Viewed}
 use Rattle.dnsv_denial.specs.proving.FirstProof.{CanProveNoCloser, IsFirstNoCloser}
 use Rattle.dnsv_gaps.specs.Asking.{asking}
 use Rattle.dnsv_gaps.specs.questions.Closers.{IsCloserDenied}
-use Rattle.dnsv_gaps.specs.questions.CloserSearch.{viewed}
 use Rattle.dnsv_gaps.proofs.QuestionLemmas.CloserLemmas.{denied_by_trust, denied_from_trust, none_proved}
 use Rattle.dnsv_gaps.proofs.question.closers.is_open.Goals as goal
 

@@ -1,10 +1,8 @@
 use Rattle.std.proofs.Common.{List, [], ap, subst, sym, take, ◌+◌, ◌++◌, ◌∙◌}
 use Rattle.std.proofs.lemmas.List.Filters.{dedup_is}
-use Rattle.std.specs.List.{AllByRecursion}
 use Rattle.dnsv_canonical.specs.declared.number.RecordNumber.{RecordNumber}
 use Rattle.dnsv_verifier.specs.Asking.{AddsJust, ComesOfSome}
-use Rattle.dnsv_verifier.proofs.AskLemmas.{some_all, some_more, some_none}
-use Rattle.dnsv_gaps.specs.Asking.{asking}
+use Rattle.dnsv_verifier.proofs.AskLemmas.{some_all, some_more}
 use Rattle.dnsv_gaps.specs.declared.sources.HeldSource.{HeldSource}
 use Rattle.dnsv_gaps.proofs.QuestionLemmas.CloserLemmas.{rising_once, same_members}
 use Rattle.dnsv_gaps.proofs.QuestionLemmas.SayingLemmas.{SaidBy, adds_saying, all_said}

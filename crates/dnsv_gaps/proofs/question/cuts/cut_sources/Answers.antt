@@ -1,8 +1,6 @@
-use Rattle.std.proofs.Common.{List, ℕ, map, subst, sym, take, ◌+◌, ◌++◌, ◌∷◌, [], refl, ◌∙◌}
+use Rattle.std.proofs.Common.{List, map, subst, sym, take, ◌+◌, [], refl}
 use Rattle.std.proofs.lemmas.List.{take_all}
 use Rattle.std.specs.List.{AllZip, enumerate_from}
-use Rattle.dnsv_denial.specs.gathering.EvidenceWords.{Chain}
-use Rattle.dnsv_remedies.specs.declared.facts.cut.CutCase.{CutCase}
 use Rattle.dnsv_remedies.specs.declared.facts.cut.CutSource.{CutSource}
 use Rattle.dnsv_gaps.specs.Asking.{asking}
 use Rattle.dnsv_gaps.specs.SourceSearch.{held_chain, zone_in}

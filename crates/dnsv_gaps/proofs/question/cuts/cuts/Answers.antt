@@ -1,4 +1,4 @@
-use Rattle.std.proofs.Common.{List, ℕ, arith, map, ◌-◌, subst, sym, ◌+◌, ◌++◌, ◌∷◌, [], refl, ◌∙◌}
+use Rattle.std.proofs.Common.{List, ℕ, arith, map, ◌-◌, subst, sym, ◌+◌, refl}
 use Rattle.std.specs.List.{AllZip, range_with_len}
 use Rattle.dnsv_remedies.specs.declared.facts.cut.CutFacts.{CutFacts}
 use Rattle.dnsv_gaps.specs.Asking.{asking}

@@ -1,6 +1,5 @@
-use Rattle.std.proofs.Common.{List, map, subst, sym, ◌∙◌}
+use Rattle.std.proofs.Common.{map, subst, sym}
 use Rattle.dnsv_gaps.specs.SourceSearch.{AreHeldSources, held_chain}
-use Rattle.dnsv_gaps.specs.declared.sources.HeldSource.{HeldSource}
 use Rattle.dnsv_gaps.proofs.question.cuts.cuts_below.Goals as goal
 
 pub cuts-requires : goal.cuts-requires

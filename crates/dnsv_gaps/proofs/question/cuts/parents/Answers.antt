@@ -1,4 +1,4 @@
-use Rattle.std.proofs.Common.{arith, length, ◌+◌}
+use Rattle.std.proofs.Common.{arith}
 use Rattle.dnsv_remedies.specs.declared.facts.cut.ParentFacts.{ParentFacts}
 use Rattle.dnsv_gaps.specs.Asking.{asking}
 use Rattle.dnsv_gaps.specs.questions.Cuts.{AreParentFacts, IsParent}

@@ -1,4 +1,4 @@
-use Rattle.std.proofs.Common.{sym, ap, ◌∙◌, ◌++◌}
+use Rattle.std.proofs.Common.{ap, ◌∙◌, ◌++◌}
 use Rattle.dnsv_gaps.specs.questions.Dnames.{dname_at}
 use Rattle.dnsv_gaps.proofs.QuestionLemmas.DnameLemmas.{one_name_more}
 use Rattle.dnsv_gaps.proofs.question.dnames.dnames.Goals as goal

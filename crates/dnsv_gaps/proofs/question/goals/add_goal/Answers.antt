@@ -1,4 +1,4 @@
-use Rattle.std.proofs.Common.{List, ◌≡◌, refl, subst, sym, ◌∙◌, ◌++◌, ◌∷◌, []}
+use Rattle.std.proofs.Common.{List, ◌≡◌, refl, subst, sym, ◌∙◌}
 use Rattle.std.proofs.lemmas.Bool.{false≢true}
 use Rattle.std.proofs.lemmas.Option.{MatchOption-at_some}
 use Rattle.dnsv_remedies.specs.declared.facts.answer.GoalFacts.{GoalFacts}

@@ -1,5 +1,4 @@
-use Rattle.std.proofs.Common.{List, subst, sym, ◌+◌, arith, length, refl, ◌∙◌, ap}
-use Rattle.dnsv_canonical.specs.Rrsets.{ReceivedRrset}
+use Rattle.std.proofs.Common.{◌+◌, arith, length, ◌∙◌, ap}
 use Rattle.dnsv_remedies.specs.declared.facts.answer.GoalFacts.{GoalFacts}
 use Rattle.dnsv_gaps.specs.Asking.{asking}
 use Rattle.dnsv_gaps.specs.questions.Goals.{AreGoalFacts, IsGoalNumber}

@@ -1,4 +1,4 @@
-use Rattle.std.proofs.Common.{◌<◌, ℕ, List, ap, map, subst, sym, ◌∙◌}
+use Rattle.std.proofs.Common.{◌<◌, ℕ, ap, map, subst, sym, ◌∙◌}
 use Rattle.std.specs.List.{AllByRecursion}
 use Rattle.dnsv_canonical.proofs.OrderLemmas.{each_member}
 use Rattle.dnsv_proof_forms.specs.records.Numbers.{number_at, numbers_of, record_count}

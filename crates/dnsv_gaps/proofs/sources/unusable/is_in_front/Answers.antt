@@ -1,5 +1,4 @@
 use Rattle.dnsv_gaps.proofs.AnswerLemmas.{is_there}
-use Rattle.dnsv_gaps.specs.UnusableSearch.{IsInFront}
 use Rattle.dnsv_denial.specs.gathering.Evidence.{IsHashedOwner}
 use Rattle.dnsv_gaps.proofs.sources.unusable.is_in_front.Goals as goal
 

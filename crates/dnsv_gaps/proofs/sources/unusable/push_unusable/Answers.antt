@@ -1,6 +1,5 @@
 use Rattle.std.proofs.Common.{length, map, refl, arith, ap, subst, sym}
 use Rattle.std.proofs.lemmas.Option.{slice_get_read}
-use Rattle.dnsv_names.specs.Name.{Labels}
 use Rattle.dnsv_records.specs.Nsec3.{IsNsec3}
 use Rattle.dnsv_proof_forms.proofs.lemmas.PlaceLemmas.{each_at, mapped_at, mapped_length}
 use Rattle.dnsv_gaps.specs.UnusableSearch.{IsInFront}

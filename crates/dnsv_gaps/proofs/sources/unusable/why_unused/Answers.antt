@@ -1,6 +1,5 @@
 use Rattle.std.proofs.Common.{sym, ◌∙◌}
 use Rattle.std.proofs.lemmas.Bool.{false≢true}
-use Rattle.dnsv_gaps.specs.UnusableSearch.{IsWhyUnused}
 use Rattle.dnsv_gaps.proofs.UnusableLemmas.{match_why}
 use Rattle.dnsv_gaps.proofs.sources.unusable.why_unused.Goals as goal
 

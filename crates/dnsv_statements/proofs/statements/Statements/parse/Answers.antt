@@ -1,4 +1,4 @@
-use Rattle.std.proofs.Common.{◌≡◌, ◌++◌, List, arith, length}
+use Rattle.std.proofs.Common.{◌++◌}
 use Rattle.std.proofs.lemmas.Result.{err_from_is_err_and}
 use Rattle.dnsv_names.proofs.LineFileLemmas.{has_all, has_more, has_next}
 use Rattle.dnsv_statements.proofs.SaidLemmas.{nothing_rises, nothing_said}

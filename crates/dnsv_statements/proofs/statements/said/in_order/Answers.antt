@@ -1,4 +1,4 @@
-use Rattle.std.proofs.Common.{◌≡◌, arith}
+use Rattle.std.proofs.Common.{arith}
 use Rattle.dnsv_statements.proofs.SaidLemmas.{none_in_tree}
 use Rattle.dnsv_statements.proofs.statements.said.in_order.Goals as goal
 

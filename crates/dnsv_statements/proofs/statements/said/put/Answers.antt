@@ -1,7 +1,6 @@
-use Rattle.std.proofs.Common.{◌≡◌, None, Some, sym, ap, ◌∙◌, rules}
+use Rattle.std.proofs.Common.{◌≡◌, None, Some, sym, ap, ◌∙◌}
 use Rattle.std.proofs.lemmas.Result.{err_from_is_err_and}
 use Rattle.dnsv_statements.specs.StatementsReading.{said_in}
-use Rattle.dnsv_verifier.specs.declared.entry.Entry.{Entry}
 use Rattle.dnsv_statements.proofs.SaidLemmas.{listed_before, listed_behind, lists_again, lists_in_tree}
 use Rattle.dnsv_statements.proofs.statements.said.put.Goals as goal
 

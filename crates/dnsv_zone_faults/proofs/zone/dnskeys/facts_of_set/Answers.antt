@@ -1,8 +1,7 @@
-use Rattle.std.proofs.Common.{◌↔◌, ℕ, IsTrue, List, map, refl, subst}
+use Rattle.std.proofs.Common.{◌↔◌, ℕ, IsTrue, map, refl, subst}
 use Rattle.dnsv_canonical.specs.Canonical.{IsCanonical}
 use Rattle.dnsv_canonical.specs.Rrsets.{ReceivedRrset}
 use Rattle.dnsv_chain.specs.Trusted.{IsTrusted}
-use Rattle.dnsv_chain.specs.Basis.{Basis}
 use Rattle.dnsv_zone_faults.specs.Dnskeys.{AreHeldKeys}
 use Rattle.dnsv_zone_faults.specs.Dnskeys.DnskeySearch.{basis_in, rdata_of}
 use Rattle.dnsv_zone_faults.specs.declared.zone.keyed.KeyedZone.{KeyedZone}

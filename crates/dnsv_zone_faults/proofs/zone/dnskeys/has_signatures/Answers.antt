@@ -1,4 +1,3 @@
-use Rattle.std.proofs.Common.{refl, sym, ◌∙◌, ap}
 use Rattle.dnsv_zone_faults.proofs.lemmas.zones.OwnLemmas.{has_some}
 use Rattle.dnsv_zone_faults.proofs.zone.dnskeys.has_signatures.Goals as goal
 

@@ -2,7 +2,7 @@ use Rattle.std.proofs.Common.{List, ◌+◌, sym, subst}
 use Rattle.dnsv_mending.specs.declared.facts.zone.ZoneKey.{ZoneKey}
 use Rattle.dnsv_zone_faults.specs.Zones.HolderSearch.{AreHoldersOfEach, AreHoldings}
 use Rattle.dnsv_zone_faults.specs.declared.zone.holders.Holding.{Holding}
-use Rattle.dnsv_zone_faults.proofs.lemmas.zones.HolderLemmas.{more_of_each, none_of_each}
+use Rattle.dnsv_zone_faults.proofs.lemmas.zones.HolderLemmas.{more_of_each}
 use Rattle.dnsv_zone_faults.proofs.zone.holders.zone_key_facts.Goals as goal
 
 pub loop-place-preserved : goal.loop-place-preserved

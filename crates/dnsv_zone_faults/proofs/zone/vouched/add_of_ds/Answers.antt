@@ -1,4 +1,4 @@
-use Rattle.std.proofs.Common.{ℕ, List, sym, ◌∙◌, subst}
+use Rattle.std.proofs.Common.{List, sym, ◌∙◌, subst}
 use Rattle.std.proofs.lemmas.Bool.{false≢true}
 use Rattle.dnsv_mending.specs.declared.facts.keys.VoucherFacts.{VoucherFacts}
 use Rattle.dnsv_mending.specs.declared.facts.signature.SignatureFacts.{SignatureFacts}

@@ -1,4 +1,3 @@
-use Rattle.std.proofs.Common.{get_or}
 use Rattle.dnsv_zone_keys.proofs.lemmas.ZoneKeyLemmas.{dnskey_number, stand_next}
 use Rattle.dnsv_zone_keys.proofs.keys.standing.standing_keys.Goals as goal
 

@@ -4,10 +4,8 @@ use Rattle.std.proofs.lemmas.Bool.{false≢true}
 use Rattle.std.proofs.lemmas.Option.{MatchOption-at_none, MatchOption-at_some}
 use Rattle.dnsv_canonical.specs.Rrsets.{IsNumbered}
 use Rattle.dnsv_canonical.specs.declared.number.RecordNumber.{RecordNumber}
-use Rattle.dnsv_faults.specs.Rrsets.{AreRrsetFacts}
 use Rattle.dnsv_names.specs.Name.{rightmost}
 use Rattle.dnsv_proof_forms.specs.records.Numbers.{number_at, numbers_of}
-use Rattle.dnsv_gaps.specs.Asking.{asking}
 use Rattle.dnsv_gaps.specs.SourceSearch.{said_in}
 use Rattle.dnsv_gaps.specs.questions.Cuts.{IsHeldInstead, IsLowestAt}
 use Rattle.dnsv_gaps.proofs.QuestionLemmas.CutCaseLemmas.{held_there, types_there}

@@ -1,4 +1,4 @@
-use Rattle.std.proofs.Common.{arith, sym, ◌+◌, ◌∙◌}
+use Rattle.std.proofs.Common.{arith, sym, ◌∙◌}
 use Rattle.std.proofs.lemmas.Bool.{false≢true}
 use Rattle.dnsv_gaps.specs.Asking.{asking}
 use Rattle.dnsv_gaps.proofs.QuestionLemmas.CutLemmas.{none_seen, none_seen_more}

@@ -1,4 +1,4 @@
-use Rattle.std.proofs.Common.{refl, sym, ◌+◌, ◌∙◌}
+use Rattle.std.proofs.Common.{refl, sym, ◌∙◌}
 use Rattle.std.proofs.lemmas.Bool.{false≢true}
 use Rattle.dnsv_gaps.proofs.QuestionLemmas.SayingLemmas.{none_all, none_more, none_says, one_says, said_as}
 use Rattle.dnsv_gaps.proofs.question.cuts.shown.is_said.Goals as goal

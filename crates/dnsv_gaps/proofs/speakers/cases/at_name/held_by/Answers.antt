@@ -1,5 +1,5 @@
 use Rattle.std.specs.FinSet as set
-use Rattle.std.proofs.Common.{ap, sym, ◌∙◌}
+use Rattle.std.proofs.Common.{ap, ◌∙◌}
 use Rattle.dnsv_gaps.specs.Cases.{why_held}
 use Rattle.dnsv_gaps.proofs.speakers.cases.at_name.held_by.Goals as goal
 

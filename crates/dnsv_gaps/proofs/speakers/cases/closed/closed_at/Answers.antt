@@ -1,4 +1,4 @@
-use Rattle.std.proofs.Common.{arith, ◌≡◌, ◌∷◌, [], ◌<◌, ℕ, List, refl, subst, sym, ◌∙◌}
+use Rattle.std.proofs.Common.{arith, ℕ, List, refl, subst, sym, ◌∙◌}
 use Rattle.std.specs.Prelude.{Contains}
 use Rattle.dnsv_gaps.proofs.CaseLemmas.{first_closed, none_closed}
 use Rattle.dnsv_gaps.proofs.SayingLemmas.{zone}

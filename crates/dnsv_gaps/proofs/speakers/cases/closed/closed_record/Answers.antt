@@ -1,6 +1,5 @@
 use Rattle.std.specs.FinSet as set
 use Rattle.std.proofs.Common.{refl, subst, sym, ◌∙◌}
-use Rattle.dnsv_canonical.specs.declared.number.RecordNumber.{RecordNumber}
 use Rattle.dnsv_gaps.specs.Parts.{IsInEvidence}
 use Rattle.dnsv_gaps.proofs.SayingLemmas.{its_evidence}
 use Rattle.dnsv_gaps.proofs.speakers.cases.closed.closed_record.Goals as goal

@@ -1,4 +1,3 @@
-use Rattle.std.proofs.Common.{◌<◌}
 use Rattle.dnsv_gaps.specs.SourceSearch.{said_in}
 use Rattle.dnsv_gaps.proofs.CaseLemmas.{NoneTo}
 use Rattle.dnsv_gaps.proofs.speakers.cases.closed.first_closed.Given as goal

@@ -1,7 +1,6 @@
-use Rattle.std.proofs.Common.{◌⊎◌, ◌+◌, inl, inr, ⊎_elim, ℕ, sym, ◌∙◌}
+use Rattle.std.proofs.Common.{◌⊎◌, ◌+◌, inl, inr, ⊎_elim, sym, ◌∙◌}
 use Rattle.std.proofs.lemmas.Bool.{false≢true}
 use Rattle.dnsv_names.specs.Name.{rightmost}
-use Rattle.dnsv_canonical.specs.declared.number.RecordNumber.{RecordNumber}
 use Rattle.dnsv_chain.specs.Basis.{basis_by}
 use Rattle.dnsv_gaps.specs.Cases.{HasNone, IsBestCover}
 use Rattle.dnsv_gaps.specs.SourceSearch.{said_in}

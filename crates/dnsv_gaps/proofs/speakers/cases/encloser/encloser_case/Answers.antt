@@ -1,4 +1,4 @@
-use Rattle.std.proofs.Common.{refl, arith}
+use Rattle.std.proofs.Common.{refl}
 use Rattle.dnsv_gaps.proofs.speakers.cases.encloser.encloser_case.Goals as goal
 
 pub returns-in_default : goal.returns-in_default

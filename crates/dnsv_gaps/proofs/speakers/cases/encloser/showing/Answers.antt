@@ -1,4 +1,4 @@
-use Rattle.std.proofs.Common.{◌↔◌, [], IsTrue, List, subst, sym, ◌∙◌}
+use Rattle.std.proofs.Common.{List, subst, sym, ◌∙◌}
 use Rattle.std.proofs.lemmas.Bool.{false≢true}
 use Rattle.dnsv_names.specs.Name.{Labels, rightmost}
 use Rattle.dnsv_proof_forms.specs.words.ChainSaid.{chain_said}

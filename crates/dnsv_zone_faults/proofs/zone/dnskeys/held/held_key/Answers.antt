@@ -3,7 +3,6 @@ use Rattle.dnsv_records.specs.Dnskey.KeyTag.{key_tag_of}
 use Rattle.dnsv_records.specs.declared.dnskey.Dnskey.{Dnskey}
 use Rattle.dnsv_verifier.specs.Admissible.{DnskeyRecord}
 use Rattle.dnsv_zone_faults.specs.Dnskeys.{IsNamedIn}
-use Rattle.dnsv_zone_faults.specs.Dnskeys.DnskeySearch.{basis_of_set}
 use Rattle.dnsv_zone_keys.specs.Keys.{IsKeyPlaced, IsZoneKey}
 use Rattle.dnsv_zone_faults.proofs.lemmas.zones.PlaceLemmas.{key_in}
 use Rattle.dnsv_zone_faults.proofs.zone.dnskeys.held.held_key.Goals as goal

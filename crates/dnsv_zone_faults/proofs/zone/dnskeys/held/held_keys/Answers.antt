@@ -1,4 +1,4 @@
-use Rattle.std.proofs.Common.{List, map, take, sym, ap, ◌+◌, ◌∙◌, subst}
+use Rattle.std.proofs.Common.{List, map, take, sym, ◌+◌, ◌∙◌, subst}
 use Rattle.std.proofs.lemmas.List.{take_all}
 use Rattle.std.proofs.lemmas.List.Elements.{Contains-get_or}
 use Rattle.std.specs.Prelude.{Contains}

@@ -1,4 +1,4 @@
-use Rattle.std.proofs.Common.{◌↔◌, IsTrue, sym, subst}
+use Rattle.std.proofs.Common.{◌↔◌, IsTrue, subst}
 use Rattle.dnsv_mending.specs.declared.facts.signature.KeyAnswer.{KeyAnswer}
 use Rattle.dnsv_mending.specs.declared.facts.signature.KeyAnswer.TheVariants as said
 use Rattle.dnsv_verifier.specs.Admissible.{DnskeyRecord, IsGood}

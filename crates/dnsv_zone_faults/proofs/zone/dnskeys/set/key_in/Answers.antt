@@ -1,8 +1,7 @@
-use Rattle.std.proofs.Common.{List, ℕ, refl, sym, ap, ◌∙◌, subst}
+use Rattle.std.proofs.Common.{List, ℕ, sym, ap, ◌∙◌, subst}
 use Rattle.std.specs.Prelude.{Contains}
 use Rattle.dnsv_records.specs.Dnskey.{IsDnskey}
 use Rattle.dnsv_verifier.specs.Admissible.{DnskeyRecord}
-use Rattle.dnsv_zone_faults.specs.Dnskeys.DnskeySearch.{IsKeyIn}
 use Rattle.dnsv_zone_keys.specs.Keys.Index.{Placed}
 use Rattle.dnsv_zone_faults.proofs.lemmas.zones.KeyedLemmas.{found_in, found_some}
 use Rattle.dnsv_zone_faults.proofs.zone.dnskeys.set.key_in.Goals as goal

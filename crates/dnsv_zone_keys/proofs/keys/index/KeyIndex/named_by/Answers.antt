@@ -1,4 +1,4 @@
-use Rattle.std.proofs.Common.{List, take, sym, ap, ◌∙◌, subst, rules, true, false, ◌≡◌}
+use Rattle.std.proofs.Common.{List, take, sym, ◌∙◌, subst, rules, true, false, ◌≡◌}
 use Rattle.std.proofs.lemmas.Fn.{always_returns_same}
 use Rattle.std.proofs.lemmas.List.{take_rest}
 use Rattle.std.specs.List.{Contains}
