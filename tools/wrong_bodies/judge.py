@@ -22,7 +22,7 @@ from .bodies import Edit, Function
 
 # How antt says that a term or a tactic meets its goal and fails.
 FAILS = re.compile(
-    r"the two types|the two indices|but this has type|found no proof|no proof of|the goal does not follow"
+    r"the two (?:types|indices|values|sides)|but this has type|found no proof|no proof of|the goal does not follow"
 )
 # The shape of a term is wrong for its goal, or what it names isn't there.
 UNFIT = re.compile(r"has no field|is not in scope|has no `|was not admitted|nearest: |Goals`|is checked against")

@@ -23,6 +23,8 @@ FAILS = (
     "  and the other has `(Prim.Native.Nat.◌+◌ c.args.x 1)` (found)",
     "as printed, the two types first differ where one has `20` (expected), right after `sha1 (take`, and the other has `(20 + c.min-beside.result)`",
     "as printed, the two indices differ only where one has `Rattle.dnsv_tsig.specs.declared.error.TsigError.TheVariants.NoTsig`",
+    "as printed, the two values differ only where one has `c.in-Some.place.part` (found), right after `c.deref-3.result.now) record {key =`",
+    "as printed, the two sides first differ where one has `lib.ListN.get_or` (left), right after `signature_number_cmp (`",
     "expected type `mathlib.Core.Path.◌≡◌ (Prim.Native.Nat.◌+◌ c.args.x 1) y`, but this has type `mathlib.Core.Path.◌≡◌ c.args.x y`",
     "`grind` found no proof. It did not look into whether `mathlib.Core.List.◌++◌ c.copy_from_slice.new.self` is false",
     "`grind`: the goal does not follow. The hypotheses hold, and the goal fails at `c.args.x` = `0`.",
