@@ -62,9 +62,9 @@ class Package(unittest.TestCase):
             self.assertIn(f"./usr/share/bash-completion/completions/{name}", paths)
             self.assertIn(f"./usr/share/fish/vendor_completions.d/{name}.fish", paths)
         self.assertIn("./usr/share/zsh/vendor-completions/_dnssec_check", paths)
-        for name in ("README.md", "CHANGELOG.md", "SECURITY.md", "docs/AUDITING.md", "docs/CAPTURING.md", "docs/GUARANTEES.md",
-                     "docs/pictures/broken-chain.svg", "docs/pictures/page.png", "examples/README.md",
-                     "crates/dnsv_names/GUARANTEES.md"):
+        for name in ("README.md", "CHANGELOG.md", "CONTRIBUTING.md", "SECURITY.md", "docs/AUDITING.md", "docs/CAPTURING.md",
+                     "docs/GUARANTEES.md", "docs/pictures/broken-chain.svg", "docs/pictures/page.png",
+                     "examples/README.md", "crates/dnsv_names/GUARANTEES.md"):
             self.assertIn(f"./usr/share/doc/dnssec-check/{name}", paths)
         self.assertIn("./usr/share/dnssec_check/schema.json", paths)
         self.assertIn("./usr/lib/python3/dist-packages/dnssec_check_tools", paths)
