@@ -56,6 +56,10 @@ class Edit:
     def name(self) -> str:
         return self.file.stem
 
+    @property
+    def is_of_definitions(self) -> bool:
+        return all(path.startswith("specs/") for path, _, _ in self.pairs)
+
     @staticmethod
     def read(folder: Path, file: Path) -> Edit:
         pairs, path, old = [], "", ""

@@ -8,6 +8,9 @@ refused    `search` didn't prove a goal that had no answer, or one whose answer 
 proved     every goal is proved: the contract lets this body through
 unsettled  a goal is open whose answer was taken out because it didn't fit, or that asks only whether a new step is
            safe: a person has to look
+
+An edit of definitions alone changes what lemmas say, and nothing tries `search` at a lemma. So it is refused where a
+proof of one fails for what is said now, and doesn't only name what isn't there.
 """
 
 from __future__ import annotations
@@ -148,13 +151,21 @@ def judged(trial: Trial, told: Told, text_of: Callable[[str], str], is_alone: bo
     if fresh:
         return AGAIN
     if errors:
-        return Verdict(Kind.UNSETTLED, f"{errors[0].file}:{errors[0].line}: {errors[0].first_line}")
+        return of_other_errors(trial, errors)
     if opened:
         return of_open_goals(trial, opened)
     is_proved = paths and all(told.said[path] in ("proved", "no holes") for path in paths)
     if is_proved and is_alone:
         return Verdict(Kind.PROVED, "the crate is proved with it")
     return UNTOLD
+
+
+def of_other_errors(trial: Trial, errors: list[Error]) -> Verdict:
+    """What errors come to for which no answer can be taken out, as those of lemmas."""
+    failed = [error for error in errors if not error.is_unfit] if trial.edit.is_of_definitions else []
+    told = (failed or errors)[0]
+    kind = Kind.REFUSED if failed else Kind.UNSETTLED
+    return Verdict(kind, f"{told.file}:{told.line}: {told.first_line}")
 
 
 def taken_by(trial: Trial, errors: list[Error], text_of: Callable[[str], str]) -> dict[tuple[str, str], Taken]:

@@ -134,6 +134,17 @@ class Judge(unittest.TestCase):
         self.assertEqual(verdict.kind, judge.Kind.UNSETTLED)
         self.assertIn("Invariants.antt:4: `returns`: `goal.invariant-loop-piece`", verdict.reason)
 
+    def test_a_lemma_that_fails_refuses_an_edit_of_definitions_alone(self):
+        rows = [("specs/Names.antt", error, judge.Kind.REFUSED) for error in FAILS]
+        rows += [("specs/Names.antt", error, judge.Kind.UNSETTLED) for error in (*DOES_NOT_FIT, UNKNOWN)]
+        rows += [("src/names.rt", FAILS[0], judge.Kind.UNSETTLED)]
+        for path, error, kind in rows:
+            with self.subTest(path, error=error):
+                trial = judge.Trial(bodies.Edit(Path("upper/must-fail/one.edit"), ((path, "old", "new"),), None))
+                told = judge.Told("upper", f"./proofs/Same.antt:4:13: error: `same`: {error}\nfn upper::names::first: {STANDS}\n")
+                verdict = judge.judged(trial, told, lambda file: "", True)
+                self.assertEqual((verdict.kind, verdict.reason), (kind, f"proofs/Same.antt:4: `same`: {error.split(chr(10))[0]}"))
+
     def test_errors_of_other_functions_are_not_its_own(self):
         other = "./proofs/names/last/Answers.antt:4:13: error: `returns`: " + FAILS[0] + "\n"
         for said in ("proved", "no holes", CALLS, "could not tell"):
